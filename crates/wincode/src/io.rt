@@ -1,0 +1,12 @@
+//! Readers and writers of bytes.
+pub mod error;
+pub mod lending;
+pub mod reader;
+pub mod slice;
+pub mod vec;
+pub mod writer;
+
+pub use error::{ReadError, ReadResult, WriteError, WriteResult};
+pub use lending::{Lending, Lifetime};
+pub use reader::{Reader, fill_array};
+pub use writer::Writer;
