@@ -80,5 +80,8 @@ abbrev pub Fills : {T : Type 0} → Type 0 → ℕ → (T → ℕ) → ReaderSta
 Fills short n count old new r = Stays old new × IfOk r (λ s. count s ≤ new.ready) × IfErr r (IsRefusal short ⊥ n new)
 
 -- an array of the first n bytes, which stay and are at hand
-abbrev pub Arrays : ℕ → ReaderState → ReaderState → List ℕ → Type 0
-Arrays n old new a = Stays old new × (n ≤ new.ready) × (IsTrue old.told → (n ≤ length old.rest) × (a ≡ take n old.rest))
+pub record Arrays (n : ℕ) (old new : ReaderState) (a : List ℕ) : Type 0 where
+  pub stays : Stays old new
+  pub ready : n ≤ new.ready
+  pub size : length a ≡ n
+  pub front : IsTrue old.told → (n ≤ length old.rest) × (a ≡ take n old.rest)

@@ -3,5 +3,10 @@
 
 pub mod error;
 pub mod io;
+pub mod len;
+pub mod meta;
+pub mod schema;
 
 pub use error::{Error, ReadError, ReadResult, Result, WriteError, WriteResult};
+pub use meta::TypeMeta;
+pub use schema::{RoundTrip, SchemaRead, SchemaWrite};

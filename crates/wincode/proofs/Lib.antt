@@ -1,0 +1,5 @@
+mod Rows
+pub mod Sized
+pub mod Numerals
+pub mod Lengths
+pub mod Lists

@@ -1,0 +1,52 @@
+-- What numbers read and write, by the words of std.
+use Rattle.std.proofs.Common.{◌≡◌, ◌∙◌, sym, ap, subst, ℕ, ◌<◌, ◌≤◌, ◌^◌, Bool, List, length, get_or, refl, arith, Some, false, true}
+use Rattle.std.proofs.lemmas.List.Elements.{All-from_get_or}
+use Rattle.std.specs.Int.{to_le_bytes, from_le_bytes, Width, byte_len}
+use Rattle.wincode.specs.Bytes.{IsBytes}
+use Rattle.wincode.specs.Numbers.{le, worth}
+use Rattle.wincode.specs.NumberLaws.{le-from_le_bytes, from_le_bytes-worth, worth_below, to_le_bytes-le, length-le}
+use Rattle.wincode.specs.Readers.{ReaderState}
+use Rattle.wincode.specs.Writers.{WriterLaws, IsWriteRefused}
+use Rattle.wincode.specs.Leaves.{number_read, number_write}
+use Rattle.wincode.specs.Outcomes.{Puts, Refuses, Takes, TakesNumber, IsDenied, Wrote, Unwritten}
+use Rattle.wincode.specs.WriteSequences.{text_wrote, text_unwritten}
+use Rattle.wincode.proofs.Sized.{takes_gives, denied_refuses}
+use Rattle.wincode.specs.declared.error.ReadError.{ReadError}
+use Rattle.wincode.specs.declared.error.WriteError.TheVariants as writing
+use Rattle.wincode.specs.declared.io.error.WriteError.{WriteError as IoWriteError}
+
+abbrev pub AreSmall : List ℕ → Type 0
+AreSmall bytes = (i : ℕ) → get_or bytes i 0 < 256
+
+are_bytes : (bytes : List ℕ) → AreSmall bytes → IsBytes bytes
+are_bytes bytes small = All-from_get_or (λ b. b < 256) bytes 0 (λ i h. small i)
+
+module _ (w : Width) (some : 0 < byte_len w) where
+  -- what `from_le_bytes` makes of bytes has them as its text
+  pub number_text : (bytes : List ℕ) → AreSmall bytes → length bytes ≡ byte_len w → (number_read (byte_len w) true).reads bytes (from_le_bytes w bytes)
+  number_text bytes small size =
+    let all = are_bytes bytes small in
+    let e = from_le_bytes-worth w bytes some size in
+    (subst (λ k. from_le_bytes w bytes < 256 ^ k) size (subst (λ n. n < 256 ^ length bytes) (sym e) (worth_below bytes all)),
+     sym (le-from_le_bytes w bytes some all size))
+
+  -- bytes that were taken are those of their number
+  pub number_taken : (old new : ReaderState) (bytes : List ℕ) (v : ℕ) → Takes (byte_len w) old new bytes → AreSmall bytes → v ≡ from_le_bytes w bytes → TakesNumber (byte_len w) old new v
+  number_taken old new bytes v t small e =
+    let is : (v < 256 ^ byte_len w) × (bytes ≡ le (byte_len w) v) = subst (λ n. (n < 256 ^ byte_len w) × (bytes ≡ le (byte_len w) n)) (sym e) (number_text bytes small t.size) in
+    (is.0, subst (Takes (byte_len w) old new) is.1 t)
+
+pub number_puts : (k : ℕ) (any : Bool) (old new : ReaderState) (v : ℕ) → TakesNumber k old new v → Puts (number_read k any).reads (λ n. n) old new (Some v)
+number_puts k any old new v t = record { value = v; is = refl; gives = takes_gives (number_read k any).reads k old new (le k v) v t.1 (t.0, refl) }
+
+-- a number was refused for its k bytes
+pub number_refuses : (k : ℕ) (any : Bool) (old new : ReaderState) (e : ReadError) → IsDenied k old new e → Refuses (number_read k any).reads 0 true old new e
+number_refuses k any old new e d = denied_refuses (number_read k any).reads k (λ b v r. ap length r.1 ∙ length-le k v) 0 true old new e d
+
+module _ {S : Type 0} (put : S → List ℕ → S) (room : S → ℕ) (w : Width) (any : Bool) where
+  pub number_wrote : (old new : S) (v : ℕ) (text : List ℕ) → text ≡ to_le_bytes w v → (length text ≤ room old) × (new ≡ put old text) → Wrote put room (number_write (byte_len w) any) old new v
+  number_wrote old new v text e d = let is = e ∙ to_le_bytes-le w v in text_wrote put room (number_write (byte_len w) any) v text old new tt is (ap length is ∙ length-le (byte_len w) v) d
+
+  pub number_unwritten : WriterLaws put room → (old new : S) (v : ℕ) (text : List ℕ) (steady : Bool) (failures : ℕ) (e : IoWriteError) → text ≡ to_le_bytes w v
+    → IsWriteRefused old new (room old < length text) (length text) steady failures e → Unwritten put room (number_write (byte_len w) any) old new v steady failures (writing.Io e)
+  number_unwritten laws old new v text steady failures e f d = let is = f ∙ to_le_bytes-le w v in text_unwritten put room (number_write (byte_len w) any) v text old new steady failures e laws is (ap length is ∙ length-le (byte_len w) v) d

@@ -1,0 +1,45 @@
+-- Reading texts that all have one size.
+use Rattle.std.proofs.Common.{◌≡◌, ◌∙◌, sym, ap, subst, ℕ, ◌+◌, ◌*◌, ◌<◌, ◌≤◌, ◌^◌, Bool, List, [], ◌∷◌, ◌++◌, length, take, drop, refl, arith, length-append, length-take-le, IsTrue, append_assoc, min}
+use Rattle.wincode.specs.Readers.{ReaderState, Stays, Loses, IsShort, IsRefusal, IsRefused, Arrays}
+use Rattle.wincode.specs.Sequences.{kept_trans, told_kept}
+use Rattle.wincode.specs.Outcomes.{Found, Front, Gives, Accepts, Refuses, ReaderDue, Takes, IsDenied}
+use Rattle.wincode.specs.declared.error.ReadError.{ReadError}
+use Rattle.wincode.specs.declared.error.ReadError.TheVariants as reading
+use Rattle.wincode.specs.declared.io.error.ReadError.{ReadError as IoReadError}
+use Rattle.wincode.specs.declared.io.error.ReadError.TheVariants as reader
+
+module _ {V : Type 0} (reads : List ℕ → V → Type 0) (n : ℕ) (sized : (b : List ℕ) (v : V) → reads b v → length b ≡ n) where
+  too_short : (old : ReaderState) → IsShort n old → Accepts reads old → ⊥
+  too_short old short a =
+    let f = a.front.found in
+    absurd (omega (arith, short a.told, sized f.text a.front.value f.is_read, ap length f.joins, length-append f.text a.front.rest))
+
+  denied_due : (asks : ℕ) (old new : ReaderState) (e : IoReadError) → IsRefusal (IsShort n old) ⊥ n new e → ReaderDue (Accepts reads old) asks new e
+  denied_due asks old new (reader.ReadSizeLimit m) d = λ a. too_short old d.0 a
+  denied_due asks old new reader.UnsupportedZeroCopy d = absurd d
+  denied_due asks old new reader.OutOfMemory d = d
+  denied_due asks old new (reader.Io e) d = d
+
+  -- the reader refused n bytes
+  pub denied_refuses : (asks : ℕ) (sparing : Bool) (old new : ReaderState) (e : ReadError) → IsDenied n old new e → Refuses reads asks sparing old new e
+  denied_refuses asks sparing old new (reading.Io e) d = record {
+    kept = d.0.kept;
+    left = λ t. record { front = []; joins = sym (d.0.rest t) };
+    due = denied_due asks old new e d.1;
+  }
+  denied_refuses asks sparing old new _ d = absurd d
+
+-- bytes that were shown as an array, and then consumed
+pub arrays_takes : (n : ℕ) (old mid new : ReaderState) (a : List ℕ) → Arrays n old mid a → Loses n mid new → Takes n old new a
+arrays_takes n old mid new a s l = record {
+  kept = kept_trans s.stays.kept l.kept;
+  size = s.size;
+  front = λ t.
+    let same : mid.rest ≡ old.rest = s.stays.rest t in
+    let shown : take n mid.rest ≡ a = ap (take n) same ∙ sym (s.front t).1 in
+    sym same ∙ (l.rest (told_kept s.stays.kept t)).1 ∙ ap (λ b. b ++ new.rest) shown;
+}
+
+-- the bytes that were taken read as v
+pub takes_gives : {V : Type 0} (reads : List ℕ → V → Type 0) (n : ℕ) (old new : ReaderState) (bytes : List ℕ) (v : V) → Takes n old new bytes → reads bytes v → Gives reads old new v
+takes_gives reads n old new bytes v t r = record { kept = t.kept; found = λ told. record { text = bytes; is_read = r; joins = t.front told } }

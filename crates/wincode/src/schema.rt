@@ -1,0 +1,100 @@
+//! Schemas: how values of a type are read and written.
+ghost use Rattle.std.specs.Prelude.{◌≡◌, true, IfOk, IfErr, OnOk, OnErr};
+ghost use Rattle.wincode.specs.Grammar.{ReadGrammar, WriteGrammar, ReadLaws, WriteLaws, ReadsBack};
+ghost use Rattle.wincode.specs.Outcomes.{Gives, Puts, Refuses, Wrote, Unwritten, IsSizeRefused};
+
+pub mod leaves;
+pub mod lists;
+pub(crate) mod take;
+
+use crate::error::{ReadError, ReadResult, WriteResult};
+use crate::io::{Lending, Reader, Writer};
+use crate::meta::TypeMeta;
+use std::alloc::Global;
+
+/// Writes the values of a type.
+pub trait SchemaWrite {
+    type Src;
+
+    // What contracts see of a value.
+    ghost Value: { Type 0 };
+
+    ghost seen: { Self.Src → Value };
+
+    // Which are its values.
+    ghost proper: { Self.Src → Type 0 };
+
+    ghost writing: { WriteGrammar Value };
+
+    /// The size that every text has, or none.
+    fn type_meta() -> TypeMeta
+        ensures { result ≡ writing.meta };
+
+    /// The length, in bytes, of every text that may be written for the value. It is refused where the
+    /// value can't be written or its size is past `usize::MAX`, by this crate's own schemas as
+    /// `LengthEncodingOverflow`.
+    fn size_of(src: &Self::Src) -> WriteResult<usize>
+        ensures ok { IfOk result (λ n. writing.can (seen src.now) × (n ≡ writing.size (seen src.now))) }
+        ensures err { IfErr result (IsSizeRefused writing (seen src.now)) };
+
+    /// Writes one text of the value, where the value can be written and its size fits the room. A
+    /// refused write of a value that can be written has added a beginning of one of its texts.
+    fn write<W: Writer>(writer: &mut W, src: &Self::Src) -> WriteResult<()>
+        ensures ok { OnOk result (Wrote W.put W.room writing (W.state writer.old) (W.state writer.new) (seen src.now)) }
+        ensures value { OnOk result (proper src.now) }
+        ensures err { IfErr result (Unwritten W.put W.room writing (W.state writer.old) (W.state writer.new) (seen src.now) (W.steady (W.kept writer.old)) (W.failures writer.new)) }
+        ensures kept { W.kept writer.new ≡ W.kept writer.old };
+
+    ghost write_laws: { WriteLaws proper seen writing };
+}
+
+/// Reads values of a type.
+pub trait SchemaRead<L: Lending> {
+    type Dst: Drop;
+
+    // What contracts see of a value.
+    ghost Value: { Type 0 };
+
+    ghost seen: { Self.Dst → Value };
+
+    // Which are its values.
+    ghost proper: { Value → Type 0 };
+
+    ghost reading: { ReadGrammar Value };
+
+    /// The size that every text has, or none.
+    fn type_meta() -> TypeMeta
+        ensures { result ≡ reading.meta };
+
+    /// What each value counts, in bytes, against the limit of a list of them; at least 1.
+    fn prealloc_size() -> usize
+        ensures { result ≡ reading.prealloc };
+
+    /// Reads one value into the destination, where a front of what the reader has reads as it, and
+    /// leaves exactly the rest. Refused, the destination is as it was, and the reader has an end of
+    /// what it had.
+    fn read<R: Reader<L>>(alloc: Global, reader: &mut R, dst: &mut Option<Self::Dst>) -> ReadResult<()>
+        ensures ok { OnOk result (Puts reading.reads seen (R.state reader.old) (R.state reader.new) dst.new) }
+        ensures err { IfErr result (Refuses reading.reads reading.asks reading.sparing (R.state reader.old) (R.state reader.new)) }
+        ensures same { OnErr result (dst.new ≡ dst.old) };
+
+    /// As `read`, and gives the value.
+    fn get<R: Reader<L>>(alloc: Global, reader: &mut R) -> ReadResult<Self::Dst>
+        ensures ok { IfOk result (λ v. Gives reading.reads (R.state reader.old) (R.state reader.new) (seen v)) }
+        ensures err { IfErr result (Refuses reading.reads reading.asks reading.sparing (R.state reader.old) (R.state reader.new)) }
+    {
+        let mut dst = None;
+        Self::read(alloc, reader, &mut dst)?;
+        match dst {
+            Some(value) => Ok(value),
+            None => unreachable!(),
+        }
+    }
+
+    ghost read_laws: { ReadLaws proper reading };
+}
+
+/// What is written reads back: a text of a value whose lengths are within their limits reads as it.
+pub trait RoundTrip<L: Lending>: SchemaWrite + SchemaRead<L, Dst = Self::Src> {
+    ghost reads_back: { ReadsBack Self.SchemaWrite.proper Self.SchemaWrite.seen Self.SchemaWrite.writing Self.SchemaRead.seen Self.SchemaRead.reading };
+}
