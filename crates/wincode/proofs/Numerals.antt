@@ -1,5 +1,5 @@
 -- What numbers read and write, by the words of std.
-use Rattle.std.proofs.Common.{◌≡◌, ◌∙◌, sym, ap, subst, ℕ, ◌<◌, ◌≤◌, ◌^◌, Bool, List, length, get_or, refl, arith, Some, false, true}
+use Rattle.std.proofs.Common.{◌≡◌, ◌∙◌, sym, ap, subst, ℕ, ◌<◌, ◌≤◌, ◌^◌, Bool, List, [], ◌∷◌, ◌%◌, w8, length, get_or, refl, arith, Some, false, true}
 use Rattle.std.proofs.lemmas.List.Elements.{All-from_get_or}
 use Rattle.std.specs.Int.{to_le_bytes, from_le_bytes, Width, byte_len}
 use Rattle.wincode.specs.Bytes.{IsBytes}
@@ -50,3 +50,7 @@ module _ {S : Type 0} (put : S → List ℕ → S) (room : S → ℕ) (w : Width
   pub number_unwritten : WriterLaws put room → (old new : S) (v : ℕ) (text : List ℕ) (steady : Bool) (failures : ℕ) (e : IoWriteError) → text ≡ to_le_bytes w v
     → IsWriteRefused old new (room old < length text) (length text) steady failures e → Unwritten put room (number_write (byte_len w) any) old new v steady failures (writing.Io e)
   number_unwritten laws old new v text steady failures e f d = let is = f ∙ to_le_bytes-le w v in text_unwritten put room (number_write (byte_len w) any) v text old new steady failures e laws is (ap length is ∙ length-le (byte_len w) v) d
+
+-- the one byte of a byte
+pub byte_text : (v : ℕ) → v < 256 → v ∷ [] ≡ to_le_bytes w8 v
+byte_text v small = ap (λ b. b ∷ []) (omega arith)

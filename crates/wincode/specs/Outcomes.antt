@@ -152,3 +152,13 @@ IsSizeRefused g v e = (g.can v → g.size v < 2 ^ 64 → ⊥) × (IsTrue g.own �
 -- the length n was refused, which has no text
 abbrev pub IsTextless : Scheme → ℕ → WriteError → Type 0
 IsTextless s n e = (HasText s n → ⊥) × (IsTrue s.own → IsOverflow e)
+
+-- the bytes are a text of v, and as many as there can be at the most
+pub record IsSerialized {V : Type 0} (g : WriteGrammar V) (v : V) (bytes : List ℕ) : Type 0 where
+  pub can : g.can v
+  pub is_text : g.writes v bytes
+  pub size : length bytes ≡ g.size v
+
+-- Where v can be written in at most `usize::MAX` bytes, only memory was wanted.
+abbrev pub IsUnserialized : {V : Type 0} → WriteGrammar V → V → WriteError → Type 0
+IsUnserialized g v e = g.can v → g.size v < 2 ^ 64 → IsWriteMemory e

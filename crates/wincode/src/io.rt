@@ -7,6 +7,6 @@ pub mod vec;
 pub mod writer;
 
 pub use error::{ReadError, ReadResult, WriteError, WriteResult};
-pub use lending::{Lending, Lifetime};
+pub use lending::{Input, Lending, Lifetime};
 pub use reader::{Reader, fill_array};
 pub use writer::Writer;

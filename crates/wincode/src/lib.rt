@@ -1,12 +1,14 @@
 //! Values to bytes and back, in the default layout of bincode 1.
 #![tactic(auto)]
 
+mod calls;
 pub mod error;
 pub mod io;
 pub mod len;
 pub mod meta;
 pub mod schema;
 
+pub use calls::{deserialize, serialize, serialize_into, serialized_size};
 pub use error::{Error, ReadError, ReadResult, Result, WriteError, WriteResult};
 pub use meta::TypeMeta;
 pub use schema::{RoundTrip, SchemaRead, SchemaWrite};

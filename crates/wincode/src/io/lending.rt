@@ -78,3 +78,12 @@ impl<'a> Lending for Lifetime<'a> {
         bytes
     }
 }
+
+/// A slice to read from, whose type names what it lends.
+pub trait Input {
+    type Lends: Lending;
+}
+
+impl<'a> Input for &'a [u8] {
+    type Lends = Lifetime<'a>;
+}

@@ -23,3 +23,12 @@ pub(crate) fn take_u64<L: Lending, R: Reader<L>>(reader: &mut R) -> ReadResult<u
     let bytes = take_array::<L, R, 8>(reader)?;
     Ok(u64::from_le_bytes(bytes))
 }
+
+/// The number of the first byte, which is then gone.
+pub(crate) fn take_u8<L: Lending, R: Reader<L>>(reader: &mut R) -> ReadResult<u8>
+    ensures ok { IfOk result (TakesNumber 1 (R.state reader.old) (R.state reader.new)) }
+    ensures err { IfErr result (IsDenied 1 (R.state reader.old) (R.state reader.new)) }
+{
+    let bytes = take_array::<L, R, 1>(reader)?;
+    Ok(u8::from_le_bytes(bytes))
+}
