@@ -3,3 +3,4 @@ pub mod Sized
 pub mod Numerals
 pub mod Lengths
 pub mod Lists
+pub mod Recoding

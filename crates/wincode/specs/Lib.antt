@@ -16,3 +16,4 @@ pub mod ListLaws
 pub mod Pairs
 pub mod PairLaws
 pub mod WriteSequences
+pub mod Show

@@ -7,6 +7,7 @@ pub mod io;
 pub mod len;
 pub mod meta;
 pub mod schema;
+pub mod show;
 
 pub use calls::{deserialize, serialize, serialize_into, serialized_size};
 pub use error::{Error, ReadError, ReadResult, Result, WriteError, WriteResult};
