@@ -96,3 +96,25 @@ pair_reads_back p q ws w rs r ws' w' rs' r' a b = record {
   same_prealloc = ap (λ n. min (n + w'.prealloc) 18446744073709551615) a.same_prealloc ∙ ap (λ n. min (r.prealloc + n) 18446744073709551615) b.same_prealloc;
   same_meta = ap (λ m. pair_meta m w'.meta) a.same_meta ∙ ap (λ m. pair_meta r.meta m) b.same_meta;
 }
+
+-- ---- a struct, which is written and read as its fields
+
+statics_by : {X Y V : Type 0} (fields : X → Y) (p : Y → Type 0) (seen : Y → V) (can : V → Type 0) (size : V → ℕ) (m : TypeMeta) → IsWriteStatic p seen can size m → IsWriteStatic (λ x. p (fields x)) (λ x. seen (fields x)) can size m
+statics_by fields p seen can size Dynamic l = tt
+statics_by fields p seen can size (Static s z) l = λ x c. l (fields x) c
+
+pub write_laws_by : {X Y V : Type 0} (fields : X → Y) (p : Y → Type 0) (seen : Y → V) (g : WriteGrammar V) → WriteLaws p seen g → WriteLaws (λ x. p (fields x)) (λ x. seen (fields x)) g
+write_laws_by {X} {Y} {V} fields p seen g l = record {
+  has_text = l.has_text;
+  text_size = l.text_size;
+  can_fit = l.can_fit;
+  statics = statics_by fields p seen g.can g.size g.meta l.statics;
+}
+
+pub reads_back_by : {X Y V W : Type 0} (fields : X → Y) (p : Y → Type 0) (ws : Y → W) (w : WriteGrammar W) (rs : Y → V) (r : ReadGrammar V) → ReadsBack p ws w rs r → ReadsBack (λ x. p (fields x)) (λ x. ws (fields x)) w (λ x. rs (fields x)) r
+reads_back_by fields p ws w rs r l = record {
+  back = λ x b c t f. l.back (fields x) b c t f;
+  within = λ b x t. l.within b (fields x) t;
+  same_prealloc = l.same_prealloc;
+  same_meta = l.same_meta;
+}

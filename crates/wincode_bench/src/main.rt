@@ -1,0 +1,4 @@
+//! Times reading and writing of lists beside a copy of as many bytes.
+#![tactic(auto)]
+
+fn main() {}

@@ -1,0 +1,29 @@
+-- The grammar of an entry: its number, and then its tags behind their length.
+use Rattle.std.specs.Prelude.{◌≡◌, ℕ, ◌<◌, ◌^◌, Bool, true, List, ◌++◌, IsTrue}
+use Rattle.wincode.specs.Readers.{ReaderState}
+use Rattle.wincode.specs.Grammar.{ReadGrammar, WriteGrammar, ReadLaws, WriteLaws, ReadsBack}
+use Rattle.wincode.specs.Leaves.{number_read, number_write}
+use Rattle.wincode.specs.LeafLaws.{number_read_laws, number_write_laws, number_reads_back}
+use Rattle.wincode.specs.Lengths.{bincode}
+use Rattle.wincode.specs.Lists.{list_read, list_write, Each}
+use Rattle.wincode.specs.Pairs.{pair_read, pair_write}
+
+abbrev pub tags_read : ReadGrammar (List ℕ)
+tags_read = list_read (bincode 4194304) (number_read 1 true)
+
+abbrev pub tags_write : WriteGrammar (List ℕ)
+tags_write = list_write (bincode 4194304) (number_write 1 true)
+
+abbrev pub entry_read : ReadGrammar (ℕ × List ℕ)
+entry_read = pair_read (number_read 8 true) tags_read
+
+abbrev pub entry_write : WriteGrammar (ℕ × List ℕ)
+entry_write = pair_write (number_write 8 true) tags_write
+
+-- Bytes were read as a value, the rest was left, and the text reads as that value.
+pub record Rewritten {X V : Type 0} (seen : X → V) (reads : List ℕ → V → Type 0) (old new : ReaderState) (text : List ℕ) : Type 0 where
+  pub value : X
+  pub front : List ℕ
+  pub is_read : reads front (seen value)
+  pub joins : old.rest ≡ front ++ new.rest
+  pub reads_back : reads text (seen value)
