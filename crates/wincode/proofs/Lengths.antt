@@ -3,8 +3,8 @@ use Rattle.std.proofs.Common.{◌≡◌, ◌∙◌, sym, ap, subst, ℕ, ◌+◌
 use Rattle.std.specs.Int.{to_le_bytes}
 use Rattle.wincode.specs.Numbers.{le}
 use Rattle.wincode.specs.NumberLaws.{length-le, to_le_bytes-le}
-use Rattle.wincode.specs.Readers.{ReaderState}
-use Rattle.wincode.specs.Writers.{WriterLaws, IsWriteRefused}
+use Rattle.wincode_io.specs.Readers.{ReaderState}
+use Rattle.wincode_io.specs.Writers.{WriterLaws, IsWriteRefused}
 use Rattle.wincode.specs.Lengths.{IsLength, bincode, HasText, text_len, length_write}
 use Rattle.wincode.specs.LengthLaws.{bincode_text, bincode_text_is, length_one, bincode_laws}
 use Rattle.wincode.specs.Outcomes.{Gives, Refuses, Accepts, TakesNumber, IsDenied, Wrote, Unwritten}
@@ -13,7 +13,7 @@ use Rattle.wincode.proofs.Sized.{takes_gives, denied_refuses}
 use Rattle.wincode.specs.declared.error.ReadError.{ReadError}
 use Rattle.wincode.specs.declared.error.ReadError.TheVariants as reading
 use Rattle.wincode.specs.declared.error.WriteError.TheVariants as writing
-use Rattle.wincode.specs.declared.io.error.WriteError.{WriteError as IoWriteError}
+use Rattle.wincode_io.specs.declared.error.WriteError.{WriteError as IoWriteError}
 
 module _ (limit p : ℕ) where
   -- eight bytes were refused

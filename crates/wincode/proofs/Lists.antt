@@ -2,7 +2,7 @@
 use Rattle.std.proofs.Common.{◌≡◌, ◌∙◌, sym, ap, subst, ℕ, ◌+◌, ◌<◌, ◌≤◌, ◌^◌, ◌&&◌, Bool, true, false, List, [], ◌∷◌, ◌++◌, length, map, take, drop, get_or, suc, refl, arith, IsTrue, take-append-drop}
 use Rattle.std.proofs.lemmas.List.{take_more, length-map, map-append}
 use Rattle.std.proofs.Math.Seq.{drop-cons}
-use Rattle.wincode.specs.Writers.{WriterLaws}
+use Rattle.wincode_io.specs.Writers.{WriterLaws}
 use Rattle.wincode.specs.Grammar.{WriteGrammar, WriteLaws}
 use Rattle.wincode.specs.Lengths.{Scheme, HasText, text_len, length_write}
 use Rattle.wincode.specs.Lists.{Each, total, items_write, list_write}

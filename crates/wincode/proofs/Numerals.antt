@@ -2,18 +2,18 @@
 use Rattle.std.proofs.Common.{◌≡◌, ◌∙◌, sym, ap, subst, ℕ, ◌<◌, ◌≤◌, ◌^◌, Bool, List, [], ◌∷◌, ◌%◌, w8, length, get_or, refl, arith, Some, false, true}
 use Rattle.std.proofs.lemmas.List.Elements.{All-from_get_or}
 use Rattle.std.specs.Int.{to_le_bytes, from_le_bytes, Width, byte_len}
-use Rattle.wincode.specs.Bytes.{IsBytes}
+use Rattle.wincode_io.specs.Bytes.{IsBytes}
 use Rattle.wincode.specs.Numbers.{le, worth}
 use Rattle.wincode.specs.NumberLaws.{le-from_le_bytes, from_le_bytes-worth, worth_below, to_le_bytes-le, length-le}
-use Rattle.wincode.specs.Readers.{ReaderState}
-use Rattle.wincode.specs.Writers.{WriterLaws, IsWriteRefused}
+use Rattle.wincode_io.specs.Readers.{ReaderState}
+use Rattle.wincode_io.specs.Writers.{WriterLaws, IsWriteRefused}
 use Rattle.wincode.specs.Leaves.{number_read, number_write}
 use Rattle.wincode.specs.Outcomes.{Puts, Refuses, Takes, TakesNumber, IsDenied, Wrote, Unwritten}
 use Rattle.wincode.specs.WriteSequences.{text_wrote, text_unwritten}
 use Rattle.wincode.proofs.Sized.{takes_gives, denied_refuses}
 use Rattle.wincode.specs.declared.error.ReadError.{ReadError}
 use Rattle.wincode.specs.declared.error.WriteError.TheVariants as writing
-use Rattle.wincode.specs.declared.io.error.WriteError.{WriteError as IoWriteError}
+use Rattle.wincode_io.specs.declared.error.WriteError.{WriteError as IoWriteError}
 
 abbrev pub AreSmall : List ℕ → Type 0
 AreSmall bytes = (i : ℕ) → get_or bytes i 0 < 256

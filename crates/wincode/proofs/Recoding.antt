@@ -1,6 +1,6 @@
 -- What is read as nested lists of numbers can be written, in as many bytes.
 use Rattle.std.proofs.Common.{◌≡◌, ◌∙◌, sym, ap, ℕ, ◌+◌, ◌<◌, ◌≤◌, ◌^◌, List, [], ◌∷◌, ◌++◌, length, map, refl, arith, true, false, Option, Some, None, IfSome, subst, length-append}
-use Rattle.wincode.specs.Readers.{memory, shared}
+use Rattle.wincode_io.specs.Readers.{memory, shared}
 use Rattle.wincode.specs.Grammar.{ReadGrammar, WriteGrammar, WriteLaws}
 use Rattle.wincode.specs.Leaves.{number_read, number_write}
 use Rattle.wincode.specs.LeafLaws.{number_write_laws}
@@ -15,7 +15,7 @@ use Rattle.wincode.specs.declared.show.RelayError.{RelayError}
 use Rattle.wincode.specs.declared.show.RelayError.TheVariants as relay
 use Rattle.wincode.specs.declared.error.ReadError.{ReadError}
 use Rattle.wincode.specs.declared.error.ReadError.TheVariants as reading
-use Rattle.wincode.specs.declared.io.error.ReadError.TheVariants as reader
+use Rattle.wincode_io.specs.declared.error.ReadError.TheVariants as reader
 
 -- what is read can be written so
 abbrev IsWritable : {V : Type 0} → ReadGrammar V → WriteGrammar V → Type 0

@@ -1,12 +1,12 @@
 -- Reading texts that all have one size.
 use Rattle.std.proofs.Common.{◌≡◌, ◌∙◌, sym, ap, subst, ℕ, ◌+◌, ◌*◌, ◌<◌, ◌≤◌, ◌^◌, Bool, List, [], ◌∷◌, ◌++◌, length, take, drop, refl, arith, length-append, length-take-le, IsTrue, append_assoc, min}
-use Rattle.wincode.specs.Readers.{ReaderState, Stays, Loses, IsShort, IsRefusal, IsRefused, Arrays}
+use Rattle.wincode_io.specs.Readers.{ReaderState, Stays, Loses, IsShort, IsRefusal, IsRefused, Arrays}
 use Rattle.wincode.specs.Sequences.{kept_trans, told_kept}
 use Rattle.wincode.specs.Outcomes.{Found, Front, Gives, Accepts, Refuses, ReaderDue, Takes, IsDenied}
 use Rattle.wincode.specs.declared.error.ReadError.{ReadError}
 use Rattle.wincode.specs.declared.error.ReadError.TheVariants as reading
-use Rattle.wincode.specs.declared.io.error.ReadError.{ReadError as IoReadError}
-use Rattle.wincode.specs.declared.io.error.ReadError.TheVariants as reader
+use Rattle.wincode_io.specs.declared.error.ReadError.{ReadError as IoReadError}
+use Rattle.wincode_io.specs.declared.error.ReadError.TheVariants as reader
 
 module _ {V : Type 0} (reads : List ℕ → V → Type 0) (n : ℕ) (sized : (b : List ℕ) (v : V) → reads b v → length b ≡ n) where
   too_short : (old : ReaderState) → IsShort n old → Accepts reads old → ⊥

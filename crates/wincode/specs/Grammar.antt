@@ -1,6 +1,6 @@
 -- What a schema says of texts and values, and its laws.
 use Rattle.std.specs.Prelude.{◌≡◌, ℕ, ◌≤◌, Bool, List, ◌++◌, length, IsTrue}
-use Rattle.wincode.specs.Bytes.{IsBytes}
+use Rattle.wincode_io.specs.Bytes.{IsBytes}
 use Rattle.wincode.specs.declared.meta.TypeMeta.{TypeMeta}
 use Rattle.wincode.specs.declared.meta.TypeMeta.TheVariants.{Static, Dynamic}
 

@@ -1,6 +1,6 @@
 -- The laws of leaves.
 use Rattle.std.proofs.Common.{◌≡◌, ◌∙◌, sym, ap, subst, ℕ, ◌<◌, ◌≤◌, ◌^◌, Bool, true, List, [], ◌∷◌, ◌++◌, length, take, refl, arith, append_assoc, length-append, length-take-le, IsTrue}
-use Rattle.wincode.specs.Bytes.{IsBytes}
+use Rattle.wincode_io.specs.Bytes.{IsBytes}
 use Rattle.wincode.specs.Numbers.{le, worth}
 use Rattle.wincode.specs.NumberLaws.{length-le, worth-le, le-worth, worth_below}
 use Rattle.wincode.specs.Grammar.{ReadGrammar, WriteGrammar, ReadLaws, WriteLaws, ReadsBack}

@@ -1,7 +1,3 @@
-pub mod Bytes
-pub mod Readers
-pub mod Writers
-pub mod WriterLaws
 pub mod Numbers
 pub mod NumberLaws
 pub mod Grammar

@@ -1,7 +1,7 @@
 -- The laws of lists, from those of their items and lengths.
 use Rattle.std.proofs.Common.{◌≡◌, ◌∙◌, sym, ap, subst, ℕ, ◌+◌, ◌*◌, ◌^◌, ◌<◌, ◌≤◌, ◌&&◌, Bool, true, false, List, [], ◌∷◌, ◌++◌, length, map, Some, None, zero, suc, refl, arith, append_assoc, append-nil, length-append}
 use Rattle.std.proofs.lemmas.List.{length-map}
-use Rattle.wincode.specs.Readers.{ReaderState}
+use Rattle.wincode_io.specs.Readers.{ReaderState}
 use Rattle.wincode.specs.Grammar.{ReadGrammar, WriteGrammar, ReadLaws, WriteLaws, ReadsBack, IsUnambiguous}
 use Rattle.wincode.specs.Lengths.{Scheme, SchemeLaws, HasText, IsLength, text_len}
 use Rattle.wincode.specs.Lists.{Joined, Each, total, AreItems, IsListText, items_write, list_read, list_write}

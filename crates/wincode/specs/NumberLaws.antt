@@ -4,7 +4,7 @@ use Rattle.std.specs.Int.{to_le_bytes, from_le_bytes, bytes_low_first, byte_at, 
 use Rattle.std.specs.Prelude.{slice_index}
 use Rattle.std.proofs.Math.Nat.{div-div-eq-div-mul}
 use Rattle.std.proofs.lemmas.List.Elements.{All-head, All-tail}
-use Rattle.wincode.specs.Bytes.{IsBytes}
+use Rattle.wincode_io.specs.Bytes.{IsBytes}
 use Rattle.wincode.specs.Numbers.{le, worth}
 
 pub length-le : (k n : ℕ) → length (le k n) ≡ k

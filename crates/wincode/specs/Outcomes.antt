@@ -1,18 +1,18 @@
 -- What reading and writing a value answer, said once for lengths, leaves and compounds.
 use Rattle.std.specs.Prelude.{⊤, ◌≡◌, ℕ, ◌-◌, ◌*◌, ◌^◌, ◌<◌, ◌≤◌, min, Bool, false, ◌&&◌, List, ◌++◌, length, IsTrue, Option, Some, codes}
-use Rattle.wincode.specs.Readers.{ReaderState, Kept, IsShort, IsRefused}
+use Rattle.wincode_io.specs.Readers.{ReaderState, Kept, IsShort, IsRefused}
 use Rattle.wincode.specs.Numbers.{le}
-use Rattle.wincode.specs.Writers.{byte_limit}
+use Rattle.wincode_io.specs.Writers.{byte_limit}
 use Rattle.wincode.specs.Grammar.{WriteGrammar}
 use Rattle.wincode.specs.Lengths.{Scheme, HasText}
 use Rattle.wincode.specs.declared.error.ReadError.{ReadError}
 use Rattle.wincode.specs.declared.error.WriteError.{WriteError}
-use Rattle.wincode.specs.declared.io.error.ReadError.{ReadError as IoReadError}
-use Rattle.wincode.specs.declared.io.error.WriteError.{WriteError as IoWriteError}
+use Rattle.wincode_io.specs.declared.error.ReadError.{ReadError as IoReadError}
+use Rattle.wincode_io.specs.declared.error.WriteError.{WriteError as IoWriteError}
 use Rattle.wincode.specs.declared.error.ReadError.TheVariants as reading
 use Rattle.wincode.specs.declared.error.WriteError.TheVariants as writing
-use Rattle.wincode.specs.declared.io.error.ReadError.TheVariants as reader
-use Rattle.wincode.specs.declared.io.error.WriteError.TheVariants as writer
+use Rattle.wincode_io.specs.declared.error.ReadError.TheVariants as reader
+use Rattle.wincode_io.specs.declared.error.WriteError.TheVariants as writer
 
 -- ---- reading
 

@@ -1,6 +1,6 @@
 -- The laws of two parts, from those of each.
 use Rattle.std.proofs.Common.{◌≡◌, ◌∙◌, sym, ap, subst, ℕ, ◌+◌, ◌^◌, ◌<◌, ◌≤◌, ◌&&◌, Bool, true, false, List, ◌++◌, length, min, max, nat_lt, cond, refl, arith, length-append, IsTrue}
-use Rattle.wincode.specs.Readers.{ReaderState}
+use Rattle.wincode_io.specs.Readers.{ReaderState}
 use Rattle.wincode.specs.Grammar.{ReadGrammar, WriteGrammar, ReadLaws, WriteLaws, ReadsBack, IsUnambiguous, IsReadStatic, IsWriteStatic}
 use Rattle.wincode.specs.Pairs.{pair_meta, pair_read, pair_write}
 use Rattle.wincode.specs.Sequences.{Then, then_unambiguous, gives_map, refuses_map, then_gives, then_first, then_second}

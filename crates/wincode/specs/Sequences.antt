@@ -1,12 +1,12 @@
 -- One text after another, and how what each call of a sequence answers makes what the whole answers.
 use Rattle.std.proofs.Common.{◌≡◌, ◌∙◌, sym, ap, ℕ, ◌<◌, ◌≤◌, Bool, true, false, ◌&&◌, List, [], ◌∷◌, ◌++◌, length, refl, arith, append_assoc, IsTrue, subst, ◌^◌, ◌+◌, length-append, append-nil, take, drop}
-use Rattle.wincode.specs.Readers.{ReaderState, Kept, Stays, Loses, IsRefusal}
+use Rattle.wincode_io.specs.Readers.{ReaderState, Kept, Stays, Loses, IsRefusal}
 use Rattle.wincode.specs.Grammar.{IsUnambiguous}
 use Rattle.wincode.specs.Outcomes.{Found, Front, IsEnd, Gives, Due, ReaderDue, Accepts, Refuses}
 use Rattle.wincode.specs.declared.error.ReadError.{ReadError}
 use Rattle.wincode.specs.declared.error.ReadError.TheVariants as reading
-use Rattle.wincode.specs.declared.io.error.ReadError.{ReadError as IoReadError}
-use Rattle.wincode.specs.declared.io.error.ReadError.TheVariants as reader
+use Rattle.wincode_io.specs.declared.error.ReadError.{ReadError as IoReadError}
+use Rattle.wincode_io.specs.declared.error.ReadError.TheVariants as reader
 
 -- a text of u, and then one that u decides
 pub record Then {U V : Type 0} (first : List ℕ → U → Type 0) (second : U → List ℕ → V → Type 0) (b : List ℕ) (v : V) : Type 0 where

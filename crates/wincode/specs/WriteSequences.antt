@@ -1,6 +1,6 @@
 -- How what each write of a sequence answers makes what the whole answers.
 use Rattle.std.proofs.Common.{◌≡◌, ◌∙◌, sym, ap, subst, ℕ, ◌+◌, ◌-◌, ◌<◌, ◌≤◌, Bool, List, [], ◌∷◌, ◌++◌, length, map, refl, arith, append_assoc, append-nil, length-append}
-use Rattle.wincode.specs.Writers.{WriterLaws, IsWriteRefusal, IsWriteRefused}
+use Rattle.wincode_io.specs.Writers.{WriterLaws, IsWriteRefusal, IsWriteRefused}
 use Rattle.wincode.specs.Grammar.{WriteGrammar, WriteLaws}
 use Rattle.wincode.specs.Lengths.{Scheme, length_write, text_len}
 use Rattle.wincode.specs.Lists.{Joined, Each, total, items_write, list_write}
@@ -10,8 +10,8 @@ use Rattle.wincode.specs.Pairs.{pair_write}
 use Rattle.wincode.specs.Outcomes.{Wrote, Began, Unwritten, WriteDue, WriterDue}
 use Rattle.wincode.specs.declared.error.WriteError.{WriteError}
 use Rattle.wincode.specs.declared.error.WriteError.TheVariants as writing
-use Rattle.wincode.specs.declared.io.error.WriteError.{WriteError as IoWriteError}
-use Rattle.wincode.specs.declared.io.error.WriteError.TheVariants as writer
+use Rattle.wincode_io.specs.declared.error.WriteError.{WriteError as IoWriteError}
+use Rattle.wincode_io.specs.declared.error.WriteError.TheVariants as writer
 
 writer_due_map : (f f' : Type 0) (steady : Bool) (failures : ℕ) → (f' → f) → (e : IoWriteError) → WriterDue f steady failures e → WriterDue f' steady failures e
 writer_due_map f f' steady failures m (writer.WriteSizeLimit n) d = λ x. d (m x)

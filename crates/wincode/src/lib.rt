@@ -3,7 +3,6 @@
 
 mod calls;
 pub mod error;
-pub mod io;
 pub mod len;
 pub mod meta;
 pub mod schema;
@@ -13,3 +12,4 @@ pub use calls::{deserialize, serialize, serialize_into, serialized_size};
 pub use error::{Error, ReadError, ReadResult, Result, WriteError, WriteResult};
 pub use meta::TypeMeta;
 pub use schema::{RoundTrip, SchemaRead, SchemaWrite};
+pub use wincode_io as io;

@@ -1,6 +1,6 @@
 -- The grammar of an entry: its number, and then its tags behind their length.
 use Rattle.std.specs.Prelude.{◌≡◌, ℕ, ◌<◌, ◌^◌, Bool, true, List, ◌++◌, IsTrue}
-use Rattle.wincode.specs.Readers.{ReaderState}
+use Rattle.wincode_io.specs.Readers.{ReaderState}
 use Rattle.wincode.specs.Grammar.{ReadGrammar, WriteGrammar, ReadLaws, WriteLaws, ReadsBack}
 use Rattle.wincode.specs.Leaves.{number_read, number_write}
 use Rattle.wincode.specs.LeafLaws.{number_read_laws, number_write_laws, number_reads_back}

@@ -1,6 +1,6 @@
 use Rattle.std.proofs.Common.{◌-◌, length}
 use Rattle.std.specs.Io.KnownBytes.{Consumes}
-use Rattle.wincode.specs.Writers.{byte_limit}
+use Rattle.wincode_io.specs.Writers.{byte_limit}
 use Rattle.wincode.proofs.show.gather.Given as goal
 
 -- so far what the input gave was kept

@@ -1,5 +1,5 @@
 //! Readers over slices.
-ghost use Rattle.wincode.specs.Readers.{memory, shared};
+ghost use Rattle.wincode_io.specs.Readers.{memory, shared};
 
 use super::error::ReadResult;
 use super::lending::Lifetime;

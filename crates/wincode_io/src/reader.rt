@@ -2,7 +2,7 @@
 ghost use Rattle.std.specs.Prelude.{◌≡◌, ℕ, ◌<◌, ◌≤◌, List, length, ◌∷◌, take, IfOk, IfErr, OnOk, IsTrue};
 ghost use Rattle.std.specs.Io.BufRead.{Rests};
 ghost use types.Logic.{sem};
-ghost use Rattle.wincode.specs.Readers.{ReaderState, Readies, IsAtHand, Loses, IsShown, IsShort, IsRefused, Fills, IsPeeked, Arrays};
+ghost use Rattle.wincode_io.specs.Readers.{ReaderState, Readies, IsAtHand, Loses, IsShown, IsShort, IsRefused, Fills, IsPeeked, Arrays};
 
 use super::error::{ReadError, ReadResult};
 use super::lending::Lending;

@@ -1,7 +1,7 @@
 -- What a writer is to contracts: a state, what bytes make of it, and its room.
 use Rattle.std.specs.Prelude.{◌≡◌, ℕ, ◌+◌, ◌-◌, ◌^◌, ◌<◌, ◌≤◌, Bool, false, List, [], ◌++◌, length}
-use Rattle.wincode.specs.declared.io.error.WriteError.{WriteError}
-use Rattle.wincode.specs.declared.io.error.WriteError.TheVariants.{WriteSizeLimit, Io, OutOfMemory}
+use Rattle.wincode_io.specs.declared.error.WriteError.{WriteError}
+use Rattle.wincode_io.specs.declared.error.WriteError.TheVariants.{WriteSizeLimit, Io, OutOfMemory}
 
 -- `usize::MAX`
 abbrev pub byte_limit : ℕ

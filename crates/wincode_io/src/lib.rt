@@ -1,4 +1,6 @@
 //! Readers and writers of bytes.
+#![tactic(auto)]
+
 pub mod error;
 pub mod lending;
 pub mod reader;

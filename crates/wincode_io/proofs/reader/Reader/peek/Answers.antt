@@ -1,5 +1,5 @@
 use Rattle.std.proofs.Common.{◌≡◌, ℕ, List, [], ◌∷◌, length, take, refl, ap, arith, slice_index_or}
-use Rattle.wincode.proofs.io.reader.Reader.peek.Goals as goal
+use Rattle.wincode_io.proofs.reader.Reader.peek.Goals as goal
 
 -- the byte that a fill of one showed
 first_shown : (xs bytes : List ℕ) → bytes ≡ take 1 xs → length bytes ≡ 1 → (more : List ℕ) × (xs ≡ slice_index_or bytes 0 0 ∷ more)

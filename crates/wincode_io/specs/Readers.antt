@@ -1,7 +1,7 @@
 -- What a reader is to contracts, and what its calls do.
 use Rattle.std.specs.Prelude.{◌≡◌, ℕ, ◌<◌, ◌≤◌, Bool, true, false, List, ◌++◌, ◌∷◌, length, take, min, IsTrue, IfOk, IfErr, Result}
-use Rattle.wincode.specs.declared.io.error.ReadError.{ReadError}
-use Rattle.wincode.specs.declared.io.error.ReadError.TheVariants.{ReadSizeLimit, UnsupportedZeroCopy, Io, OutOfMemory}
+use Rattle.wincode_io.specs.declared.error.ReadError.{ReadError}
+use Rattle.wincode_io.specs.declared.error.ReadError.TheVariants.{ReadSizeLimit, UnsupportedZeroCopy, Io, OutOfMemory}
 
 -- What a reader lends: nothing, shared bytes, or bytes for writing, which serve a shared borrow too.
 abbrev pub nothing : ℕ

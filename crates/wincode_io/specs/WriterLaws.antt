@@ -1,6 +1,6 @@
 -- The laws of writers that append.
 use Rattle.std.proofs.Common.{ℕ, ◌-◌, ◌≤◌, min, List, ◌++◌, length, append_assoc, append-nil, arith, length-append}
-use Rattle.wincode.specs.Writers.{WriterLaws, byte_limit}
+use Rattle.wincode_io.specs.Writers.{WriterLaws, byte_limit}
 
 pub append_laws : WriterLaws (λ s a. s ++ a) (λ s. byte_limit - length s)
 append_laws = record {

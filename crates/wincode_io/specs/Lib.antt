@@ -1,0 +1,4 @@
+pub mod Bytes
+pub mod Readers
+pub mod Writers
+pub mod WriterLaws
