@@ -2,3 +2,4 @@ pub mod Bytes
 pub mod Readers
 pub mod Writers
 pub mod WriterLaws
+pub mod Cursors

@@ -1,6 +1,7 @@
 //! Readers and writers of bytes.
 #![tactic(auto)]
 
+pub mod cursor;
 pub mod error;
 pub mod lending;
 pub mod reader;
@@ -8,6 +9,7 @@ pub mod slice;
 pub mod vec;
 pub mod writer;
 
+pub use cursor::Cursor;
 pub use error::{ReadError, ReadResult, WriteError, WriteResult};
 pub use lending::{Input, Lending, Lifetime};
 pub use reader::{Reader, fill_array};
