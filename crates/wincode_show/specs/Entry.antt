@@ -1,11 +1,12 @@
 -- The grammar of an entry: its number, and then its tags behind their length.
-use Rattle.std.specs.Prelude.{◌≡◌, ℕ, ◌<◌, ◌^◌, Bool, true, List, ◌++◌, IsTrue}
+use Rattle.std.specs.Prelude.{◌≡◌, ℕ, ◌<◌, ◌^◌, Bool, true, List, ◌++◌, map}
 use Rattle.wincode_io.specs.Readers.{ReaderState}
 use Rattle.wincode.specs.Grammar.{ReadGrammar, WriteGrammar, ReadLaws, WriteLaws, ReadsBack}
 use Rattle.wincode.specs.Leaves.{number_read, number_write}
 use Rattle.wincode.specs.LeafLaws.{number_read_laws, number_write_laws, number_reads_back}
 use Rattle.wincode.specs.Lengths.{bincode}
 use Rattle.wincode.specs.Lists.{list_read, list_write, Each}
+use Rattle.wincode.specs.ListLaws.{list_write_laws}
 use Rattle.wincode.specs.Pairs.{pair_read, pair_write}
 
 abbrev pub tags_read : ReadGrammar (List ℕ)
@@ -27,3 +28,6 @@ pub record Rewritten {X V : Type 0} (seen : X → V) (reads : List ℕ → V →
   pub is_read : reads front (seen value)
   pub joins : old.rest ≡ front ++ new.rest
   pub reads_back : reads text (seen value)
+
+pub tags_write_laws : WriteLaws {X = List ℕ} (Each (λ n. n < 256 ^ 1)) (map (λ n. n)) tags_write
+tags_write_laws = list_write_laws (bincode 4194304) (λ t. t) (λ n. n < 256 ^ 1) (λ n. n) (number_write 1 true) (number_write_laws 1 true)
