@@ -1,4 +1,170 @@
-//! Times reading and writing of lists beside a copy of as many bytes.
+//! Times reading and writing of lists of numbers beside a copy of as many bytes.
+//!
+//! Without arguments it prints one fixed line. With `--time` it prints a table: for each row the least
+//! of 20 runs, in microseconds, and how many tenths of the copy of as many bytes that is.
 #![tactic(auto)]
 
-fn main() {}
+use std::alloc::Global;
+use std::env;
+use std::rt::{Clock, Env};
+use std::time::Instant;
+use thiserror::Error;
+use wincode::{deserialize, serialize};
+
+const RUNS: u32 = 20;
+
+const NUMBERS: u64 = 500_000;
+
+const SIDE: u64 = 1_000;
+
+/// Why a measurement ended early.
+#[derive(Debug, Drop, Error)]
+enum Failure {
+    #[error("a value was not read")]
+    Read,
+    #[error("a value was not written")]
+    Write,
+    #[error("the clock failed")]
+    Clock,
+    #[error("printing failed")]
+    Print,
+    #[error("out of memory")]
+    OutOfMemory,
+}
+
+/// The numbers below `n`.
+fn numbers(alloc: Global, n: u64) -> Result<Vec<u64>, Failure> {
+    let mut list = Vec::new(alloc);
+    for i in 0..n {
+        if list.push(i).is_err() {
+            return Err(Failure::OutOfMemory);
+        }
+    }
+    Ok(list)
+}
+
+/// So many lists of as many numbers.
+fn square(alloc: Global, side: u64) -> Result<Vec<Vec<u64>>, Failure> {
+    let mut lists = Vec::new(alloc);
+    for _i in 0..side {
+        if lists.push(numbers(alloc, side)?).is_err() {
+            return Err(Failure::OutOfMemory);
+        }
+    }
+    Ok(lists)
+}
+
+/// What is measured.
+trait Work {
+    fn run(&self, alloc: Global) -> Result<(), Failure>;
+}
+
+#[derive(Drop)]
+struct Copy<'a>(&'a [u8]);
+
+impl Work for Copy<'_> {
+    fn run(&self, alloc: Global) -> Result<(), Failure> {
+        if Vec::from_slice(alloc, self.0).is_err() { Err(Failure::OutOfMemory) } else { Ok(()) }
+    }
+}
+
+#[derive(Drop)]
+struct ReadNumbers<'a>(&'a [u8]);
+
+impl Work for ReadNumbers<'_> {
+    fn run(&self, alloc: Global) -> Result<(), Failure> {
+        match deserialize::<&[u8], Vec<u64>>(alloc, self.0) {
+            Ok(_) => Ok(()),
+            Err(_) => Err(Failure::Read),
+        }
+    }
+}
+
+#[derive(Drop)]
+struct ReadLists<'a>(&'a [u8]);
+
+impl Work for ReadLists<'_> {
+    fn run(&self, alloc: Global) -> Result<(), Failure> {
+        match deserialize::<&[u8], Vec<Vec<u64>>>(alloc, self.0) {
+            Ok(_) => Ok(()),
+            Err(_) => Err(Failure::Read),
+        }
+    }
+}
+
+#[derive(Drop)]
+struct WriteNumbers<'a>(&'a Vec<u64>);
+
+impl Work for WriteNumbers<'_> {
+    fn run(&self, alloc: Global) -> Result<(), Failure> {
+        if serialize(alloc, self.0).is_err() { Err(Failure::Write) } else { Ok(()) }
+    }
+}
+
+#[derive(Drop)]
+struct WriteLists<'a>(&'a Vec<Vec<u64>>);
+
+impl Work for WriteLists<'_> {
+    fn run(&self, alloc: Global) -> Result<(), Failure> {
+        if serialize(alloc, self.0).is_err() { Err(Failure::Write) } else { Ok(()) }
+    }
+}
+
+/// The time of one run, in nanoseconds.
+fn once<W: Work>(rt: &impl Clock, alloc: Global, work: &W) -> Result<u128, Failure> {
+    let start = Instant::now(rt).map_err(|_| Failure::Clock)?;
+    work.run(alloc)?;
+    let taken = start.elapsed(rt).map_err(|_| Failure::Clock)?;
+    Ok(taken.as_nanos())
+}
+
+/// The least time of the runs, in nanoseconds.
+fn least<W: Work>(rt: &impl Clock, alloc: Global, work: &W) -> Result<u128, Failure> {
+    let mut nanoseconds = u128::MAX;
+    for _i in 0..RUNS {
+        nanoseconds = nanoseconds.min(once(rt, alloc, work)?);
+    }
+    Ok(nanoseconds)
+}
+
+/// Prints a row: the time and, in tenths, how many times the copy's it is.
+fn print_row(rt: &impl Print, name: &str, taken: u128, copy: u128) -> Result<(), Failure> {
+    let tenths = taken.saturating_mul(10) / copy.max(1);
+    let microseconds = taken / 1000;
+    println!(rt; "{name}: {microseconds} microseconds, {tenths} tenths of the copy").map_err(|_| Failure::Print)
+}
+
+fn time_numbers(rt: &(impl Clock + Print + AllocGlobal)) -> Result<(), Failure> {
+    let alloc = rt.alloc();
+    let list = numbers(alloc, NUMBERS)?;
+    let bytes = serialize(alloc, &list).map_err(|_| Failure::Write)?;
+    let copy = least(rt, alloc, &Copy(bytes.as_slice()))?;
+    print_row(rt, "copy of the numbers' bytes", copy, copy)?;
+    print_row(rt, "deserialize numbers", least(rt, alloc, &ReadNumbers(bytes.as_slice()))?, copy)?;
+    print_row(rt, "serialize numbers", least(rt, alloc, &WriteNumbers(&list))?, copy)
+}
+
+fn time_lists(rt: &(impl Clock + Print + AllocGlobal)) -> Result<(), Failure> {
+    let alloc = rt.alloc();
+    let lists = square(alloc, SIDE)?;
+    let bytes = serialize(alloc, &lists).map_err(|_| Failure::Write)?;
+    let copy = least(rt, alloc, &Copy(bytes.as_slice()))?;
+    print_row(rt, "copy of the lists' bytes", copy, copy)?;
+    print_row(rt, "deserialize lists", least(rt, alloc, &ReadLists(bytes.as_slice()))?, copy)?;
+    print_row(rt, "serialize lists", least(rt, alloc, &WriteLists(&lists))?, copy)
+}
+
+fn is_timed(rt: &(impl Env + AllocGlobal)) -> bool {
+    match env::args(rt) {
+        Ok(words) => words.skip(1).any(|word| word.as_str() == "--time"),
+        Err(_) => false,
+    }
+}
+
+fn main(rt: HostRuntime) -> Result<(), Failure> {
+    if is_timed(&rt) {
+        time_numbers(&rt)?;
+        return time_lists(&rt);
+    }
+    println!(rt; "wincode_bench --time prints how long lists take").map_err(|_| Failure::Print)
+}

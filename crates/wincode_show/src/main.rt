@@ -2,6 +2,8 @@
 #![tactic(auto)]
 
 mod entry;
+#[cfg(test)]
+mod tests;
 
 use std::env;
 use std::io;

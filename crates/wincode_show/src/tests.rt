@@ -1,0 +1,301 @@
+//! Worked rows and vectors, as tables, and each public call once.
+ghost use Rattle.std.specs.Prelude.{◌<◌, IfOk};
+
+mod vectors;
+
+use super::entry::{Entry, rewrite};
+use std::alloc::Global;
+use std::io::ErrorKind;
+use std::test::Fail;
+use vectors::VECTORS;
+use wincode::error;
+use wincode::io::{self, Lifetime, Writer};
+use wincode::len::{BincodeLen, SeqLen};
+use wincode::show::{RelayError, relay};
+use wincode::{
+    Error, ReadError, ReadResult, SchemaRead, SchemaWrite, TypeMeta, WriteError, deserialize, serialize,
+    serialize_into, serialized_size,
+};
+
+/// The list of the list of 1 and the empty list.
+const NESTED: [u8; 32] = [
+    2, 0, 0, 0, 0, 0, 0, 0, 1, 0, 0, 0, 0, 0, 0, 0, 1, 0, 0, 0, 0, 0, 0, 0, 0, 0, 0, 0, 0, 0, 0, 0,
+];
+
+fn nested(alloc: Global) -> Result<Vec<Vec<u64>>, Fail> {
+    let mut lists = Vec::new(alloc);
+    lists.push(vec![in alloc; 1u64]?)?;
+    lists.push(Vec::new(alloc))?;
+    Ok(lists)
+}
+
+#[test]
+fn nested_lists(rt: HostRuntime) -> Result<(), Fail> {
+    let alloc = rt.alloc();
+    let lists = nested(alloc)?;
+    let text = serialize(alloc, &lists)?;
+    assert_eq!(rt; text.as_slice(), NESTED.as_slice());
+    assert_eq!(rt; serialized_size(&lists)?, 32);
+    let mut out = Vec::new(alloc);
+    out.write(&[7])?;
+    serialize_into(&mut out, &lists)?;
+    assert_eq!(rt; out.len(), 33);
+    let back: Vec<Vec<u64>> = deserialize(alloc, NESTED.as_slice())?;
+    assert!(rt; back == lists);
+    Ok(())
+}
+
+/// The refusal of a list of lists of numbers, and what is left of the bytes.
+fn refused(alloc: Global, bytes: &[u8]) -> Result<String, Fail> {
+    let mut reader = bytes;
+    let answer = <Vec<Vec<u64>> as SchemaRead<Lifetime>>::get(alloc, &mut reader);
+    let left = reader.len();
+    match answer {
+        Ok(_) => Err(Fail::from("read")),
+        Err(error) => Ok(format!(in alloc; "{error:?} {left}")?),
+    }
+}
+
+#[test]
+fn refusals(rt: HostRuntime) -> Result<(), Fail> {
+    let alloc = rt.alloc();
+    let numbers: ReadResult<Vec<u64>> = deserialize(alloc, [].as_slice());
+    assert!(rt; matches!(&numbers, Err(ReadError::Io(io::ReadError::ReadSizeLimit(8)))));
+    for (bytes, needed) in [
+        ([1u8, 0, 8, 0, 0, 0, 0, 0], 4194312usize),
+        ([0, 0, 0, 0, 0, 0, 0, 128], usize::MAX),
+    ] {
+        let numbers: ReadResult<Vec<u64>> = deserialize(alloc, bytes.as_slice());
+        let named = match numbers {
+            Err(ReadError::PreallocationSizeLimit { needed: n, limit }) => n == needed && limit == 4194304,
+            _ => false,
+        };
+        assert!(rt; named, "{needed}");
+    }
+    let admitted = refused(alloc, [170, 170, 2, 0, 0, 0, 0, 0].as_slice())?;
+    assert_eq!(rt; admitted.as_str(), "Io(ReadSizeLimit(8)) 0");
+    let over = refused(alloc, [171, 170, 2, 0, 0, 0, 0, 0].as_slice())?;
+    assert_eq!(rt; over.as_str(), "PreallocationSizeLimit { needed: 4194312, limit: 4194304 } 0");
+    let cut = refused(alloc, &NESTED[..31])?;
+    assert_eq!(rt; cut.as_str(), "Io(ReadSizeLimit(8)) 7");
+    Ok(())
+}
+
+#[test]
+fn relays(rt: HostRuntime) -> Result<(), Fail> {
+    let alloc = rt.alloc();
+    let mut input = Vec::from_slice(alloc, NESTED.as_slice())?;
+    input.push(9)?;
+    let mut output = Vec::new(alloc);
+    relay(alloc, "nested", &mut input.as_slice(), &mut output)?;
+    assert_eq!(rt; output.as_slice(), NESTED.as_slice());
+    for (shape, status, printed) in [
+        ("nested", 1u8, "Attempting to read 8 bytes"),
+        ("other", 2, "unknown shape"),
+    ] {
+        let mut none = Vec::new(alloc);
+        match relay(alloc, shape, &mut [].as_slice(), &mut none) {
+            Ok(()) => return Err(Fail::from("relayed")),
+            Err(error) => {
+                assert_eq!(rt; error.status(), status);
+                assert_eq!(rt; format!(in alloc; "{error}")?.as_str(), printed);
+            }
+        }
+        assert!(rt; none.is_empty());
+    }
+    Ok(())
+}
+
+#[test]
+fn an_entry(rt: HostRuntime) -> Result<(), Fail> {
+    let alloc = rt.alloc();
+    let entry = Entry { id: 258, tags: vec![in alloc; 7u8, 9]? };
+    let text = serialize(alloc, &entry)?;
+    assert_eq!(rt; text.as_slice(), [2u8, 1, 0, 0, 0, 0, 0, 0, 2, 0, 0, 0, 0, 0, 0, 0, 7, 9].as_slice());
+    let mut reader = text.as_slice();
+    let again = rewrite::<Lifetime, &[u8], Entry>(alloc, &mut reader)?;
+    assert!(rt; again == Some(text));
+    Ok(())
+}
+
+/// The byte of two digits of base 16.
+fn digit(b: u8) -> Result<u8, Fail>
+    ensures { IfOk result (λ d. d < 16) }
+{
+    match b {
+        b'0'..=b'9' => Ok(b - b'0'),
+        b'a'..=b'f' => Ok(b - b'a' + 10),
+        _ => Err(Fail::from("a digit")),
+    }
+}
+
+fn bytes_of(alloc: Global, digits: &str) -> Result<Vec<u8>, Fail> {
+    let mut bytes = Vec::new(alloc);
+    for pair in digits.as_bytes().chunks_exact(2) {
+        if let [high, low] = pair {
+            bytes.push(digit(*high)? * 16 + digit(*low)?)?;
+        }
+    }
+    Ok(bytes)
+}
+
+fn digits_of(alloc: Global, bytes: &[u8]) -> Result<String, Fail> {
+    let mut digits = String::new(alloc);
+    for b in bytes {
+        digits.push_str(format!(in alloc; "{b:02x}")?.as_str())?;
+    }
+    Ok(digits)
+}
+
+/// What reading these bytes as the type of the name answers, as the table has it.
+fn answer(alloc: Global, name: &str, bytes: &[u8]) -> Result<String, Fail> {
+    let mut reader = bytes;
+    let text = if name == "u8" {
+        rewrite::<Lifetime, &[u8], u8>(alloc, &mut reader)
+    } else if name == "u64" {
+        rewrite::<Lifetime, &[u8], u64>(alloc, &mut reader)
+    } else if name == "Vec<u8>" {
+        rewrite::<Lifetime, &[u8], Vec<u8>>(alloc, &mut reader)
+    } else if name == "Vec<u64>" {
+        rewrite::<Lifetime, &[u8], Vec<u64>>(alloc, &mut reader)
+    } else if name == "Vec<Vec<u64>>" {
+        rewrite::<Lifetime, &[u8], Vec<Vec<u64>>>(alloc, &mut reader)
+    } else {
+        return Err(Fail::from("an unknown type"));
+    };
+    let left = reader.len();
+    match text {
+        Ok(Some(text)) => {
+            let digits = digits_of(alloc, text.as_slice())?;
+            Ok(format!(in alloc; "ok {left} {digits}")?)
+        }
+        Ok(None) => Err(Fail::from("unwritten")),
+        Err(error) => Ok(format!(in alloc; "err {error:?} {left}")?),
+    }
+}
+
+/// Short lists of items of one size. The vectors refuse them for the whole list, without looking at an
+/// item; here a list is read item by item, and is refused for the first item that is missing.
+const SHORT_LISTS: [(&str, &str); 2] = [
+    ("Vec<u64>", "02000000000000000100000000000000"),
+    ("Vec<Vec<u64>>", "090000000000000000000000000000000300000000000000ff"),
+];
+
+/// The first row that is not answered as it says, if there is one.
+fn first_unlike<'r>(alloc: Global, rows: &'r [(&'r str, &'r str, &'r str)]) -> Result<Option<String>, Fail> {
+    for (name, digits, outcome) in rows {
+        let bytes = bytes_of(alloc, digits)?;
+        let found = answer(alloc, name, bytes.as_slice())?;
+        let is_short = SHORT_LISTS.iter().any(|(list, short)| list == name && short == digits);
+        if (found.as_str() == *outcome) == is_short {
+            return Ok(Some(format!(in alloc; "{name} {digits}: {found}")?));
+        }
+    }
+    Ok(None)
+}
+
+#[test]
+fn answers_the_vectors(rt: HostRuntime) -> Result<(), Fail> {
+    let unlike = first_unlike(rt.alloc(), VECTORS.as_slice())?;
+    assert!(rt; unlike == None, "{unlike:?}");
+    Ok(())
+}
+
+fn printed<E: std::error::Error>(alloc: Global, error: E) -> Result<String, Fail> {
+    Ok(format!(in alloc; "{error}")?)
+}
+
+#[test]
+fn read_errors_print(rt: HostRuntime) -> Result<(), Fail> {
+    let alloc = rt.alloc();
+    let bad = [0xffu8];
+    let text = std::str::from_utf8(bad.as_slice()).err().ok_or("text")?;
+    let utf8 = printed(alloc, text)?;
+    let device = || std::io::Error::from(ErrorKind::Other);
+    let device_text = printed(alloc, device())?;
+    let rows = [
+        (ReadError::from(io::ReadError::ReadSizeLimit(3)), "Attempting to read 3 bytes"),
+        (
+            ReadError::Io(io::ReadError::UnsupportedZeroCopy),
+            "Unsupported zero-copy operation: reader does not support deserializing zero-copy types",
+        ),
+        (ReadError::Io(io::ReadError::from(device())), device_text.as_str()),
+        (ReadError::Io(io::ReadError::OutOfMemory), "Out of memory"),
+        (ReadError::from(text), utf8.as_str()),
+        (error::invalid_utf8_encoding(text), utf8.as_str()),
+        (error::pointer_sized_decode_error(), "Could not cast integer type to pointer sized type"),
+        (
+            error::preallocation_size_limit(5, 4),
+            "Encoded sequence length exceeded preallocation limit of 4 bytes (needed 5 bytes)",
+        ),
+        (error::invalid_tag_encoding(7), "Invalid tag encoding: 7"),
+        (error::invalid_bool_encoding(2), "Invalid bool encoding: 2"),
+        (
+            error::read_length_encoding_overflow("u16::MAX"),
+            "Sequence length would overflow length encoding scheme: u16::MAX",
+        ),
+        (error::invalid_char_lead(128), "Invalid char lead: 128"),
+        (ReadError::Custom("no"), "Custom error: no"),
+        (error::unaligned_pointer_read(), "Zero-copy read would be unaligned"),
+        (ReadError::OutOfMemory, "Out of memory"),
+    ];
+    for (error, text) in rows {
+        assert_eq!(rt; printed(alloc, error)?.as_str(), text);
+    }
+    Ok(())
+}
+
+#[test]
+fn write_errors_print(rt: HostRuntime) -> Result<(), Fail> {
+    let alloc = rt.alloc();
+    let bad = [0xffu8];
+    let text = std::str::from_utf8(bad.as_slice()).err().ok_or("text")?;
+    let utf8 = printed(alloc, text)?;
+    let device = || std::io::Error::from(ErrorKind::Other);
+    let device_text = printed(alloc, device())?;
+    let rows = [
+        (WriteError::from(io::WriteError::WriteSizeLimit(3)), "Attempting to write 3 bytes"),
+        (WriteError::Io(io::WriteError::from(device())), device_text.as_str()),
+        (WriteError::Io(io::WriteError::OutOfMemory), "Out of memory"),
+        (WriteError::from(text), utf8.as_str()),
+        (
+            error::write_length_encoding_overflow("usize::MAX"),
+            "Sequence length would overflow length encoding scheme: usize::MAX",
+        ),
+        (WriteError::Custom("no"), "Custom error: no"),
+        (WriteError::OutOfMemory, "Out of memory"),
+    ];
+    for (error, text) in rows {
+        assert_eq!(rt; printed(alloc, error)?.as_str(), text);
+    }
+    let either = [Error::from(ReadError::OutOfMemory), Error::from(WriteError::OutOfMemory)];
+    for error in either {
+        assert_eq!(rt; printed(alloc, error)?.as_str(), "Out of memory");
+    }
+    Ok(())
+}
+
+#[test]
+fn small_calls(rt: HostRuntime) -> Result<(), Fail> {
+    let alloc = rt.alloc();
+    let size = TypeMeta::Static { size: 8, zero_copy: true };
+    assert!(rt; <u64 as SchemaRead<Lifetime>>::type_meta() == size);
+    assert!(rt; <u64 as SchemaWrite>::type_meta() == size);
+    assert!(rt; <Vec<u8> as SchemaWrite>::type_meta() == TypeMeta::Dynamic);
+    assert_eq!(rt; <u8 as SchemaRead<Lifetime>>::prealloc_size(), 1);
+    assert_eq!(rt; <Vec<u8> as SchemaRead<Lifetime>>::prealloc_size(), 24);
+    assert_eq!(rt; <u8 as SchemaWrite>::size_of(&7)?, 1);
+    assert_eq!(rt; BincodeLen::<3>::write_bytes_needed(9)?, 8);
+    let mut out = Vec::new(alloc);
+    BincodeLen::<3>::write(&mut out, 258)?;
+    assert_eq!(rt; out.as_slice(), [2u8, 1, 0, 0, 0, 0, 0, 0].as_slice());
+    let mut reader = out.as_slice();
+    let long = BincodeLen::<3>::read::<Lifetime, &[u8]>(&mut reader, 1);
+    assert!(rt; matches!(&long, Err(ReadError::PreallocationSizeLimit { needed: 258, limit: 3 })));
+    assert_eq!(rt; reader.len(), 0);
+    let mut dst = Some(5u8);
+    let mut none = [].as_slice();
+    assert!(rt; <u8 as SchemaRead<Lifetime>>::read(alloc, &mut none, &mut dst).is_err());
+    assert!(rt; dst == Some(5));
+    Ok(())
+}
