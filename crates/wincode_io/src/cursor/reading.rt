@@ -1,7 +1,8 @@
 //! A cursor over shared bytes, as a reader.
-ghost use Rattle.wincode_io.specs.Readers.{memory, nothing};
-ghost use Rattle.wincode_io.specs.Cursors.{left};
-ghost use Rattle.std.specs.Prelude.{◌≡◌, drop};
+ghost use Rattle.std.specs.Prelude.{◌≡◌, ◌≤◌, drop, IfOk, IfErr, OnOk};
+ghost use Rattle.wincode_io.specs.Readers.{Loses, Windowed, IsRefused, IsShort};
+ghost use Rattle.wincode_io.specs.Windows.{window_state};
+ghost use Rattle.wincode_io.specs.Cursors.{over, Moves};
 
 use super::super::error::{ReadError, ReadResult};
 use super::super::lending::Lifetime;
@@ -12,7 +13,7 @@ use super::Cursor;
 /// Reads from the position on, and lends nothing. Past the end it has no bytes left, and stays where
 /// it is.
 impl<'a> Reader<Lifetime<'a>> for Cursor<&'a [u8]> {
-    ghost state = { λ c. memory nothing (left (λ s. s.now) c) };
+    ghost state = { λ c. over c.inner.now c.position };
 
     fn fill(&mut self, _n: usize) -> ReadResult<()> {
         Ok(())
@@ -22,8 +23,26 @@ impl<'a> Reader<Lifetime<'a>> for Cursor<&'a [u8]> {
         rest_of(self.inner, self.pos)
     }
 
-    fn consume_unchecked(&mut self, n: usize) {
+    fn consume_unchecked(&mut self, n: usize)
+        requires { n ≤ (over self.old.inner.now self.old.position).ready }
+        ensures loses { Loses n (over self.old.inner.now self.old.position) (over self.new.inner.now self.new.position) }
+        ensures moves { Moves n self.old self.new }
+    {
         self.pos += n;
+    }
+
+    fn consume(&mut self, n: usize) -> ReadResult<()>
+        ensures ok { OnOk result (Loses n (over self.old.inner.now self.old.position) (over self.new.inner.now self.new.position)) }
+        ensures err { IfErr result (IsRefused (IsShort n (over self.old.inner.now self.old.position)) ⊥ n (over self.old.inner.now self.old.position) (over self.new.inner.now self.new.position)) }
+        ensures moves { OnOk result (Moves n self.old self.new) }
+        ensures stays { IfErr result (λ e. self.new ≡ self.old) }
+    {
+        if n <= self.at_hand().len() {
+            self.consume_unchecked(n);
+            Ok(())
+        } else {
+            Err(ReadError::ReadSizeLimit(n))
+        }
     }
 
     fn borrow_exact(&mut self, _n: usize) -> ReadResult<&'a [u8]> {
@@ -34,7 +53,12 @@ impl<'a> Reader<Lifetime<'a>> for Cursor<&'a [u8]> {
         Err(ReadError::UnsupportedZeroCopy)
     }
 
-    fn as_trusted_for(&mut self, n: usize) -> ReadResult<ReadWindow<Lifetime<'a>>> {
+    fn as_trusted_for(&mut self, n: usize) -> ReadResult<ReadWindow<Lifetime<'a>>>
+        ensures ok { IfOk result (λ w. Windowed n (over self.old.inner.now self.old.position) (over self.new.inner.now self.new.position) (window_state w)) }
+        ensures err { IfErr result (IsRefused (IsShort n (over self.old.inner.now self.old.position)) ⊥ n (over self.old.inner.now self.old.position) (over self.new.inner.now self.new.position)) }
+        ensures moves { OnOk result (Moves n self.old self.new) }
+        ensures stays { IfErr result (λ e. self.new ≡ self.old) }
+    {
         let rest = rest_of(self.inner, self.pos);
         if n <= rest.len() {
             self.pos += n;
