@@ -5,7 +5,6 @@ use super::error::{ReadError, ReadResult};
 use super::lending::{Lending, Lifetime};
 use super::reader::Reader;
 use super::window::{ReadWindow, TrustedSliceReaderZeroCopy, TrustedSliceReaderZeroCopyMut};
-use std::mem;
 
 /// Reads the slice from its front, and lends shared bytes of it.
 impl<'a> Reader<Lifetime<'a>> for &'a [u8] {
@@ -58,16 +57,12 @@ impl<'a> Reader<Lifetime<'a>> for &'a mut [u8] {
     }
 
     fn consume_unchecked(&mut self, n: usize) {
-        let all = mem::take(self);
-        *self = &mut all[n..];
+        <Lifetime<'a> as Lending>::take_front_mut(self, n);
     }
 
     fn borrow_exact(&mut self, n: usize) -> ReadResult<&'a [u8]> {
         if n <= self.len() {
-            let all = mem::take(self);
-            let (front, rest) = all.split_at_mut(n);
-            *self = rest;
-            Ok(front)
+            Ok(<Lifetime<'a> as Lending>::take_front_mut(self, n))
         } else {
             Err(ReadError::ReadSizeLimit(n))
         }
@@ -75,10 +70,7 @@ impl<'a> Reader<Lifetime<'a>> for &'a mut [u8] {
 
     fn borrow_exact_mut(&mut self, n: usize) -> ReadResult<&'a mut [u8]> {
         if n <= self.len() {
-            let all = mem::take(self);
-            let (front, rest) = all.split_at_mut(n);
-            *self = rest;
-            Ok(front)
+            Ok(<Lifetime<'a> as Lending>::take_front_mut(self, n))
         } else {
             Err(ReadError::ReadSizeLimit(n))
         }
@@ -86,9 +78,7 @@ impl<'a> Reader<Lifetime<'a>> for &'a mut [u8] {
 
     fn as_trusted_for(&mut self, n: usize) -> ReadResult<ReadWindow<Lifetime<'a>>> {
         if n <= self.len() {
-            let all = mem::take(self);
-            let (front, rest) = all.split_at_mut(n);
-            *self = rest;
+            let front = <Lifetime<'a> as Lending>::take_front_mut(self, n);
             Ok(ReadWindow::Writing(TrustedSliceReaderZeroCopyMut::<Lifetime<'a>>::new(front)))
         } else {
             Err(ReadError::ReadSizeLimit(n))
