@@ -37,12 +37,8 @@ impl<L: Lending> Reader<L> for TrustedSliceReaderZeroCopy<L> {
     }
 
     fn as_trusted_for(&mut self, n: usize) -> ReadResult<ReadWindow<L>> {
-        if n <= self.at_hand().len() {
-            let front = L::take_front(&mut self.bytes, n);
-            Ok(ReadWindow::Shared(TrustedSliceReaderZeroCopy::<L>::new(front)))
-        } else {
-            Err(ReadError::ReadSizeLimit(n))
-        }
+        let front = self.borrow_exact(n)?;
+        Ok(ReadWindow::Shared(TrustedSliceReaderZeroCopy::<L>::new(front)))
     }
 }
 
@@ -78,12 +74,8 @@ impl<L: Lending> Reader<L> for TrustedSliceReaderZeroCopyMut<L> {
     }
 
     fn as_trusted_for(&mut self, n: usize) -> ReadResult<ReadWindow<L>> {
-        if n <= self.at_hand().len() {
-            let front = L::take_front_mut(&mut self.bytes, n);
-            Ok(ReadWindow::Writing(TrustedSliceReaderZeroCopyMut::<L>::new(front)))
-        } else {
-            Err(ReadError::ReadSizeLimit(n))
-        }
+        let front = self.borrow_exact_mut(n)?;
+        Ok(ReadWindow::Writing(TrustedSliceReaderZeroCopyMut::<L>::new(front)))
     }
 }
 
