@@ -1,22 +1,23 @@
 //! Readers and their windows.
-ghost use Rattle.std.specs.Prelude.{◌≡◌, ℕ, ◌≤◌, ◌∷◌, length, take, IfOk, IfErr, IsTrue};
+ghost use Rattle.std.specs.Prelude.{◌≡◌, ◌++◌, take, IfOk, IfErr, IsTrue};
 ghost use Rattle.wincode_io.specs.Readers.{Loses, IsRefused, IsShort};
 
-use wincode_io::{Lending, ReadResult, Reader};
+use wincode_io::{Lending, ReadResult, ReadWindow, Reader, copy_into_array};
 
-/// Two numbers from the next four bytes, through a window of these four, whose first byte stands
-/// alone, and a window in it of the other three, whose first two are an array; the fourth byte is
-/// left unread in there. `ReadSizeLimit(4)` where fewer bytes are left, and then the reader stays.
-pub fn from_windows<L: Lending, R: Reader<L>>(reader: &mut R) -> ReadResult<(u8, [u8; 2])>
-    ensures loses { IfOk result (λ v. Loses 4 (R.state reader.old) (R.state reader.new)) }
-    ensures value { IfOk result (λ v. IsTrue (R.state reader.old).told → take 3 (R.state reader.old).rest ≡ v.0 ∷ v.1) }
-    ensures err { IfErr result (IsRefused (IsShort 4 (R.state reader.old)) ⊥ 4 (R.state reader.old) (R.state reader.new)) }
+/// Two pairs of bytes from the next six, through a window of these six, which gives the first pair,
+/// and a window in it of the other four, which gives the second. The last two bytes are read by
+/// nobody, and are gone from the reader too. It is `ReadSizeLimit(6)` where fewer bytes are left, and
+/// then the reader stays where it is.
+pub fn pairs<L: Lending, R: Reader<L>>(reader: &mut R) -> ReadResult<([u8; 2], [u8; 2])>
+    ensures loses { IfOk result (λ v. Loses 6 (R.state reader.old) (R.state reader.new)) }
+    ensures value { IfOk result (λ v. IsTrue (R.state reader.old).told → v.0 ++ v.1 ≡ take 4 (R.state reader.old).rest) }
+    ensures err { IfErr result (IsRefused (IsShort 6 (R.state reader.old)) ⊥ 6 (R.state reader.old) (R.state reader.new)) }
 {
-    let mut outer = reader.as_trusted_for(4)?;
-    let kind = *outer.peek()?;
-    outer.consume(1)?;
-    let mut inner = outer.as_trusted_for(3)?;
-    let mut pair = [0; 2];
-    inner.copy_into_slice(&mut pair)?;
-    Ok((kind, pair))
+    let mut outer = reader.as_trusted_for(6)?;
+    let mut first = [0; 2];
+    copy_into_array::<L, ReadWindow<L>, 2>(&mut outer, &mut first)?;
+    let mut inner = outer.as_trusted_for(4)?;
+    let mut second = [0; 2];
+    inner.copy_into_slice(&mut second)?;
+    Ok((first, second))
 }
