@@ -225,6 +225,7 @@ mod tests {
         inner[0] = 20;
         assert_eq!(rt; window.borrow_exact(1)?, [3u8].as_slice());
         assert!(rt; matches!(&window.borrow_exact_mut(2), Err(ReadError::ReadSizeLimit(2))));
+        drop(window);
         assert_eq!(rt; reader.borrow_exact(1)?, [5u8].as_slice());
         assert_eq!(rt; held, [10u8, 20, 3, 4, 5]);
         assert_eq!(rt; first_lent(held.as_mut_slice())?, [10u8].as_slice());
