@@ -232,4 +232,22 @@ mod tests {
         assert_eq!(rt; first_lent(held.as_slice())?, [10u8].as_slice());
         Ok(())
     }
+
+    #[test]
+    fn lent_bytes_are_cut_and_shared(rt: HostRuntime) -> Result<(), Fail> {
+        let bytes = [1u8, 2, 3];
+        let mut reader = bytes.as_slice();
+        reader.fill(2)?;
+        assert_eq!(rt; reader.at_hand(), [1u8, 2, 3].as_slice());
+        reader.consume_unchecked(1);
+        assert_eq!(rt; reader, [2u8, 3].as_slice());
+        let front = <Lifetime as Lending>::take_front(&mut reader, 1);
+        assert_eq!(rt; <Lifetime as Lending>::bytes_of(&front), [2u8].as_slice());
+        let mut held = [1u8, 2, 3];
+        let mut writing = held.as_mut_slice();
+        let front = <Lifetime as Lending>::take_front_mut(&mut writing, 2);
+        assert_eq!(rt; <Lifetime as Lending>::bytes_of_mut(&writing), [3u8].as_slice());
+        assert_eq!(rt; <Lifetime as Lending>::share(front), [1u8, 2].as_slice());
+        Ok(())
+    }
 }
