@@ -9,7 +9,7 @@ use std::marker::Model;
 /// A window that lends shared bytes. To contracts it is the bytes that it has left.
 #[derive(Drop)]
 pub struct TrustedSliceReaderZeroCopy<L: Lending> {
-    pub(crate) bytes: L::Bytes,
+    bytes: L::Bytes,
 }
 
 impl<L: Lending> Model for TrustedSliceReaderZeroCopy<L> {
@@ -30,7 +30,7 @@ impl<L: Lending> TrustedSliceReaderZeroCopy<L> {
 /// A window that lends its bytes for writing, or shared. To contracts it is the bytes that it has left.
 #[derive(Drop)]
 pub struct TrustedSliceReaderZeroCopyMut<L: Lending> {
-    pub(crate) bytes: L::BytesMut,
+    bytes: L::BytesMut,
 }
 
 impl<L: Lending> Model for TrustedSliceReaderZeroCopyMut<L> {
@@ -51,7 +51,7 @@ impl<L: Lending> TrustedSliceReaderZeroCopyMut<L> {
 /// A window that lends nothing. To contracts it is the bytes that it has left.
 #[derive(Drop)]
 pub struct TrustedSliceReader<L: Lending> {
-    pub(crate) bytes: L::Bytes,
+    bytes: L::Bytes,
 }
 
 impl<L: Lending> Model for TrustedSliceReader<L> {

@@ -27,7 +27,8 @@ mod tests {
     use super::*;
     use std::test::Fail;
     use wincode_io::{
-        Cursor, Input, Lifetime, ReadError, TrustedSliceReader, TrustedSliceReaderZeroCopy, TrustedSliceReaderZeroCopyMut, fill_array,
+        Cursor, Input, Lifetime, ReadError, TrustedSliceReader, TrustedSliceReaderZeroCopy,
+        TrustedSliceReaderZeroCopyMut, fill_array,
     };
 
     const LENGTHS: [usize; 9] = [0, 1, 2, 3, 31, 32, 63, 99, 100];
@@ -61,7 +62,9 @@ mod tests {
     }
 
     /// The first byte of an input, lent by it.
-    fn first_lent<I: Input + Reader<I::Lends> + Drop>(mut input: I) -> ReadResult<<I::Lends as Lending>::Bytes> {
+    fn first_lent<I: Input + Reader<I::Lends> + Drop>(
+        mut input: I,
+    ) -> ReadResult<<I::Lends as Lending>::Bytes> {
         input.borrow_exact(1)
     }
 
@@ -83,14 +86,24 @@ mod tests {
     fn what_is_not_lent_is_refused(rt: HostRuntime) -> Result<(), Fail> {
         let bytes = [1u8, 2, 3, 4, 5];
         let mut reader = bytes.as_slice();
-        assert!(rt; matches!(&reader.borrow_exact_mut(1), Err(ReadError::UnsupportedZeroCopy)));
+        assert!(rt;
+            matches!(
+                &reader.borrow_exact_mut(1),
+                Err(ReadError::UnsupportedZeroCopy)
+            )
+        );
         let mut cursor = Cursor::new(bytes.as_slice());
         assert!(rt; matches!(&cursor.borrow_exact(0), Err(ReadError::UnsupportedZeroCopy)));
         let mut window = cursor.as_trusted_for(2)?;
         assert!(rt; matches!(&window.borrow_exact(0), Err(ReadError::UnsupportedZeroCopy)));
         let mut held = [1u8, 2, 3, 4, 5];
         let mut writing = held.as_mut_slice();
-        assert!(rt; matches!(&writing.borrow_exact_mut(6), Err(ReadError::ReadSizeLimit(6))));
+        assert!(rt;
+            matches!(
+                &writing.borrow_exact_mut(6),
+                Err(ReadError::ReadSizeLimit(6))
+            )
+        );
         assert_eq!(rt; writing.at_hand(), [1u8, 2, 3, 4, 5].as_slice());
         Ok(())
     }
@@ -160,16 +173,36 @@ mod tests {
             let mut reader = bytes;
             assert!(rt; shows_all(&mut reader, bytes)?, "a slice of {n}");
             assert!(rt; copies_all(&mut &*bytes, bytes)?, "a slice of {n}");
-            assert!(rt; shows_all(&mut TrustedSliceReaderZeroCopy::<Lifetime>::new(bytes), bytes)?);
-            assert!(rt; copies_all(&mut TrustedSliceReaderZeroCopy::<Lifetime>::new(bytes), bytes)?);
+            assert!(rt;
+                shows_all(
+                    &mut TrustedSliceReaderZeroCopy::<Lifetime>::new(bytes),
+                    bytes
+                )?
+            );
+            assert!(rt;
+                copies_all(
+                    &mut TrustedSliceReaderZeroCopy::<Lifetime>::new(bytes),
+                    bytes
+                )?
+            );
             assert!(rt; shows_all(&mut TrustedSliceReader::<Lifetime>::new(bytes), bytes)?);
             assert!(rt; copies_all(&mut TrustedSliceReader::<Lifetime>::new(bytes), bytes)?);
             assert!(rt; shows_all(&mut Cursor::new(bytes), bytes)?);
             assert!(rt; copies_all(&mut Cursor::new(bytes), bytes)?);
             assert!(rt; shows_all(&mut &mut all[..n], bytes)?);
             assert!(rt; copies_all(&mut &mut all[..n], bytes)?);
-            assert!(rt; shows_all(&mut TrustedSliceReaderZeroCopyMut::<Lifetime>::new(&mut all[..n]), bytes)?);
-            assert!(rt; copies_all(&mut TrustedSliceReaderZeroCopyMut::<Lifetime>::new(&mut all[..n]), bytes)?);
+            assert!(rt;
+                shows_all(
+                    &mut TrustedSliceReaderZeroCopyMut::<Lifetime>::new(&mut all[..n]),
+                    bytes
+                )?
+            );
+            assert!(rt;
+                copies_all(
+                    &mut TrustedSliceReaderZeroCopyMut::<Lifetime>::new(&mut all[..n]),
+                    bytes
+                )?
+            );
         }
         Ok(())
     }
@@ -184,7 +217,8 @@ mod tests {
             let Err(ReadError::ReadSizeLimit(filled)) = reader.fill_exact(n + 1) else {
                 panic!(rt; "filled past {n}");
             };
-            let Err(ReadError::ReadSizeLimit(copied)) = reader.copy_into_slice(&mut copy[..n + 1]) else {
+            let Err(ReadError::ReadSizeLimit(copied)) = reader.copy_into_slice(&mut copy[..n + 1])
+            else {
                 panic!(rt; "copied past {n}");
             };
             let Err(ReadError::ReadSizeLimit(consumed)) = reader.consume(n + 1) else {
@@ -205,11 +239,22 @@ mod tests {
         let mut array = [0; 1];
         copy_into_array::<Lifetime, &[u8], 1>(&mut reader, &mut array)?;
         assert_eq!(rt; (array, reader), ([1u8], [2u8, 3, 4, 5, 6, 7].as_slice()));
-        assert_eq!(rt; pairs::<Lifetime, &[u8]>(&mut reader)?, ([2u8, 3], [4u8, 5]));
+        assert_eq!(rt;
+            pairs::<Lifetime, &[u8]>(&mut reader)?,
+            ([2u8, 3], [4u8, 5])
+        );
         assert!(rt; reader.is_empty());
         let mut cursor = Cursor::new_at(bytes.as_slice(), 1);
-        assert_eq!(rt; pairs::<Lifetime, Cursor<&[u8]>>(&mut cursor)?, ([2u8, 3], [4u8, 5]));
-        assert!(rt; matches!(&pairs::<Lifetime, Cursor<&[u8]>>(&mut cursor), Err(ReadError::ReadSizeLimit(6))));
+        assert_eq!(rt;
+            pairs::<Lifetime, Cursor<&[u8]>>(&mut cursor)?,
+            ([2u8, 3], [4u8, 5])
+        );
+        assert!(rt;
+            matches!(
+                &pairs::<Lifetime, Cursor<&[u8]>>(&mut cursor),
+                Err(ReadError::ReadSizeLimit(6))
+            )
+        );
         assert_eq!(rt; cursor.position(), 7);
         Ok(())
     }
@@ -224,7 +269,12 @@ mod tests {
         let inner = window.borrow_exact_mut(1)?;
         inner[0] = 20;
         assert_eq!(rt; window.borrow_exact(1)?, [3u8].as_slice());
-        assert!(rt; matches!(&window.borrow_exact_mut(2), Err(ReadError::ReadSizeLimit(2))));
+        assert!(rt;
+            matches!(
+                &window.borrow_exact_mut(2),
+                Err(ReadError::ReadSizeLimit(2))
+            )
+        );
         drop(window);
         assert_eq!(rt; reader.borrow_exact(1)?, [5u8].as_slice());
         assert_eq!(rt; held, [10u8, 20, 3, 4, 5]);
@@ -246,7 +296,10 @@ mod tests {
         let mut held = [1u8, 2, 3];
         let mut writing = held.as_mut_slice();
         let front = <Lifetime as Lending>::take_front_mut(&mut writing, 2);
-        assert_eq!(rt; <Lifetime as Lending>::bytes_of_mut(&writing), [3u8].as_slice());
+        assert_eq!(rt;
+            <Lifetime as Lending>::bytes_of_mut(&writing),
+            [3u8].as_slice()
+        );
         assert_eq!(rt; <Lifetime as Lending>::share(front), [1u8, 2].as_slice());
         Ok(())
     }
