@@ -79,12 +79,12 @@ IsPeeked old b = IsTrue old.told → (more : List ℕ) × (old.rest ≡ b ∷ mo
 abbrev pub Fills : {T : Type 0} → Type 0 → ℕ → (T → ℕ) → ReaderState → ReaderState → Result T ReadError → Type 0
 Fills short n count old new r = Stays old new × IfOk r (λ s. count s ≤ new.ready) × IfErr r (IsRefusal short ⊥ n new)
 
--- refused, and not for want of bytes
-abbrev pub IsNotShort : ReadError → Type 0
-IsNotShort (ReadSizeLimit m) = ⊥
-IsNotShort UnsupportedZeroCopy = Unit
-IsNotShort OutOfMemory = Unit
-IsNotShort (Io e) = Unit
+-- refused because the borrow is not lent
+abbrev pub IsUnlent : ReadError → Type 0
+IsUnlent (ReadSizeLimit m) = ⊥
+IsUnlent UnsupportedZeroCopy = Unit
+IsUnlent OutOfMemory = ⊥
+IsUnlent (Io e) = ⊥
 
 -- the first n bytes, which are gone from the reader
 pub record Takes (n : ℕ) (old new : ReaderState) (bytes : List ℕ) : Type 0 where

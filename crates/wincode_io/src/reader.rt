@@ -2,7 +2,7 @@
 ghost use Rattle.std.specs.Prelude.{◌≡◌, ℕ, ◌<◌, ◌≤◌, List, length, ◌∷◌, take, IfOk, IfErr, OnOk, IsTrue};
 ghost use Rattle.std.specs.Io.BufRead.{Rests};
 ghost use types.Logic.{sem};
-ghost use Rattle.wincode_io.specs.Readers.{ReaderState, shared, for_writing, Readies, IsAtHand, Loses, IsShown, IsShort, IsRefused, Fills, IsPeeked, Arrays, IsNotShort, Takes, Lent, Windowed};
+ghost use Rattle.wincode_io.specs.Readers.{ReaderState, shared, for_writing, Readies, IsAtHand, Loses, IsShown, IsShort, IsRefused, Fills, IsPeeked, Arrays, IsUnlent, Takes, Lent, Windowed};
 ghost use Rattle.wincode_io.specs.Windows.{window_state};
 
 use super::error::{ReadError, ReadResult};
@@ -39,14 +39,14 @@ pub trait Reader<L: Lending> {
     /// `ReadSizeLimit(n)` where fewer bytes are left; then the reader stays where it is.
     fn borrow_exact(&mut self, n: usize) -> ReadResult<L::Bytes>
         ensures ok { IfOk result (λ s. Lent shared n (state self.old) (state self.new) (L.held s)) }
-        ensures unlent { (state self.old).lends < shared → IfErr result IsNotShort }
+        ensures unlent { (state self.old).lends < shared → IfErr result IsUnlent }
         ensures err { IfErr result (IsRefused (IsShort n (state self.old)) ((state self.old).lends < shared) n (state self.old) (state self.new)) };
 
     /// The next `n` bytes, lent for writing, as `borrow_exact` lends them. It is
     /// `UnsupportedZeroCopy` at any `n` where the reader doesn't lend its bytes for writing.
     fn borrow_exact_mut(&mut self, n: usize) -> ReadResult<L::BytesMut>
         ensures ok { IfOk result (λ s. Lent for_writing n (state self.old) (state self.new) (L.held_mut s)) }
-        ensures unlent { (state self.old).lends < for_writing → IfErr result IsNotShort }
+        ensures unlent { (state self.old).lends < for_writing → IfErr result IsUnlent }
         ensures err { IfErr result (IsRefused (IsShort n (state self.old)) ((state self.old).lends < for_writing) n (state self.old) (state self.new)) };
 
     /// A window of the next `n` bytes, which lends what this reader lends: a reader in memory that
