@@ -3,3 +3,4 @@ pub mod Readers
 pub mod Writers
 pub mod WriterLaws
 pub mod Cursors
+pub mod Windows

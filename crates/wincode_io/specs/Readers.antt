@@ -79,6 +79,32 @@ IsPeeked old b = IsTrue old.told → (more : List ℕ) × (old.rest ≡ b ∷ mo
 abbrev pub Fills : {T : Type 0} → Type 0 → ℕ → (T → ℕ) → ReaderState → ReaderState → Result T ReadError → Type 0
 Fills short n count old new r = Stays old new × IfOk r (λ s. count s ≤ new.ready) × IfErr r (IsRefusal short ⊥ n new)
 
+-- refused because the borrow is not lent
+abbrev pub IsUnlent : ReadError → Type 0
+IsUnlent (ReadSizeLimit m) = ⊥
+IsUnlent UnsupportedZeroCopy = Unit
+IsUnlent OutOfMemory = ⊥
+IsUnlent (Io e) = ⊥
+
+-- the first n bytes, which are gone from the reader
+pub record Takes (n : ℕ) (old new : ReaderState) (bytes : List ℕ) : Type 0 where
+  pub loses : Loses n old new
+  pub size : length bytes ≡ n
+  pub front : IsTrue old.told → bytes ≡ take n old.rest
+
+-- the first n bytes, which are gone from a reader that lends at least so
+pub record Lent (least n : ℕ) (old new : ReaderState) (bytes : List ℕ) : Type 0 where
+  pub lends : least ≤ old.lends
+  pub takes : Takes n old new bytes
+
+-- The first n bytes are gone from the reader, and a window of memory has them, which lends what the reader lends.
+pub record Windowed (n : ℕ) (old new window : ReaderState) : Type 0 where
+  pub lends : window.lends ≡ old.lends
+  pub steady : window.steady ≡ true
+  pub told : window.told ≡ true
+  pub ready : window.ready ≡ n
+  pub takes : Takes n old new window.rest
+
 -- an array of the first n bytes, which stay and are at hand
 pub record Arrays (n : ℕ) (old new : ReaderState) (a : List ℕ) : Type 0 where
   pub stays : Stays old new

@@ -1,6 +1,8 @@
 //! Cursors: a position in a slice or a vector.
 ghost use Rattle.std.specs.Prelude.{◌≡◌};
 
+mod reading;
+
 use std::marker::Model;
 
 /// A position, in bytes, in what it holds.

@@ -9,6 +9,7 @@ use std::mem;
 /// `L: Lending`, and `Reader<Lifetime<'de>>` at a concrete reader over borrowed bytes.
 pub trait Lending {
     type Bytes: Drop;
+
     type BytesMut: Drop;
 
     // The bytes that lent bytes hold.
@@ -46,6 +47,7 @@ pub struct Lifetime<'a>(&'a u8);
 
 impl<'a> Lending for Lifetime<'a> {
     type Bytes = &'a [u8];
+
     type BytesMut = &'a mut [u8];
 
     ghost held = { λ s. s.now };
@@ -85,5 +87,9 @@ pub trait Input {
 }
 
 impl<'a> Input for &'a [u8] {
+    type Lends = Lifetime<'a>;
+}
+
+impl<'a> Input for &'a mut [u8] {
     type Lends = Lifetime<'a>;
 }

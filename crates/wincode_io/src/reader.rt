@@ -2,15 +2,18 @@
 ghost use Rattle.std.specs.Prelude.{◌≡◌, ℕ, ◌<◌, ◌≤◌, List, length, ◌∷◌, take, IfOk, IfErr, OnOk, IsTrue};
 ghost use Rattle.std.specs.Io.BufRead.{Rests};
 ghost use types.Logic.{sem};
-ghost use Rattle.wincode_io.specs.Readers.{ReaderState, Readies, IsAtHand, Loses, IsShown, IsShort, IsRefused, Fills, IsPeeked, Arrays};
+ghost use Rattle.wincode_io.specs.Readers.{ReaderState, shared, for_writing, Readies, IsAtHand, Loses, IsShown, IsShort, IsRefused, Fills, IsPeeked, Arrays, IsUnlent, Takes, Lent, Windowed};
+ghost use Rattle.wincode_io.specs.Windows.{window_state};
 
 use super::error::{ReadError, ReadResult};
 use super::lending::Lending;
+use super::window::ReadWindow;
 
 /// Gives bytes in order.
 ///
-/// An implementation writes `fill`, `at_hand` and `consume_unchecked`; the other calls have bodies,
-/// which it may replace. A call that is refused leaves the bytes that the reader has.
+/// An implementation writes `fill`, `at_hand`, `consume_unchecked`, `borrow_exact`,
+/// `borrow_exact_mut` and `as_trusted_for`; the other calls have bodies, which it may replace. A call
+/// that is refused leaves the bytes that the reader has.
 pub trait Reader<L: Lending> {
     // Its bytes, how many of them are at hand, and what no call changes.
     ghost state: { Self → ReaderState };
@@ -30,6 +33,28 @@ pub trait Reader<L: Lending> {
     fn consume_unchecked(&mut self, n: usize)
         requires { n ≤ (state self.old).ready }
         ensures { Loses n (state self.old) (state self.new) };
+
+    /// The next `n` bytes, lent for as long as what the reader reads from lives; the reader goes on by
+    /// `n` bytes. It is `UnsupportedZeroCopy` at any `n` where the reader lends nothing, and
+    /// `ReadSizeLimit(n)` where fewer bytes are left; then the reader stays where it is.
+    fn borrow_exact(&mut self, n: usize) -> ReadResult<L::Bytes>
+        ensures ok { IfOk result (λ s. Lent shared n (state self.old) (state self.new) (L.held s)) }
+        ensures unlent { (state self.old).lends < shared → IfErr result IsUnlent }
+        ensures err { IfErr result (IsRefused (IsShort n (state self.old)) ((state self.old).lends < shared) n (state self.old) (state self.new)) };
+
+    /// The next `n` bytes, lent for writing, as `borrow_exact` lends them. It is
+    /// `UnsupportedZeroCopy` at any `n` where the reader doesn't lend its bytes for writing.
+    fn borrow_exact_mut(&mut self, n: usize) -> ReadResult<L::BytesMut>
+        ensures ok { IfOk result (λ s. Lent for_writing n (state self.old) (state self.new) (L.held_mut s)) }
+        ensures unlent { (state self.old).lends < for_writing → IfErr result IsUnlent }
+        ensures err { IfErr result (IsRefused (IsShort n (state self.old)) ((state self.old).lends < for_writing) n (state self.old) (state self.new)) };
+
+    /// A window of the next `n` bytes, which lends what this reader lends: a reader in memory that
+    /// refuses to go past them. This reader goes on by `n` bytes at once, whatever the window reads.
+    /// It is `ReadSizeLimit(n)` where fewer bytes are left, and then the reader stays where it is.
+    fn as_trusted_for(&mut self, n: usize) -> ReadResult<ReadWindow<L>>
+        ensures ok { IfOk result (λ w. Windowed n (state self.old) (state self.new) (window_state w)) }
+        ensures err { IfErr result (IsRefused (IsShort n (state self.old)) ⊥ n (state self.old) (state self.new)) };
 
     /// The first `n` bytes, or all that are left where there are fewer. The reader stays where it is.
     fn fill_buf(&mut self, n: usize) -> ReadResult<&[u8]>
@@ -76,6 +101,20 @@ pub trait Reader<L: Lending> {
             Err(ReadError::ReadSizeLimit(n))
         }
     }
+
+    /// Copies the next `dst.len()` bytes into `dst`, and goes on by as many; `ReadSizeLimit` of that
+    /// length where fewer are left, and then it stays, and `dst` is as it was.
+    fn copy_into_slice(&mut self, dst: &mut [u8]) -> ReadResult<()>
+        ensures ok { OnOk result (Takes (length dst.old) (state self.old) (state self.new) dst.new) }
+        ensures unchanged { IfErr result (λ e. dst.new ≡ dst.old) }
+        ensures err { IfErr result (IsRefused (IsShort (length dst.old) (state self.old)) ⊥ (length dst.old) (state self.old) (state self.new)) }
+    {
+        let n = dst.len();
+        let bytes = self.fill_exact(n)?;
+        dst.copy_from_slice(bytes);
+        self.consume_unchecked(n);
+        Ok(())
+    }
 }
 
 /// The first `N` bytes as an array; `ReadSizeLimit(N)` where fewer are left. The reader stays where
@@ -88,4 +127,19 @@ pub fn fill_array<L: Lending, R: Reader<L>, const N: usize>(reader: &mut R) -> R
     let mut array = [0; N];
     array.copy_from_slice(bytes);
     Ok(array)
+}
+
+/// Copies the next `N` bytes into `dst`, and goes on by as many; `ReadSizeLimit(N)` where fewer are
+/// left, and then the reader stays, and `dst` is as it was.
+pub fn copy_into_array<L: Lending, R: Reader<L>, const N: usize>(
+    reader: &mut R,
+    dst: &mut [u8; N],
+) -> ReadResult<()>
+    ensures ok { OnOk result (Takes N (R.state reader.old) (R.state reader.new) dst.new) }
+    ensures unchanged { IfErr result (λ e. dst.new ≡ dst.old) }
+    ensures err { IfErr result (IsRefused (IsShort N (R.state reader.old)) ⊥ N (R.state reader.old) (R.state reader.new)) }
+{
+    *dst = fill_array::<L, R, N>(reader)?;
+    reader.consume_unchecked(N);
+    Ok(())
 }

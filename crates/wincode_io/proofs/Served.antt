@@ -1,0 +1,44 @@
+-- When a reader doesn't refuse.
+use Rattle.std.proofs.Common.{◌≡◌, ℕ, ◌-◌, ◌<◌, ◌≤◌, true, List, ◌++◌, length, take, IsTrue, arith, ◌∙◌, ap, length-append, length-take}
+use Rattle.wincode_io.specs.declared.error.ReadError.{ReadError}
+use Rattle.wincode_io.specs.declared.error.ReadError.TheVariants.{ReadSizeLimit, UnsupportedZeroCopy, Io, OutOfMemory}
+use Rattle.wincode_io.specs.Readers.{ReaderState, Stays, Loses, Windowed, IsShort, IsRefusal}
+
+-- a told reader in memory, with n bytes left
+pub record Has (n : ℕ) (s : ReaderState) : Type 0 where
+  pub steady : s.steady ≡ true
+  pub told : IsTrue s.told
+  pub size : length s.rest ≡ n
+
+-- a window has the bytes that it was cut for
+pub windowed : {n : ℕ} {old new window : ReaderState} → Windowed n old new window → Has n window
+windowed w = record { steady = w.steady; told = w.told; size = w.takes.size }
+
+-- it has as many after a call that stays
+pub stayed : {n : ℕ} {old new : ReaderState} → Has n old → Stays old new → Has n new
+stayed has stays = record {
+  steady = stays.kept.steady ∙ has.steady;
+  told = stays.kept.told ∙ has.told;
+  size = ap length (stays.rest has.told) ∙ has.size;
+}
+
+-- how many bytes are left after a front of m
+split_length : (n m : ℕ) (xs ys : List ℕ) → length xs ≡ n → m ≤ length xs → xs ≡ take m xs ++ ys → length ys ≡ n - m
+split_length n m xs ys size enough e =
+    let all = ap length e in let h = simp length-append at all in omega (arith, length-take {A = ℕ})
+
+-- it has m fewer after a call that takes m
+pub lost : {n m : ℕ} {old new : ReaderState} → Has n old → Loses m old new → Has (n - m) new
+lost {n} {m} {old} {new} has loses = record {
+  steady = loses.kept.steady ∙ has.steady;
+  told = loses.kept.told ∙ has.told;
+  size = let h = loses.rest has.told in split_length n m old.rest new.rest has.size h.0 h.1;
+}
+
+-- such a reader serves a call for m of its bytes
+pub served : (m : ℕ) {n : ℕ} (old new : ReaderState) (e : ReadError) → Has n old → m ≤ n → Stays old new
+    → IsRefusal (IsShort m old) ⊥ m new e → ⊥
+served m old new (ReadSizeLimit k) has enough stays refusal = let short : length old.rest < m = refusal.0 has.told in omega arith
+served m old new UnsupportedZeroCopy has enough stays refusal = refusal
+served m old new OutOfMemory has enough stays refusal = let kept = stays.kept.steady in cc
+served m old new (Io e) has enough stays refusal = let kept = stays.kept.steady in let device = refusal.0 in cc
