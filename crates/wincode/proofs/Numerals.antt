@@ -7,8 +7,13 @@ use Rattle.wincode.specs.Numbers.{le, worth}
 use Rattle.wincode.specs.NumberLaws.{le-from_le_bytes, from_le_bytes-worth, worth_below, to_le_bytes-le, length-le}
 use Rattle.wincode_io.specs.Readers.{ReaderState}
 use Rattle.wincode_io.specs.Writers.{WriterLaws, IsWriteRefused}
-use Rattle.wincode.specs.Leaves.{number_read, number_write}
-use Rattle.wincode.specs.Outcomes.{Puts, Refuses, Takes, TakesNumber, IsDenied, Wrote, Unwritten}
+use Rattle.wincode.specs.Leaves.{number_read, number_write, signed_read, signed_write}
+use Rattle.wincode.specs.LeafLaws.{signed_of, as_unsigned}
+use Rattle.wincode.specs.Sequences.{gives_map, refuses_map}
+use Rattle.std.specs.Prelude.{ℤ}
+use Rattle.std.specs.Int.{cast_unsigned, cast_signed}
+use mir.Val.{bits}
+use Rattle.wincode.specs.Outcomes.{Gives, Puts, Refuses, Takes, TakesNumber, IsDenied, Wrote, Unwritten}
 use Rattle.wincode.specs.WriteSequences.{text_wrote, text_unwritten}
 use Rattle.wincode.proofs.Sized.{takes_gives, denied_refuses}
 use Rattle.wincode.specs.declared.error.ReadError.{ReadError}
@@ -36,8 +41,12 @@ module _ (w : Width) (some : 0 < byte_len w) where
     let is : (v < 256 ^ byte_len w) × (bytes ≡ le (byte_len w) v) = subst (λ n. (n < 256 ^ byte_len w) × (bytes ≡ le (byte_len w) n)) (sym e) (number_text bytes small t.size) in
     (is.0, subst (Takes (byte_len w) old new) is.1 t)
 
-pub number_puts : (k : ℕ) (any : Bool) (old new : ReaderState) (v : ℕ) → TakesNumber k old new v → Puts (number_read k any).reads (λ n. n) old new (Some v)
-number_puts k any old new v t = record { value = v; is = refl; gives = takes_gives (number_read k any).reads k old new (le k v) v t.1 (t.0, refl) }
+pub number_gives : (k : ℕ) (any : Bool) (old new : ReaderState) (v : ℕ) → TakesNumber k old new v → Gives (number_read k any).reads old new v
+number_gives k any old new v t = takes_gives (number_read k any).reads k old new (le k v) v t.1 (t.0, refl)
+
+-- the destination has a number that was read
+pub number_puts : {V : Type 0} (reads : List ℕ → V → Type 0) (old new : ReaderState) (v : V) → Gives reads old new v → Puts reads (λ n. n) old new (Some v)
+number_puts reads old new v g = record { value = v; is = refl; gives = g }
 
 -- a number was refused for its k bytes
 pub number_refuses : (k : ℕ) (any : Bool) (old new : ReaderState) (e : ReadError) → IsDenied k old new e → Refuses (number_read k any).reads 0 true old new e
@@ -54,3 +63,20 @@ module _ {S : Type 0} (put : S → List ℕ → S) (room : S → ℕ) (w : Width
 -- the one byte of a byte
 pub byte_text : (v : ℕ) → v < 256 → v ∷ [] ≡ to_le_bytes w8 v
 byte_text v small = ap (λ b. b ∷ []) (omega arith)
+
+-- ---- signed numbers, by the unsigned number that each stands as
+
+module _ (w : Width) (pow : 256 ^ byte_len w ≡ 2 ^ bits w) (any : Bool) where
+  pub signed_gives : (old new : ReaderState) (n : ℕ) → Gives (number_read (byte_len w) any).reads old new n → Gives (signed_read w any).reads old new (cast_signed w n)
+  signed_gives old new n g = gives_map (number_read (byte_len w) any).reads (signed_read w any).reads old new n (cast_signed w n) (λ b r. signed_of w pow any b n r) g
+
+  pub signed_refuses : (old new : ReaderState) (e : ReadError) → Refuses (number_read (byte_len w) any).reads 0 true old new e → Refuses (signed_read w any).reads 0 true old new e
+  signed_refuses old new e r = refuses_map (number_read (byte_len w) any).reads (signed_read w any).reads 0 true old new e (λ b z t. (cast_unsigned w z, as_unsigned w pow any b z t)) r
+
+module _ {S : Type 0} (put : S → List ℕ → S) (room : S → ℕ) (w : Width) (any : Bool) where
+  pub signed_wrote : (old new : S) (z : ℤ) (text : List ℕ) → text ≡ to_le_bytes w (cast_unsigned w z) → (length text ≤ room old) × (new ≡ put old text) → Wrote put room (signed_write w any) old new z
+  signed_wrote old new z text e d = let is = e ∙ to_le_bytes-le w (cast_unsigned w z) in text_wrote put room (signed_write w any) z text old new tt is (ap length is ∙ length-le (byte_len w) (cast_unsigned w z)) d
+
+  pub signed_unwritten : WriterLaws put room → (old new : S) (z : ℤ) (text : List ℕ) (steady : Bool) (failures : ℕ) (e : IoWriteError) → text ≡ to_le_bytes w (cast_unsigned w z)
+    → IsWriteRefused old new (room old < length text) (length text) steady failures e → Unwritten put room (signed_write w any) old new z steady failures (writing.Io e)
+  signed_unwritten laws old new z text steady failures e f d = let is = f ∙ to_le_bytes-le w (cast_unsigned w z) in text_unwritten put room (signed_write w any) z text old new steady failures e laws is (ap length is ∙ length-le (byte_len w) (cast_unsigned w z)) d
