@@ -1,5 +1,5 @@
 -- What numbers read and write, by the words of std.
-use Rattle.std.proofs.Common.{◌≡◌, ◌∙◌, sym, ap, subst, ℕ, ◌<◌, ◌≤◌, ◌^◌, Bool, List, [], ◌∷◌, ◌%◌, w8, length, get_or, refl, arith, Some, false, true}
+use Rattle.std.proofs.Common.{◌≡◌, ◌∙◌, sym, ap, subst, ℕ, ◌<◌, ◌≤◌, nat_eq, zero, suc, ◌^◌, Bool, List, [], ◌∷◌, ◌++◌, ◌%◌, w8, length, get_or, refl, arith, Some, false, true}
 use Rattle.std.proofs.lemmas.List.Elements.{All-from_get_or}
 use Rattle.std.specs.Int.{to_le_bytes, from_le_bytes, Width, byte_len}
 use Rattle.wincode_io.specs.Bytes.{IsBytes}
@@ -7,16 +7,17 @@ use Rattle.wincode.specs.Numbers.{le, worth}
 use Rattle.wincode.specs.NumberLaws.{le-from_le_bytes, from_le_bytes-worth, worth_below, to_le_bytes-le, length-le}
 use Rattle.wincode_io.specs.Readers.{ReaderState}
 use Rattle.wincode_io.specs.Writers.{WriterLaws, IsWriteRefused}
-use Rattle.wincode.specs.Leaves.{number_read, number_write, signed_read, signed_write}
+use Rattle.wincode.specs.Leaves.{number_read, number_write, signed_read, signed_write, bool_byte, bool_read, unit_read}
 use Rattle.wincode.specs.LeafLaws.{signed_of, as_unsigned}
 use Rattle.wincode.specs.Sequences.{gives_map, refuses_map}
 use Rattle.std.specs.Prelude.{ℤ}
 use Rattle.std.specs.Int.{cast_unsigned, cast_signed}
 use mir.Val.{bits}
-use Rattle.wincode.specs.Outcomes.{Gives, Puts, Refuses, Takes, TakesNumber, IsDenied, Wrote, Unwritten}
+use Rattle.wincode.specs.Outcomes.{Gives, Puts, Refuses, Takes, TakesNumber, Accepts, IsDenied, Wrote, Unwritten}
 use Rattle.wincode.specs.WriteSequences.{text_wrote, text_unwritten}
 use Rattle.wincode.proofs.Sized.{takes_gives, denied_refuses}
 use Rattle.wincode.specs.declared.error.ReadError.{ReadError}
+use Rattle.wincode.specs.declared.error.ReadError.TheVariants as reading
 use Rattle.wincode.specs.declared.error.WriteError.TheVariants as writing
 use Rattle.wincode_io.specs.declared.error.WriteError.{WriteError as IoWriteError}
 
@@ -80,3 +81,44 @@ module _ {S : Type 0} (put : S → List ℕ → S) (room : S → ℕ) (w : Width
   pub signed_unwritten : WriterLaws put room → (old new : S) (z : ℤ) (text : List ℕ) (steady : Bool) (failures : ℕ) (e : IoWriteError) → text ≡ to_le_bytes w (cast_unsigned w z)
     → IsWriteRefused old new (room old < length text) (length text) steady failures e → Unwritten put room (signed_write w any) old new z steady failures (writing.Io e)
   signed_unwritten laws old new z text steady failures e f d = let is = f ∙ to_le_bytes-le w (cast_unsigned w z) in text_unwritten put room (signed_write w any) z text old new steady failures e laws is (ap length is ∙ length-le (byte_len w) (cast_unsigned w z)) d
+
+-- ---- booleans and values without bytes
+
+pub unit_puts : {X : Type 0} (s : ReaderState) (x : X) → Puts unit_read.reads (λ _. tt) s s (Some x)
+unit_puts s x = record { value = x; is = refl; gives = record { kept = record { lends = refl; steady = refl; told = refl }; found = λ t. record { text = []; is_read = refl; joins = refl } } }
+
+one_byte : (v : ℕ) → v < 256 → le 1 v ≡ v ∷ []
+unfolding le
+one_byte v small = ap (λ b. b ∷ []) (omega arith)
+
+-- the byte of a number of one byte was taken
+pub byte_taken : (old new : ReaderState) (v : ℕ) → TakesNumber 1 old new v → Takes 1 old new (v ∷ [])
+byte_taken old new v t = subst (Takes 1 old new) (one_byte v t.0) t.1
+
+pub bool_puts : (old new : ReaderState) (v : ℕ) (b : Bool) → TakesNumber 1 old new v → v ≡ bool_byte b → Puts bool_read.reads (λ n. n) old new (Some b)
+bool_puts old new v b t e = record { value = b; is = refl; gives = takes_gives bool_read.reads 1 old new (v ∷ []) b (byte_taken old new v t) (ap (λ n. n ∷ []) e) }
+
+small_bool : (b : Bool) → bool_byte b ≤ 1
+small_bool false = omega arith
+small_bool true = omega arith
+
+not_bool : (old new : ReaderState) (v : ℕ) → 1 < v → TakesNumber 1 old new v → Accepts bool_read.reads old → ⊥
+not_bool old new v big t a =
+  let f = a.front.found in
+  let taken = byte_taken old new v t in
+  let e : bool_byte a.front.value ∷ a.front.rest ≡ v ∷ new.rest = ap (λ x. x ++ a.front.rest) (sym f.is_read) ∙ sym f.joins ∙ taken.front a.told in
+  let same : bool_byte a.front.value ≡ v = cc in
+  absurd (omega (arith, small_bool a.front.value, same))
+
+pub bool_refuses : (old new : ReaderState) (v : ℕ) → 1 < v → TakesNumber 1 old new v → Refuses bool_read.reads 0 true old new (reading.InvalidBoolEncoding v)
+bool_refuses old new v big t =
+  let taken = byte_taken old new v t in
+  record { kept = taken.kept; left = λ told. record { front = v ∷ []; joins = taken.front told }; due = not_bool old new v big t }
+
+pub bool_denied : (old new : ReaderState) (e : ReadError) → IsDenied 1 old new e → Refuses bool_read.reads 0 true old new e
+bool_denied old new e d = denied_refuses bool_read.reads 1 (λ b v r. ap length r) 0 true old new e d
+
+pub is_bool : (v : ℕ) → v ≤ 1 → v ≡ bool_byte (nat_eq v 1)
+is_bool zero h = refl
+is_bool (suc zero) h = refl
+is_bool (suc (suc v)) h = absurd (omega arith)

@@ -1,10 +1,10 @@
 -- The laws of leaves.
-use Rattle.std.proofs.Common.{◌≡◌, ◌∙◌, sym, ap, subst, ℕ, ◌<◌, ◌≤◌, ◌^◌, Bool, true, List, [], ◌∷◌, ◌++◌, length, take, refl, arith, append_assoc, length-append, length-take-le, IsTrue}
+use Rattle.std.proofs.Common.{◌≡◌, ◌∙◌, sym, ap, subst, ℕ, ◌<◌, ◌≤◌, ◌^◌, Bool, true, false, List, [], ◌∷◌, ◌++◌, length, take, refl, arith, append_assoc, length-append, length-take-le, IsTrue}
 use Rattle.wincode_io.specs.Bytes.{IsBytes}
 use Rattle.wincode.specs.Numbers.{le, worth}
 use Rattle.wincode.specs.NumberLaws.{length-le, worth-le, le-worth, worth_below}
 use Rattle.wincode.specs.Grammar.{ReadGrammar, WriteGrammar, ReadLaws, WriteLaws, ReadsBack}
-use Rattle.wincode.specs.Leaves.{number_read, number_write, signed_read, signed_write}
+use Rattle.wincode.specs.Leaves.{number_read, number_write, signed_read, signed_write, bool_byte, bool_read, bool_write, unit_read, unit_write}
 use Rattle.std.specs.Prelude.{ℤ, FitsSigned}
 use Rattle.std.specs.Int.{Width, byte_len, cast_unsigned, cast_signed}
 use Rattle.std.proofs.lemmas.Int.{of_z-to_z, to_z-of_z}
@@ -100,3 +100,60 @@ signed_reads_back w any = record {
   same_prealloc = refl;
   same_meta = refl;
 }
+
+-- ---- booleans and values without bytes
+
+bool_same : (v w : Bool) → bool_byte v ≡ bool_byte w → v ≡ w
+bool_same false false e = refl
+bool_same false true e = absurd (omega arith)
+bool_same true false e = absurd (omega arith)
+bool_same true true e = refl
+
+bool_one : (a b x y : List ℕ) (v w : Bool) → a ≡ bool_byte v ∷ [] → b ≡ bool_byte w ∷ [] → a ++ x ≡ b ++ y → (a ≡ b) × (v ≡ w)
+bool_one a b x y v w p q e =
+  let same = same_front a b x y (ap length p ∙ sym (ap length q)) e in
+  let heads : bool_byte v ∷ [] ≡ bool_byte w ∷ [] = sym p ∙ same ∙ q in
+  let one : bool_byte v ≡ bool_byte w = cc in
+  (same, bool_same v w one)
+
+pub bool_read_laws : ReadLaws (λ v. Unit {0}) bool_read
+bool_read_laws = record {
+  one_front = bool_one;
+  is_proper = λ b v r. tt;
+  statics = (λ b v r. ap length r, λ z b all e. absurd (cc z));
+  prealloc = omega arith;
+}
+
+pub bool_write_laws : WriteLaws (λ v. Unit {0}) (λ v. v) bool_write
+bool_write_laws = record {
+  has_text = λ v c. (bool_byte v ∷ [], refl);
+  text_size = λ v b t. ap length t;
+  can_fit = λ v f. f;
+  statics = λ v p. (tt, refl);
+}
+
+pub bool_reads_back : ReadsBack (λ v. Unit {0}) (λ v. v) bool_write (λ v. v) bool_read
+bool_reads_back = record { back = λ x b p t f. t; within = λ b x r. tt; same_prealloc = refl; same_meta = refl }
+
+nothing_of : (b : List ℕ) → length b ≡ 0 → b ≡ []
+nothing_of [] e = refl
+nothing_of (c ∷ b) e = absurd (omega arith)
+
+pub unit_read_laws : ReadLaws (λ v. Unit {0}) unit_read
+unit_read_laws = record {
+  one_front = λ a b x y v w p q e. (p ∙ sym q, refl);
+  is_proper = λ b v r. tt;
+  statics = (λ b v r. ap length r, λ z b all e. (tt, nothing_of b e));
+  prealloc = omega arith;
+}
+
+pub unit_write_laws : {X : Type 0} → WriteLaws {X = X} (λ x. Unit {0}) (λ x. tt) unit_write
+unit_write_laws = record {
+  has_text = λ v c. ([], refl);
+  text_size = λ v b t. ap length t;
+  can_fit = λ v f. f;
+  statics = λ x p. (tt, refl);
+}
+
+pub unit_reads_back : {X : Type 0} → ReadsBack {X = X} (λ x. Unit {0}) (λ x. tt) unit_write (λ x. tt) unit_read
+unit_reads_back = record { back = λ x b p t f. t; within = λ b x r. tt; same_prealloc = refl; same_meta = refl }

@@ -1,21 +1,22 @@
 //! Schemas without parts.
-ghost use Rattle.std.specs.Prelude.{◌≡◌, ℕ, ℤ, ◌<◌, ◌≤◌, ◌^◌, FitsSigned, true, false, IfOk, IfErr, OnOk, OnErr, refl};
+ghost use Rattle.std.specs.Prelude.{◌≡◌, ℕ, ℤ, ◌<◌, ◌≤◌, ◌^◌, FitsSigned, Bool, true, false, IfOk, IfErr, OnOk, OnErr, refl};
 ghost use Rattle.std.specs.Int.{w8, w16, w32, w64, w128};
 ghost use Rattle.std.proofs.Common.{lit≤};
-ghost use Rattle.wincode.specs.Leaves.{number_read, number_write, signed_read, signed_write};
-ghost use Rattle.wincode.specs.LeafLaws.{number_read_laws, number_write_laws, number_reads_back, signed_read_laws, signed_write_laws, signed_reads_back};
-ghost use Rattle.wincode.specs.Outcomes.{Puts, Refuses, IsDenied};
+ghost use Rattle.wincode.specs.Leaves.{number_read, number_write, signed_read, signed_write, bool_read, bool_write, unit_read, unit_write};
+ghost use Rattle.wincode.specs.LeafLaws.{number_read_laws, number_write_laws, number_reads_back, signed_read_laws, signed_write_laws, signed_reads_back, bool_read_laws, bool_write_laws, bool_reads_back, unit_read_laws, unit_write_laws, unit_reads_back};
+ghost use Rattle.wincode.specs.Outcomes.{Puts, Refuses, IsDenied, IsBoolRefused};
 
-use crate::error::{ReadResult, WriteResult};
+use crate::error::{ReadResult, WriteResult, invalid_bool_encoding};
 use crate::io::{Lending, Reader, Writer};
 use crate::meta::TypeMeta;
 use crate::schema::numbers::{
-    put_i128, put_i16, put_i32, put_i64, put_i8, put_isize, put_u128, put_u16, put_u32, put_u64,
+    put_i128, put_nothing, put_i16, put_i32, put_i64, put_i8, put_isize, put_u128, put_u16, put_u32, put_u64,
     put_u8, put_usize, take_i128, take_i16, take_i32, take_i64, take_i8, take_u128, take_u16,
     take_u32, take_u64, take_u8,
 };
 use crate::schema::{RoundTrip, SchemaRead, SchemaWrite};
 use std::alloc::Global;
+use std::marker::PhantomData;
 
 impl SchemaWrite for u8 {
     type Src = u8;
@@ -771,4 +772,189 @@ impl<L: Lending> SchemaRead<L> for isize {
 
 impl<L: Lending> RoundTrip<L> for isize {
     ghost reads_back = { signed_reads_back w64 false };
+}
+
+impl SchemaWrite for bool {
+    type Src = bool;
+
+    ghost Value = { Bool };
+
+    ghost seen = { λ v. v };
+
+    ghost proper = { λ v. Unit {0} };
+
+    ghost writing = { bool_write };
+
+    fn type_meta() -> TypeMeta {
+        TypeMeta::Static { size: 1, zero_copy: false }
+    }
+
+    fn size_of(_src: &bool) -> WriteResult<usize> {
+        Ok(1)
+    }
+
+    fn write<W: Writer>(writer: &mut W, src: &bool) -> WriteResult<()> {
+        let byte = if *src { 1 } else { 0 };
+        writer.write(&[byte])?;
+        Ok(())
+    }
+
+    ghost write_laws = { bool_write_laws };
+}
+
+impl<L: Lending> SchemaRead<L> for bool {
+    type Dst = bool;
+
+    ghost Value = { Bool };
+
+    ghost seen = { λ v. v };
+
+    ghost proper = { λ v. Unit {0} };
+
+    ghost reading = { bool_read };
+
+    fn type_meta() -> TypeMeta {
+        TypeMeta::Static { size: 1, zero_copy: false }
+    }
+
+    fn prealloc_size() -> usize {
+        1
+    }
+
+    /// A byte that is neither 0 nor 1 is consumed, and is `InvalidBoolEncoding`.
+    fn read<R: Reader<L>>(_alloc: Global, reader: &mut R, dst: &mut Option<bool>) -> ReadResult<()>
+        ensures ok { OnOk result (Puts bool_read.reads (λ v. v) (R.state reader.old) (R.state reader.new) dst.new) }
+        ensures err { IfErr result (Refuses bool_read.reads 0 true (R.state reader.old) (R.state reader.new)) }
+        ensures same { OnErr result (dst.new ≡ dst.old) }
+        ensures refused { IfErr result (IsBoolRefused (R.state reader.old) (R.state reader.new)) }
+    {
+        let byte = take_u8::<L, R>(reader)?;
+        if byte > 1 {
+            return Err(invalid_bool_encoding(byte));
+        }
+        *dst = Some(byte == 1);
+        Ok(())
+    }
+
+    ghost read_laws = { bool_read_laws };
+}
+
+impl<L: Lending> RoundTrip<L> for bool {
+    ghost reads_back = { bool_reads_back };
+}
+
+impl SchemaWrite for () {
+    type Src = ();
+
+    ghost Value = { Unit };
+
+    ghost seen = { λ _. tt };
+
+    ghost proper = { λ _. Unit {0} };
+
+    ghost writing = { unit_write };
+
+    fn type_meta() -> TypeMeta {
+        TypeMeta::Static { size: 0, zero_copy: true }
+    }
+
+    fn size_of(_src: &()) -> WriteResult<usize> {
+        Ok(0)
+    }
+
+    fn write<W: Writer>(writer: &mut W, _src: &()) -> WriteResult<()> {
+        put_nothing::<W>(writer)
+    }
+
+    ghost write_laws = { unit_write_laws };
+}
+
+#[tactic(auto, using(crate::proofs::Numerals::unit_puts))]
+impl<L: Lending> SchemaRead<L> for () {
+    type Dst = ();
+
+    ghost Value = { Unit };
+
+    ghost seen = { λ _. tt };
+
+    ghost proper = { λ _. Unit {0} };
+
+    ghost reading = { unit_read };
+
+    fn type_meta() -> TypeMeta {
+        TypeMeta::Static { size: 0, zero_copy: true }
+    }
+
+    fn prealloc_size() -> usize {
+        1
+    }
+
+    fn read<R: Reader<L>>(_alloc: Global, _reader: &mut R, dst: &mut Option<()>) -> ReadResult<()> {
+        *dst = Some(());
+        Ok(())
+    }
+
+    ghost read_laws = { unit_read_laws };
+}
+
+impl<L: Lending> RoundTrip<L> for () {
+    ghost reads_back = { unit_reads_back };
+}
+
+impl<T> SchemaWrite for PhantomData<T> {
+    type Src = PhantomData<T>;
+
+    ghost Value = { Unit };
+
+    ghost seen = { λ _. tt };
+
+    ghost proper = { λ _. Unit {0} };
+
+    ghost writing = { unit_write };
+
+    fn type_meta() -> TypeMeta {
+        TypeMeta::Static { size: 0, zero_copy: true }
+    }
+
+    fn size_of(_src: &PhantomData<T>) -> WriteResult<usize> {
+        Ok(0)
+    }
+
+    fn write<W: Writer>(writer: &mut W, _src: &PhantomData<T>) -> WriteResult<()> {
+        put_nothing::<W>(writer)
+    }
+
+    ghost write_laws = { unit_write_laws };
+}
+
+#[tactic(auto, using(crate::proofs::Numerals::unit_puts))]
+impl<L: Lending, T> SchemaRead<L> for PhantomData<T> {
+    type Dst = PhantomData<T>;
+
+    ghost Value = { Unit };
+
+    ghost seen = { λ _. tt };
+
+    ghost proper = { λ _. Unit {0} };
+
+    ghost reading = { unit_read };
+
+    fn type_meta() -> TypeMeta {
+        TypeMeta::Static { size: 0, zero_copy: true }
+    }
+
+    fn prealloc_size() -> usize {
+        1
+    }
+
+    fn read<R: Reader<L>>(_alloc: Global, _reader: &mut R, dst: &mut Option<PhantomData<T>>) -> ReadResult<()> {
+        *dst = Some(PhantomData);
+        Ok(())
+    }
+
+    ghost read_laws = { unit_read_laws };
+}
+
+impl<L: Lending, T> RoundTrip<L> for PhantomData<T> {
+    ghost reads_back = { unit_reads_back };
 }

@@ -1,7 +1,7 @@
 //! Bytes and numbers taken from a reader, and numbers given to a writer.
 ghost use Rattle.std.specs.Prelude.{◌≡◌, true, false, IfOk, IfErr, OnOk};
 ghost use Rattle.std.specs.Int.{w8, w16, w32, w64, w128};
-ghost use Rattle.wincode.specs.Leaves.{number_read, number_write, signed_read, signed_write};
+ghost use Rattle.wincode.specs.Leaves.{number_read, number_write, signed_read, signed_write, unit_write};
 ghost use Rattle.wincode.specs.Outcomes.{Gives, Refuses, Takes, TakesNumber, IsDenied, Wrote, Unwritten};
 
 use crate::error::{ReadResult, WriteResult};
@@ -239,5 +239,15 @@ pub(crate) fn put_isize<W: Writer>(writer: &mut W, number: isize) -> WriteResult
     ensures kept { W.kept writer.new ≡ W.kept writer.old }
 {
     writer.write(&number.to_le_bytes())?;
+    Ok(())
+}
+
+/// Writes nothing.
+pub(crate) fn put_nothing<W: Writer>(writer: &mut W) -> WriteResult<()>
+    ensures ok { OnOk result (Wrote W.put W.room unit_write (W.state writer.old) (W.state writer.new) tt) }
+    ensures err { IfErr result (Unwritten W.put W.room unit_write (W.state writer.old) (W.state writer.new) tt (W.steady (W.kept writer.old)) (W.failures writer.new)) }
+    ensures kept { W.kept writer.new ≡ W.kept writer.old }
+{
+    let _ = &*writer;
     Ok(())
 }
