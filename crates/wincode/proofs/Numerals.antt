@@ -1,5 +1,5 @@
 -- What numbers read and write, by the words of std.
-use Rattle.std.proofs.Common.{◌≡◌, ◌∙◌, sym, ap, subst, ℕ, ◌<◌, ◌≤◌, ◌^◌, Bool, List, [], ◌∷◌, ◌%◌, w8, length, get_or, refl, arith, Some, false, true}
+use Rattle.std.proofs.Common.{◌≡◌, ◌∙◌, sym, ap, subst, ℕ, ◌<◌, ◌≤◌, nat_eq, zero, suc, ◌^◌, Bool, List, [], ◌∷◌, ◌++◌, ◌%◌, w8, length, get_or, refl, arith, Some, false, true}
 use Rattle.std.proofs.lemmas.List.Elements.{All-from_get_or}
 use Rattle.std.specs.Int.{to_le_bytes, from_le_bytes, Width, byte_len}
 use Rattle.wincode_io.specs.Bytes.{IsBytes}
@@ -7,11 +7,17 @@ use Rattle.wincode.specs.Numbers.{le, worth}
 use Rattle.wincode.specs.NumberLaws.{le-from_le_bytes, from_le_bytes-worth, worth_below, to_le_bytes-le, length-le}
 use Rattle.wincode_io.specs.Readers.{ReaderState}
 use Rattle.wincode_io.specs.Writers.{WriterLaws, IsWriteRefused}
-use Rattle.wincode.specs.Leaves.{number_read, number_write}
-use Rattle.wincode.specs.Outcomes.{Puts, Refuses, Takes, TakesNumber, IsDenied, Wrote, Unwritten}
+use Rattle.wincode.specs.Leaves.{number_read, number_write, signed_read, signed_write, bool_byte, bool_read, unit_read}
+use Rattle.wincode.specs.LeafLaws.{signed_of, as_unsigned}
+use Rattle.wincode.specs.Sequences.{gives_map, refuses_map}
+use Rattle.std.specs.Prelude.{ℤ}
+use Rattle.std.specs.Int.{cast_unsigned, cast_signed}
+use mir.Val.{bits}
+use Rattle.wincode.specs.Outcomes.{Gives, Puts, Refuses, Takes, TakesNumber, Accepts, IsDenied, Wrote, Unwritten}
 use Rattle.wincode.specs.WriteSequences.{text_wrote, text_unwritten}
 use Rattle.wincode.proofs.Sized.{takes_gives, denied_refuses}
 use Rattle.wincode.specs.declared.error.ReadError.{ReadError}
+use Rattle.wincode.specs.declared.error.ReadError.TheVariants as reading
 use Rattle.wincode.specs.declared.error.WriteError.TheVariants as writing
 use Rattle.wincode_io.specs.declared.error.WriteError.{WriteError as IoWriteError}
 
@@ -36,8 +42,12 @@ module _ (w : Width) (some : 0 < byte_len w) where
     let is : (v < 256 ^ byte_len w) × (bytes ≡ le (byte_len w) v) = subst (λ n. (n < 256 ^ byte_len w) × (bytes ≡ le (byte_len w) n)) (sym e) (number_text bytes small t.size) in
     (is.0, subst (Takes (byte_len w) old new) is.1 t)
 
-pub number_puts : (k : ℕ) (any : Bool) (old new : ReaderState) (v : ℕ) → TakesNumber k old new v → Puts (number_read k any).reads (λ n. n) old new (Some v)
-number_puts k any old new v t = record { value = v; is = refl; gives = takes_gives (number_read k any).reads k old new (le k v) v t.1 (t.0, refl) }
+pub number_gives : (k : ℕ) (any : Bool) (old new : ReaderState) (v : ℕ) → TakesNumber k old new v → Gives (number_read k any).reads old new v
+number_gives k any old new v t = takes_gives (number_read k any).reads k old new (le k v) v t.1 (t.0, refl)
+
+-- the destination has a number that was read
+pub number_puts : {V : Type 0} (reads : List ℕ → V → Type 0) (old new : ReaderState) (v : V) → Gives reads old new v → Puts reads (λ n. n) old new (Some v)
+number_puts reads old new v g = record { value = v; is = refl; gives = g }
 
 -- a number was refused for its k bytes
 pub number_refuses : (k : ℕ) (any : Bool) (old new : ReaderState) (e : ReadError) → IsDenied k old new e → Refuses (number_read k any).reads 0 true old new e
@@ -54,3 +64,61 @@ module _ {S : Type 0} (put : S → List ℕ → S) (room : S → ℕ) (w : Width
 -- the one byte of a byte
 pub byte_text : (v : ℕ) → v < 256 → v ∷ [] ≡ to_le_bytes w8 v
 byte_text v small = ap (λ b. b ∷ []) (omega arith)
+
+-- ---- signed numbers, by the unsigned number that each stands as
+
+module _ (w : Width) (pow : 256 ^ byte_len w ≡ 2 ^ bits w) (any : Bool) where
+  pub signed_gives : (old new : ReaderState) (n : ℕ) → Gives (number_read (byte_len w) any).reads old new n → Gives (signed_read w any).reads old new (cast_signed w n)
+  signed_gives old new n g = gives_map (number_read (byte_len w) any).reads (signed_read w any).reads old new n (cast_signed w n) (λ b r. signed_of w pow any b n r) g
+
+  pub signed_refuses : (old new : ReaderState) (e : ReadError) → Refuses (number_read (byte_len w) any).reads 0 true old new e → Refuses (signed_read w any).reads 0 true old new e
+  signed_refuses old new e r = refuses_map (number_read (byte_len w) any).reads (signed_read w any).reads 0 true old new e (λ b z t. (cast_unsigned w z, as_unsigned w pow any b z t)) r
+
+module _ {S : Type 0} (put : S → List ℕ → S) (room : S → ℕ) (w : Width) (any : Bool) where
+  pub signed_wrote : (old new : S) (z : ℤ) (text : List ℕ) → text ≡ to_le_bytes w (cast_unsigned w z) → (length text ≤ room old) × (new ≡ put old text) → Wrote put room (signed_write w any) old new z
+  signed_wrote old new z text e d = let is = e ∙ to_le_bytes-le w (cast_unsigned w z) in text_wrote put room (signed_write w any) z text old new tt is (ap length is ∙ length-le (byte_len w) (cast_unsigned w z)) d
+
+  pub signed_unwritten : WriterLaws put room → (old new : S) (z : ℤ) (text : List ℕ) (steady : Bool) (failures : ℕ) (e : IoWriteError) → text ≡ to_le_bytes w (cast_unsigned w z)
+    → IsWriteRefused old new (room old < length text) (length text) steady failures e → Unwritten put room (signed_write w any) old new z steady failures (writing.Io e)
+  signed_unwritten laws old new z text steady failures e f d = let is = f ∙ to_le_bytes-le w (cast_unsigned w z) in text_unwritten put room (signed_write w any) z text old new steady failures e laws is (ap length is ∙ length-le (byte_len w) (cast_unsigned w z)) d
+
+-- ---- booleans and values without bytes
+
+pub unit_puts : {X : Type 0} (s : ReaderState) (x : X) → Puts unit_read.reads (λ _. tt) s s (Some x)
+unit_puts s x = record { value = x; is = refl; gives = record { kept = record { lends = refl; steady = refl; told = refl }; found = λ t. record { text = []; is_read = refl; joins = refl } } }
+
+one_byte : (v : ℕ) → v < 256 → le 1 v ≡ v ∷ []
+unfolding le
+one_byte v small = ap (λ b. b ∷ []) (omega arith)
+
+-- the byte of a number of one byte was taken
+pub byte_taken : (old new : ReaderState) (v : ℕ) → TakesNumber 1 old new v → Takes 1 old new (v ∷ [])
+byte_taken old new v t = subst (Takes 1 old new) (one_byte v t.0) t.1
+
+pub bool_puts : (old new : ReaderState) (v : ℕ) (b : Bool) → TakesNumber 1 old new v → v ≡ bool_byte b → Puts bool_read.reads (λ n. n) old new (Some b)
+bool_puts old new v b t e = record { value = b; is = refl; gives = takes_gives bool_read.reads 1 old new (v ∷ []) b (byte_taken old new v t) (ap (λ n. n ∷ []) e) }
+
+small_bool : (b : Bool) → bool_byte b ≤ 1
+small_bool false = omega arith
+small_bool true = omega arith
+
+not_bool : (old new : ReaderState) (v : ℕ) → 1 < v → TakesNumber 1 old new v → Accepts bool_read.reads old → ⊥
+not_bool old new v big t a =
+  let f = a.front.found in
+  let taken = byte_taken old new v t in
+  let e : bool_byte a.front.value ∷ a.front.rest ≡ v ∷ new.rest = ap (λ x. x ++ a.front.rest) (sym f.is_read) ∙ sym f.joins ∙ taken.front a.told in
+  let same : bool_byte a.front.value ≡ v = cc in
+  absurd (omega (arith, small_bool a.front.value, same))
+
+pub bool_refuses : (old new : ReaderState) (v : ℕ) → 1 < v → TakesNumber 1 old new v → Refuses bool_read.reads 0 true old new (reading.InvalidBoolEncoding v)
+bool_refuses old new v big t =
+  let taken = byte_taken old new v t in
+  record { kept = taken.kept; left = λ told. record { front = v ∷ []; joins = taken.front told }; due = not_bool old new v big t }
+
+pub bool_denied : (old new : ReaderState) (e : ReadError) → IsDenied 1 old new e → Refuses bool_read.reads 0 true old new e
+bool_denied old new e d = denied_refuses bool_read.reads 1 (λ b v r. ap length r) 0 true old new e d
+
+pub is_bool : (v : ℕ) → v ≤ 1 → v ≡ bool_byte (nat_eq v 1)
+is_bool zero h = refl
+is_bool (suc zero) h = refl
+is_bool (suc (suc v)) h = absurd (omega arith)

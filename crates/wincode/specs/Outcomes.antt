@@ -1,5 +1,5 @@
 -- What reading and writing a value answer, said once for lengths, leaves and compounds.
-use Rattle.std.specs.Prelude.{⊤, ◌≡◌, ℕ, ◌-◌, ◌*◌, ◌^◌, ◌<◌, ◌≤◌, min, Bool, false, ◌&&◌, List, ◌++◌, length, IsTrue, Option, Some, codes}
+use Rattle.std.specs.Prelude.{⊤, ◌≡◌, ℕ, ◌-◌, ◌*◌, ◌^◌, ◌<◌, ◌≤◌, min, Bool, false, ◌&&◌, List, [], ◌∷◌, ◌++◌, length, IsTrue, Option, Some, codes}
 use Rattle.wincode_io.specs.Readers.{ReaderState, Kept, IsShort, IsRefused}
 use Rattle.wincode.specs.Numbers.{le}
 use Rattle.wincode_io.specs.Writers.{byte_limit}
@@ -91,6 +91,12 @@ TakesNumber k old new n = (n < 256 ^ k) × Takes k old new (le k n)
 abbrev pub IsDenied : ℕ → ReaderState → ReaderState → ReadError → Type 0
 IsDenied n old new (reading.Io e) = IsRefused (IsShort n old) ⊥ n old new e
 IsDenied n old new _ = ⊥
+
+-- A boolean was refused: no byte is left; or its byte, which is then gone, is neither 0 nor 1.
+abbrev pub IsBoolRefused : ReaderState → ReaderState → ReadError → Type 0
+IsBoolRefused old new (reading.Io e) = IsRefused (IsShort 1 old) ⊥ 1 old new e
+IsBoolRefused old new (reading.InvalidBoolEncoding b) = (1 < b) × Takes 1 old new (b ∷ [])
+IsBoolRefused old new _ = ⊥
 
 -- A length of eight bytes was refused: there are too few, and they stay; or, once they are gone, for the limit.
 abbrev pub IsLengthRefused : ℕ → ℕ → ReaderState → ReaderState → ReadError → Type 0

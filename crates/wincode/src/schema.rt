@@ -5,7 +5,7 @@ ghost use Rattle.wincode.specs.Outcomes.{Gives, Puts, Refuses, Wrote, Unwritten,
 
 pub mod leaves;
 pub mod lists;
-pub(crate) mod take;
+pub(crate) mod numbers;
 
 use crate::error::{ReadError, ReadResult, WriteResult};
 use crate::io::{Lending, Reader, Writer};

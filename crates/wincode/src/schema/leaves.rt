@@ -1,16 +1,22 @@
 //! Schemas without parts.
-ghost use Rattle.std.specs.Prelude.{◌≡◌, ℕ, ◌<◌, ◌≤◌, ◌^◌, true, IfOk, IfErr, OnOk, OnErr};
+ghost use Rattle.std.specs.Prelude.{◌≡◌, ℕ, ℤ, ◌<◌, ◌≤◌, ◌^◌, FitsSigned, Bool, true, false, IfOk, IfErr, OnOk, OnErr, refl};
+ghost use Rattle.std.specs.Int.{w8, w16, w32, w64, w128};
 ghost use Rattle.std.proofs.Common.{lit≤};
-ghost use Rattle.wincode.specs.Leaves.{number_read, number_write};
-ghost use Rattle.wincode.specs.LeafLaws.{number_read_laws, number_write_laws, number_reads_back};
-ghost use Rattle.wincode.specs.Outcomes.{Puts, Refuses, IsDenied};
+ghost use Rattle.wincode.specs.Leaves.{number_read, number_write, signed_read, signed_write, bool_read, bool_write, unit_read, unit_write};
+ghost use Rattle.wincode.specs.LeafLaws.{number_read_laws, number_write_laws, number_reads_back, signed_read_laws, signed_write_laws, signed_reads_back, bool_read_laws, bool_write_laws, bool_reads_back, unit_read_laws, unit_write_laws, unit_reads_back};
+ghost use Rattle.wincode.specs.Outcomes.{Puts, Refuses, IsDenied, IsBoolRefused};
 
-use crate::error::{ReadResult, WriteResult};
+use crate::error::{ReadResult, WriteResult, invalid_bool_encoding};
 use crate::io::{Lending, Reader, Writer};
 use crate::meta::TypeMeta;
-use crate::schema::take::{take_u8, take_u64};
+use crate::schema::numbers::{
+    put_i128, put_nothing, put_i16, put_i32, put_i64, put_i8, put_isize, put_u128, put_u16, put_u32, put_u64,
+    put_u8, put_usize, take_i128, take_i16, take_i32, take_i64, take_i8, take_u128, take_u16,
+    take_u32, take_u64, take_u8,
+};
 use crate::schema::{RoundTrip, SchemaRead, SchemaWrite};
 use std::alloc::Global;
+use std::marker::PhantomData;
 
 impl SchemaWrite for u8 {
     type Src = u8;
@@ -32,13 +38,13 @@ impl SchemaWrite for u8 {
     }
 
     fn write<W: Writer>(writer: &mut W, src: &u8) -> WriteResult<()> {
-        writer.write(&src.to_le_bytes())?;
-        Ok(())
+        put_u8::<W>(writer, *src)
     }
 
     ghost write_laws = { number_write_laws 1 true };
 }
 
+#[tactic(auto, using(crate::proofs::Numerals::number_puts))]
 impl<L: Lending> SchemaRead<L> for u8 {
     type Dst = u8;
 
@@ -75,6 +81,132 @@ impl<L: Lending> RoundTrip<L> for u8 {
     ghost reads_back = { number_reads_back 1 true };
 }
 
+impl SchemaWrite for u16 {
+    type Src = u16;
+
+    ghost Value = { ℕ };
+
+    ghost seen = { λ v. v };
+
+    ghost proper = { λ v. v < 256 ^ 2 };
+
+    ghost writing = { number_write 2 true };
+
+    fn type_meta() -> TypeMeta {
+        TypeMeta::Static { size: 2, zero_copy: true }
+    }
+
+    fn size_of(_src: &u16) -> WriteResult<usize> {
+        Ok(2)
+    }
+
+    fn write<W: Writer>(writer: &mut W, src: &u16) -> WriteResult<()> {
+        put_u16::<W>(writer, *src)
+    }
+
+    ghost write_laws = { number_write_laws 2 true };
+}
+
+#[tactic(auto, using(crate::proofs::Numerals::number_puts))]
+impl<L: Lending> SchemaRead<L> for u16 {
+    type Dst = u16;
+
+    ghost Value = { ℕ };
+
+    ghost seen = { λ v. v };
+
+    ghost proper = { λ v. v < 256 ^ 2 };
+
+    ghost reading = { number_read 2 true };
+
+    fn type_meta() -> TypeMeta {
+        TypeMeta::Static { size: 2, zero_copy: true }
+    }
+
+    fn prealloc_size() -> usize {
+        2
+    }
+
+    fn read<R: Reader<L>>(_alloc: Global, reader: &mut R, dst: &mut Option<u16>) -> ReadResult<()>
+        ensures ok { OnOk result (Puts (number_read 2 true).reads (λ v. v) (R.state reader.old) (R.state reader.new) dst.new) }
+        ensures err { IfErr result (Refuses (number_read 2 true).reads 0 true (R.state reader.old) (R.state reader.new)) }
+        ensures same { OnErr result (dst.new ≡ dst.old) }
+        ensures denied { IfErr result (IsDenied 2 (R.state reader.old) (R.state reader.new)) }
+    {
+        *dst = Some(take_u16::<L, R>(reader)?);
+        Ok(())
+    }
+
+    ghost read_laws = { number_read_laws 2 true (lit≤ tt) };
+}
+
+impl<L: Lending> RoundTrip<L> for u16 {
+    ghost reads_back = { number_reads_back 2 true };
+}
+
+impl SchemaWrite for u32 {
+    type Src = u32;
+
+    ghost Value = { ℕ };
+
+    ghost seen = { λ v. v };
+
+    ghost proper = { λ v. v < 256 ^ 4 };
+
+    ghost writing = { number_write 4 true };
+
+    fn type_meta() -> TypeMeta {
+        TypeMeta::Static { size: 4, zero_copy: true }
+    }
+
+    fn size_of(_src: &u32) -> WriteResult<usize> {
+        Ok(4)
+    }
+
+    fn write<W: Writer>(writer: &mut W, src: &u32) -> WriteResult<()> {
+        put_u32::<W>(writer, *src)
+    }
+
+    ghost write_laws = { number_write_laws 4 true };
+}
+
+#[tactic(auto, using(crate::proofs::Numerals::number_puts))]
+impl<L: Lending> SchemaRead<L> for u32 {
+    type Dst = u32;
+
+    ghost Value = { ℕ };
+
+    ghost seen = { λ v. v };
+
+    ghost proper = { λ v. v < 256 ^ 4 };
+
+    ghost reading = { number_read 4 true };
+
+    fn type_meta() -> TypeMeta {
+        TypeMeta::Static { size: 4, zero_copy: true }
+    }
+
+    fn prealloc_size() -> usize {
+        4
+    }
+
+    fn read<R: Reader<L>>(_alloc: Global, reader: &mut R, dst: &mut Option<u32>) -> ReadResult<()>
+        ensures ok { OnOk result (Puts (number_read 4 true).reads (λ v. v) (R.state reader.old) (R.state reader.new) dst.new) }
+        ensures err { IfErr result (Refuses (number_read 4 true).reads 0 true (R.state reader.old) (R.state reader.new)) }
+        ensures same { OnErr result (dst.new ≡ dst.old) }
+        ensures denied { IfErr result (IsDenied 4 (R.state reader.old) (R.state reader.new)) }
+    {
+        *dst = Some(take_u32::<L, R>(reader)?);
+        Ok(())
+    }
+
+    ghost read_laws = { number_read_laws 4 true (lit≤ tt) };
+}
+
+impl<L: Lending> RoundTrip<L> for u32 {
+    ghost reads_back = { number_reads_back 4 true };
+}
+
 impl SchemaWrite for u64 {
     type Src = u64;
 
@@ -95,13 +227,13 @@ impl SchemaWrite for u64 {
     }
 
     fn write<W: Writer>(writer: &mut W, src: &u64) -> WriteResult<()> {
-        writer.write(&src.to_le_bytes())?;
-        Ok(())
+        put_u64::<W>(writer, *src)
     }
 
     ghost write_laws = { number_write_laws 8 true };
 }
 
+#[tactic(auto, using(crate::proofs::Numerals::number_puts))]
 impl<L: Lending> SchemaRead<L> for u64 {
     type Dst = u64;
 
@@ -136,4 +268,693 @@ impl<L: Lending> SchemaRead<L> for u64 {
 
 impl<L: Lending> RoundTrip<L> for u64 {
     ghost reads_back = { number_reads_back 8 true };
+}
+
+impl SchemaWrite for u128 {
+    type Src = u128;
+
+    ghost Value = { ℕ };
+
+    ghost seen = { λ v. v };
+
+    ghost proper = { λ v. v < 256 ^ 16 };
+
+    ghost writing = { number_write 16 true };
+
+    fn type_meta() -> TypeMeta {
+        TypeMeta::Static { size: 16, zero_copy: true }
+    }
+
+    fn size_of(_src: &u128) -> WriteResult<usize> {
+        Ok(16)
+    }
+
+    fn write<W: Writer>(writer: &mut W, src: &u128) -> WriteResult<()> {
+        put_u128::<W>(writer, *src)
+    }
+
+    ghost write_laws = { number_write_laws 16 true };
+}
+
+#[tactic(auto, using(crate::proofs::Numerals::number_puts))]
+impl<L: Lending> SchemaRead<L> for u128 {
+    type Dst = u128;
+
+    ghost Value = { ℕ };
+
+    ghost seen = { λ v. v };
+
+    ghost proper = { λ v. v < 256 ^ 16 };
+
+    ghost reading = { number_read 16 true };
+
+    fn type_meta() -> TypeMeta {
+        TypeMeta::Static { size: 16, zero_copy: true }
+    }
+
+    fn prealloc_size() -> usize {
+        16
+    }
+
+    fn read<R: Reader<L>>(_alloc: Global, reader: &mut R, dst: &mut Option<u128>) -> ReadResult<()>
+        ensures ok { OnOk result (Puts (number_read 16 true).reads (λ v. v) (R.state reader.old) (R.state reader.new) dst.new) }
+        ensures err { IfErr result (Refuses (number_read 16 true).reads 0 true (R.state reader.old) (R.state reader.new)) }
+        ensures same { OnErr result (dst.new ≡ dst.old) }
+        ensures denied { IfErr result (IsDenied 16 (R.state reader.old) (R.state reader.new)) }
+    {
+        *dst = Some(take_u128::<L, R>(reader)?);
+        Ok(())
+    }
+
+    ghost read_laws = { number_read_laws 16 true (lit≤ tt) };
+}
+
+impl<L: Lending> RoundTrip<L> for u128 {
+    ghost reads_back = { number_reads_back 16 true };
+}
+
+impl SchemaWrite for usize {
+    type Src = usize;
+
+    ghost Value = { ℕ };
+
+    ghost seen = { λ v. v };
+
+    ghost proper = { λ v. v < 256 ^ 8 };
+
+    ghost writing = { number_write 8 false };
+
+    fn type_meta() -> TypeMeta {
+        TypeMeta::Static { size: 8, zero_copy: false }
+    }
+
+    fn size_of(_src: &usize) -> WriteResult<usize> {
+        Ok(8)
+    }
+
+    fn write<W: Writer>(writer: &mut W, src: &usize) -> WriteResult<()> {
+        put_usize::<W>(writer, *src)
+    }
+
+    ghost write_laws = { number_write_laws 8 false };
+}
+
+#[tactic(auto, using(crate::proofs::Numerals::number_puts))]
+impl<L: Lending> SchemaRead<L> for usize {
+    type Dst = usize;
+
+    ghost Value = { ℕ };
+
+    ghost seen = { λ v. v };
+
+    ghost proper = { λ v. v < 256 ^ 8 };
+
+    ghost reading = { number_read 8 false };
+
+    fn type_meta() -> TypeMeta {
+        TypeMeta::Static { size: 8, zero_copy: false }
+    }
+
+    fn prealloc_size() -> usize {
+        8
+    }
+
+    fn read<R: Reader<L>>(_alloc: Global, reader: &mut R, dst: &mut Option<usize>) -> ReadResult<()>
+        ensures ok { OnOk result (Puts (number_read 8 false).reads (λ v. v) (R.state reader.old) (R.state reader.new) dst.new) }
+        ensures err { IfErr result (Refuses (number_read 8 false).reads 0 true (R.state reader.old) (R.state reader.new)) }
+        ensures same { OnErr result (dst.new ≡ dst.old) }
+        ensures denied { IfErr result (IsDenied 8 (R.state reader.old) (R.state reader.new)) }
+    {
+        *dst = Some(take_u64::<L, R>(reader)? as usize);
+        Ok(())
+    }
+
+    ghost read_laws = { number_read_laws 8 false (lit≤ tt) };
+}
+
+impl<L: Lending> RoundTrip<L> for usize {
+    ghost reads_back = { number_reads_back 8 false };
+}
+
+impl SchemaWrite for i8 {
+    type Src = i8;
+
+    ghost Value = { ℤ };
+
+    ghost seen = { λ v. v };
+
+    ghost proper = { FitsSigned w8 };
+
+    ghost writing = { signed_write w8 true };
+
+    fn type_meta() -> TypeMeta {
+        TypeMeta::Static { size: 1, zero_copy: true }
+    }
+
+    fn size_of(_src: &i8) -> WriteResult<usize> {
+        Ok(1)
+    }
+
+    fn write<W: Writer>(writer: &mut W, src: &i8) -> WriteResult<()> {
+        put_i8::<W>(writer, *src)
+    }
+
+    ghost write_laws = { signed_write_laws w8 true };
+}
+
+#[tactic(auto, using(crate::proofs::Numerals::number_puts))]
+impl<L: Lending> SchemaRead<L> for i8 {
+    type Dst = i8;
+
+    ghost Value = { ℤ };
+
+    ghost seen = { λ v. v };
+
+    ghost proper = { FitsSigned w8 };
+
+    ghost reading = { signed_read w8 true };
+
+    fn type_meta() -> TypeMeta {
+        TypeMeta::Static { size: 1, zero_copy: true }
+    }
+
+    fn prealloc_size() -> usize {
+        1
+    }
+
+    fn read<R: Reader<L>>(_alloc: Global, reader: &mut R, dst: &mut Option<i8>) -> ReadResult<()>
+        ensures ok { OnOk result (Puts (signed_read w8 true).reads (λ v. v) (R.state reader.old) (R.state reader.new) dst.new) }
+        ensures err { IfErr result (Refuses (signed_read w8 true).reads 0 true (R.state reader.old) (R.state reader.new)) }
+        ensures same { OnErr result (dst.new ≡ dst.old) }
+        ensures denied { IfErr result (IsDenied 1 (R.state reader.old) (R.state reader.new)) }
+    {
+        *dst = Some(take_i8::<L, R>(reader)?);
+        Ok(())
+    }
+
+    ghost read_laws = { signed_read_laws w8 refl true (lit≤ tt) };
+}
+
+impl<L: Lending> RoundTrip<L> for i8 {
+    ghost reads_back = { signed_reads_back w8 true };
+}
+
+impl SchemaWrite for i16 {
+    type Src = i16;
+
+    ghost Value = { ℤ };
+
+    ghost seen = { λ v. v };
+
+    ghost proper = { FitsSigned w16 };
+
+    ghost writing = { signed_write w16 true };
+
+    fn type_meta() -> TypeMeta {
+        TypeMeta::Static { size: 2, zero_copy: true }
+    }
+
+    fn size_of(_src: &i16) -> WriteResult<usize> {
+        Ok(2)
+    }
+
+    fn write<W: Writer>(writer: &mut W, src: &i16) -> WriteResult<()> {
+        put_i16::<W>(writer, *src)
+    }
+
+    ghost write_laws = { signed_write_laws w16 true };
+}
+
+#[tactic(auto, using(crate::proofs::Numerals::number_puts))]
+impl<L: Lending> SchemaRead<L> for i16 {
+    type Dst = i16;
+
+    ghost Value = { ℤ };
+
+    ghost seen = { λ v. v };
+
+    ghost proper = { FitsSigned w16 };
+
+    ghost reading = { signed_read w16 true };
+
+    fn type_meta() -> TypeMeta {
+        TypeMeta::Static { size: 2, zero_copy: true }
+    }
+
+    fn prealloc_size() -> usize {
+        2
+    }
+
+    fn read<R: Reader<L>>(_alloc: Global, reader: &mut R, dst: &mut Option<i16>) -> ReadResult<()>
+        ensures ok { OnOk result (Puts (signed_read w16 true).reads (λ v. v) (R.state reader.old) (R.state reader.new) dst.new) }
+        ensures err { IfErr result (Refuses (signed_read w16 true).reads 0 true (R.state reader.old) (R.state reader.new)) }
+        ensures same { OnErr result (dst.new ≡ dst.old) }
+        ensures denied { IfErr result (IsDenied 2 (R.state reader.old) (R.state reader.new)) }
+    {
+        *dst = Some(take_i16::<L, R>(reader)?);
+        Ok(())
+    }
+
+    ghost read_laws = { signed_read_laws w16 refl true (lit≤ tt) };
+}
+
+impl<L: Lending> RoundTrip<L> for i16 {
+    ghost reads_back = { signed_reads_back w16 true };
+}
+
+impl SchemaWrite for i32 {
+    type Src = i32;
+
+    ghost Value = { ℤ };
+
+    ghost seen = { λ v. v };
+
+    ghost proper = { FitsSigned w32 };
+
+    ghost writing = { signed_write w32 true };
+
+    fn type_meta() -> TypeMeta {
+        TypeMeta::Static { size: 4, zero_copy: true }
+    }
+
+    fn size_of(_src: &i32) -> WriteResult<usize> {
+        Ok(4)
+    }
+
+    fn write<W: Writer>(writer: &mut W, src: &i32) -> WriteResult<()> {
+        put_i32::<W>(writer, *src)
+    }
+
+    ghost write_laws = { signed_write_laws w32 true };
+}
+
+#[tactic(auto, using(crate::proofs::Numerals::number_puts))]
+impl<L: Lending> SchemaRead<L> for i32 {
+    type Dst = i32;
+
+    ghost Value = { ℤ };
+
+    ghost seen = { λ v. v };
+
+    ghost proper = { FitsSigned w32 };
+
+    ghost reading = { signed_read w32 true };
+
+    fn type_meta() -> TypeMeta {
+        TypeMeta::Static { size: 4, zero_copy: true }
+    }
+
+    fn prealloc_size() -> usize {
+        4
+    }
+
+    fn read<R: Reader<L>>(_alloc: Global, reader: &mut R, dst: &mut Option<i32>) -> ReadResult<()>
+        ensures ok { OnOk result (Puts (signed_read w32 true).reads (λ v. v) (R.state reader.old) (R.state reader.new) dst.new) }
+        ensures err { IfErr result (Refuses (signed_read w32 true).reads 0 true (R.state reader.old) (R.state reader.new)) }
+        ensures same { OnErr result (dst.new ≡ dst.old) }
+        ensures denied { IfErr result (IsDenied 4 (R.state reader.old) (R.state reader.new)) }
+    {
+        *dst = Some(take_i32::<L, R>(reader)?);
+        Ok(())
+    }
+
+    ghost read_laws = { signed_read_laws w32 refl true (lit≤ tt) };
+}
+
+impl<L: Lending> RoundTrip<L> for i32 {
+    ghost reads_back = { signed_reads_back w32 true };
+}
+
+impl SchemaWrite for i64 {
+    type Src = i64;
+
+    ghost Value = { ℤ };
+
+    ghost seen = { λ v. v };
+
+    ghost proper = { FitsSigned w64 };
+
+    ghost writing = { signed_write w64 true };
+
+    fn type_meta() -> TypeMeta {
+        TypeMeta::Static { size: 8, zero_copy: true }
+    }
+
+    fn size_of(_src: &i64) -> WriteResult<usize> {
+        Ok(8)
+    }
+
+    fn write<W: Writer>(writer: &mut W, src: &i64) -> WriteResult<()> {
+        put_i64::<W>(writer, *src)
+    }
+
+    ghost write_laws = { signed_write_laws w64 true };
+}
+
+#[tactic(auto, using(crate::proofs::Numerals::number_puts))]
+impl<L: Lending> SchemaRead<L> for i64 {
+    type Dst = i64;
+
+    ghost Value = { ℤ };
+
+    ghost seen = { λ v. v };
+
+    ghost proper = { FitsSigned w64 };
+
+    ghost reading = { signed_read w64 true };
+
+    fn type_meta() -> TypeMeta {
+        TypeMeta::Static { size: 8, zero_copy: true }
+    }
+
+    fn prealloc_size() -> usize {
+        8
+    }
+
+    fn read<R: Reader<L>>(_alloc: Global, reader: &mut R, dst: &mut Option<i64>) -> ReadResult<()>
+        ensures ok { OnOk result (Puts (signed_read w64 true).reads (λ v. v) (R.state reader.old) (R.state reader.new) dst.new) }
+        ensures err { IfErr result (Refuses (signed_read w64 true).reads 0 true (R.state reader.old) (R.state reader.new)) }
+        ensures same { OnErr result (dst.new ≡ dst.old) }
+        ensures denied { IfErr result (IsDenied 8 (R.state reader.old) (R.state reader.new)) }
+    {
+        *dst = Some(take_i64::<L, R>(reader)?);
+        Ok(())
+    }
+
+    ghost read_laws = { signed_read_laws w64 refl true (lit≤ tt) };
+}
+
+impl<L: Lending> RoundTrip<L> for i64 {
+    ghost reads_back = { signed_reads_back w64 true };
+}
+
+impl SchemaWrite for i128 {
+    type Src = i128;
+
+    ghost Value = { ℤ };
+
+    ghost seen = { λ v. v };
+
+    ghost proper = { FitsSigned w128 };
+
+    ghost writing = { signed_write w128 true };
+
+    fn type_meta() -> TypeMeta {
+        TypeMeta::Static { size: 16, zero_copy: true }
+    }
+
+    fn size_of(_src: &i128) -> WriteResult<usize> {
+        Ok(16)
+    }
+
+    fn write<W: Writer>(writer: &mut W, src: &i128) -> WriteResult<()> {
+        put_i128::<W>(writer, *src)
+    }
+
+    ghost write_laws = { signed_write_laws w128 true };
+}
+
+#[tactic(auto, using(crate::proofs::Numerals::number_puts))]
+impl<L: Lending> SchemaRead<L> for i128 {
+    type Dst = i128;
+
+    ghost Value = { ℤ };
+
+    ghost seen = { λ v. v };
+
+    ghost proper = { FitsSigned w128 };
+
+    ghost reading = { signed_read w128 true };
+
+    fn type_meta() -> TypeMeta {
+        TypeMeta::Static { size: 16, zero_copy: true }
+    }
+
+    fn prealloc_size() -> usize {
+        16
+    }
+
+    fn read<R: Reader<L>>(_alloc: Global, reader: &mut R, dst: &mut Option<i128>) -> ReadResult<()>
+        ensures ok { OnOk result (Puts (signed_read w128 true).reads (λ v. v) (R.state reader.old) (R.state reader.new) dst.new) }
+        ensures err { IfErr result (Refuses (signed_read w128 true).reads 0 true (R.state reader.old) (R.state reader.new)) }
+        ensures same { OnErr result (dst.new ≡ dst.old) }
+        ensures denied { IfErr result (IsDenied 16 (R.state reader.old) (R.state reader.new)) }
+    {
+        *dst = Some(take_i128::<L, R>(reader)?);
+        Ok(())
+    }
+
+    ghost read_laws = { signed_read_laws w128 refl true (lit≤ tt) };
+}
+
+impl<L: Lending> RoundTrip<L> for i128 {
+    ghost reads_back = { signed_reads_back w128 true };
+}
+
+impl SchemaWrite for isize {
+    type Src = isize;
+
+    ghost Value = { ℤ };
+
+    ghost seen = { λ v. v };
+
+    ghost proper = { FitsSigned w64 };
+
+    ghost writing = { signed_write w64 false };
+
+    fn type_meta() -> TypeMeta {
+        TypeMeta::Static { size: 8, zero_copy: false }
+    }
+
+    fn size_of(_src: &isize) -> WriteResult<usize> {
+        Ok(8)
+    }
+
+    fn write<W: Writer>(writer: &mut W, src: &isize) -> WriteResult<()> {
+        put_isize::<W>(writer, *src)
+    }
+
+    ghost write_laws = { signed_write_laws w64 false };
+}
+
+#[tactic(auto, using(crate::proofs::Numerals::number_puts))]
+impl<L: Lending> SchemaRead<L> for isize {
+    type Dst = isize;
+
+    ghost Value = { ℤ };
+
+    ghost seen = { λ v. v };
+
+    ghost proper = { FitsSigned w64 };
+
+    ghost reading = { signed_read w64 false };
+
+    fn type_meta() -> TypeMeta {
+        TypeMeta::Static { size: 8, zero_copy: false }
+    }
+
+    fn prealloc_size() -> usize {
+        8
+    }
+
+    fn read<R: Reader<L>>(_alloc: Global, reader: &mut R, dst: &mut Option<isize>) -> ReadResult<()>
+        ensures ok { OnOk result (Puts (signed_read w64 false).reads (λ v. v) (R.state reader.old) (R.state reader.new) dst.new) }
+        ensures err { IfErr result (Refuses (signed_read w64 false).reads 0 true (R.state reader.old) (R.state reader.new)) }
+        ensures same { OnErr result (dst.new ≡ dst.old) }
+        ensures denied { IfErr result (IsDenied 8 (R.state reader.old) (R.state reader.new)) }
+    {
+        *dst = Some(take_i64::<L, R>(reader)? as isize);
+        Ok(())
+    }
+
+    ghost read_laws = { signed_read_laws w64 refl false (lit≤ tt) };
+}
+
+impl<L: Lending> RoundTrip<L> for isize {
+    ghost reads_back = { signed_reads_back w64 false };
+}
+
+impl SchemaWrite for bool {
+    type Src = bool;
+
+    ghost Value = { Bool };
+
+    ghost seen = { λ v. v };
+
+    ghost proper = { λ v. Unit {0} };
+
+    ghost writing = { bool_write };
+
+    fn type_meta() -> TypeMeta {
+        TypeMeta::Static { size: 1, zero_copy: false }
+    }
+
+    fn size_of(_src: &bool) -> WriteResult<usize> {
+        Ok(1)
+    }
+
+    fn write<W: Writer>(writer: &mut W, src: &bool) -> WriteResult<()> {
+        let byte = if *src { 1 } else { 0 };
+        writer.write(&[byte])?;
+        Ok(())
+    }
+
+    ghost write_laws = { bool_write_laws };
+}
+
+impl<L: Lending> SchemaRead<L> for bool {
+    type Dst = bool;
+
+    ghost Value = { Bool };
+
+    ghost seen = { λ v. v };
+
+    ghost proper = { λ v. Unit {0} };
+
+    ghost reading = { bool_read };
+
+    fn type_meta() -> TypeMeta {
+        TypeMeta::Static { size: 1, zero_copy: false }
+    }
+
+    fn prealloc_size() -> usize {
+        1
+    }
+
+    /// A byte that is neither 0 nor 1 is consumed, and is `InvalidBoolEncoding`.
+    fn read<R: Reader<L>>(_alloc: Global, reader: &mut R, dst: &mut Option<bool>) -> ReadResult<()>
+        ensures ok { OnOk result (Puts bool_read.reads (λ v. v) (R.state reader.old) (R.state reader.new) dst.new) }
+        ensures err { IfErr result (Refuses bool_read.reads 0 true (R.state reader.old) (R.state reader.new)) }
+        ensures same { OnErr result (dst.new ≡ dst.old) }
+        ensures refused { IfErr result (IsBoolRefused (R.state reader.old) (R.state reader.new)) }
+    {
+        let byte = take_u8::<L, R>(reader)?;
+        if byte > 1 {
+            return Err(invalid_bool_encoding(byte));
+        }
+        *dst = Some(byte == 1);
+        Ok(())
+    }
+
+    ghost read_laws = { bool_read_laws };
+}
+
+impl<L: Lending> RoundTrip<L> for bool {
+    ghost reads_back = { bool_reads_back };
+}
+
+impl SchemaWrite for () {
+    type Src = ();
+
+    ghost Value = { Unit };
+
+    ghost seen = { λ _. tt };
+
+    ghost proper = { λ _. Unit {0} };
+
+    ghost writing = { unit_write };
+
+    fn type_meta() -> TypeMeta {
+        TypeMeta::Static { size: 0, zero_copy: true }
+    }
+
+    fn size_of(_src: &()) -> WriteResult<usize> {
+        Ok(0)
+    }
+
+    fn write<W: Writer>(writer: &mut W, _src: &()) -> WriteResult<()> {
+        put_nothing::<W>(writer)
+    }
+
+    ghost write_laws = { unit_write_laws };
+}
+
+#[tactic(auto, using(crate::proofs::Numerals::unit_puts))]
+impl<L: Lending> SchemaRead<L> for () {
+    type Dst = ();
+
+    ghost Value = { Unit };
+
+    ghost seen = { λ _. tt };
+
+    ghost proper = { λ _. Unit {0} };
+
+    ghost reading = { unit_read };
+
+    fn type_meta() -> TypeMeta {
+        TypeMeta::Static { size: 0, zero_copy: true }
+    }
+
+    fn prealloc_size() -> usize {
+        1
+    }
+
+    fn read<R: Reader<L>>(_alloc: Global, _reader: &mut R, dst: &mut Option<()>) -> ReadResult<()> {
+        *dst = Some(());
+        Ok(())
+    }
+
+    ghost read_laws = { unit_read_laws };
+}
+
+impl<L: Lending> RoundTrip<L> for () {
+    ghost reads_back = { unit_reads_back };
+}
+
+impl<T> SchemaWrite for PhantomData<T> {
+    type Src = PhantomData<T>;
+
+    ghost Value = { Unit };
+
+    ghost seen = { λ _. tt };
+
+    ghost proper = { λ _. Unit {0} };
+
+    ghost writing = { unit_write };
+
+    fn type_meta() -> TypeMeta {
+        TypeMeta::Static { size: 0, zero_copy: true }
+    }
+
+    fn size_of(_src: &PhantomData<T>) -> WriteResult<usize> {
+        Ok(0)
+    }
+
+    fn write<W: Writer>(writer: &mut W, _src: &PhantomData<T>) -> WriteResult<()> {
+        put_nothing::<W>(writer)
+    }
+
+    ghost write_laws = { unit_write_laws };
+}
+
+#[tactic(auto, using(crate::proofs::Numerals::unit_puts))]
+impl<L: Lending, T> SchemaRead<L> for PhantomData<T> {
+    type Dst = PhantomData<T>;
+
+    ghost Value = { Unit };
+
+    ghost seen = { λ _. tt };
+
+    ghost proper = { λ _. Unit {0} };
+
+    ghost reading = { unit_read };
+
+    fn type_meta() -> TypeMeta {
+        TypeMeta::Static { size: 0, zero_copy: true }
+    }
+
+    fn prealloc_size() -> usize {
+        1
+    }
+
+    fn read<R: Reader<L>>(_alloc: Global, _reader: &mut R, dst: &mut Option<PhantomData<T>>) -> ReadResult<()> {
+        *dst = Some(PhantomData);
+        Ok(())
+    }
+
+    ghost read_laws = { unit_read_laws };
+}
+
+impl<L: Lending, T> RoundTrip<L> for PhantomData<T> {
+    ghost reads_back = { unit_reads_back };
 }

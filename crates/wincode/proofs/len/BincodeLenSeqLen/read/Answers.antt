@@ -3,7 +3,7 @@ use Rattle.wincode.proofs.Lengths.{length_denied, length_given, length_not_accep
 use Rattle.wincode.proofs.len.BincodeLenSeqLen.read.Goals as goal
 
 pub returns-in_err-len-clause-err : goal.returns-in_err-len-clause-err
-returns-in_err-len-clause-err g c = let h = length_denied g.row.MAX_SIZE c.args.prealloc _ _ _ c.in_err-len.ensures.err in search (rules, h)
+returns-in_err-len-clause-err g c = let h = length_denied g.row.MAX_SIZE c.args.prealloc _ _ _ c.in_err-len.ensures.denied in search (rules, h)
 
 pub returns-in-Some-clause-ok : goal.returns-in-Some-clause-ok
 returns-in-Some-clause-ok g c =
