@@ -9,7 +9,7 @@ use Rattle.wincode.specs.Lengths.{IsLength, bincode, HasText, text_len, length_w
 use Rattle.wincode.specs.LengthLaws.{bincode_text, bincode_text_is, length_one, bincode_laws}
 use Rattle.wincode.specs.Outcomes.{Gives, Refuses, Accepts, TakesNumber, IsDenied, Wrote, Unwritten}
 use Rattle.wincode.specs.WriteSequences.{text_wrote, text_unwritten}
-use Rattle.wincode.proofs.Sized.{takes_gives, denied_refuses}
+use Rattle.wincode.proofs.Sized.{takes_gives, takes_joins, denied_refuses}
 use Rattle.wincode.specs.declared.error.ReadError.{ReadError}
 use Rattle.wincode.specs.declared.error.ReadError.TheVariants as reading
 use Rattle.wincode.specs.declared.error.WriteError.TheVariants as writing
@@ -27,7 +27,7 @@ module _ (limit p : ℕ) where
   none_accepted : (old new : ReaderState) (n : ℕ) → TakesNumber 8 old new n → limit < n * p → Accepts (IsLength (bincode limit) p) old → ⊥
   none_accepted old new n t over a =
     let f = a.front.found in
-    let same = (bincode_laws limit).one_length f.text (le 8 n) a.front.rest new.rest a.front.value n f.is_read.1 (bincode_text limit n t.0) (sym f.joins ∙ t.1.front a.told) in
+    let same = (bincode_laws limit).one_length f.text (le 8 n) a.front.rest new.rest a.front.value n f.is_read.1 (bincode_text limit n t.0) (sym f.joins ∙ takes_joins t.1 a.told) in
     let within : a.front.value * p ≤ limit = f.is_read.0.1 in
     let more : limit < a.front.value * p = subst (λ v. limit < v * p) (sym same.1) over in
     absurd (omega arith)
@@ -35,8 +35,8 @@ module _ (limit p : ℕ) where
   -- a length was taken that is not admitted
   pub length_not_accepted : (old new : ReaderState) (n : ℕ) → TakesNumber 8 old new n → limit < n * p → (needed most : ℕ) → Refuses (IsLength (bincode limit) p) 0 true old new (reading.PreallocationSizeLimit needed most)
   length_not_accepted old new n t over needed most = record {
-    kept = t.1.kept;
-    left = λ told. record { front = le 8 n; joins = t.1.front told };
+    kept = t.1.loses.kept;
+    left = λ told. record { front = le 8 n; joins = takes_joins t.1 told };
     due = none_accepted old new n t over;
   }
 

@@ -5,7 +5,7 @@ use Rattle.std.specs.Int.{to_le_bytes, from_le_bytes, Width, byte_len}
 use Rattle.wincode_io.specs.Bytes.{IsBytes}
 use Rattle.wincode.specs.Numbers.{le, worth}
 use Rattle.wincode.specs.NumberLaws.{le-from_le_bytes, from_le_bytes-worth, worth_below, to_le_bytes-le, length-le}
-use Rattle.wincode_io.specs.Readers.{ReaderState}
+use Rattle.wincode_io.specs.Readers.{ReaderState, Takes}
 use Rattle.wincode_io.specs.Writers.{WriterLaws, IsWriteRefused}
 use Rattle.wincode.specs.Leaves.{number_read, number_write, signed_read, signed_write, bool_byte, bool_read, unit_read}
 use Rattle.wincode.specs.LeafLaws.{signed_of, as_unsigned}
@@ -13,9 +13,9 @@ use Rattle.wincode.specs.Sequences.{gives_map, refuses_map}
 use Rattle.std.specs.Prelude.{ℤ}
 use Rattle.std.specs.Int.{cast_unsigned, cast_signed}
 use mir.Val.{bits}
-use Rattle.wincode.specs.Outcomes.{Gives, Puts, Refuses, Takes, TakesNumber, Accepts, IsDenied, Wrote, Unwritten}
+use Rattle.wincode.specs.Outcomes.{Gives, Puts, Refuses, TakesNumber, Accepts, IsDenied, Wrote, Unwritten}
 use Rattle.wincode.specs.WriteSequences.{text_wrote, text_unwritten}
-use Rattle.wincode.proofs.Sized.{takes_gives, denied_refuses}
+use Rattle.wincode.proofs.Sized.{takes_gives, takes_joins, denied_refuses}
 use Rattle.wincode.specs.declared.error.ReadError.{ReadError}
 use Rattle.wincode.specs.declared.error.ReadError.TheVariants as reading
 use Rattle.wincode.specs.declared.error.WriteError.TheVariants as writing
@@ -106,14 +106,14 @@ not_bool : (old new : ReaderState) (v : ℕ) → 1 < v → TakesNumber 1 old new
 not_bool old new v big t a =
   let f = a.front.found in
   let taken = byte_taken old new v t in
-  let e : bool_byte a.front.value ∷ a.front.rest ≡ v ∷ new.rest = ap (λ x. x ++ a.front.rest) (sym f.is_read) ∙ sym f.joins ∙ taken.front a.told in
+  let e : bool_byte a.front.value ∷ a.front.rest ≡ v ∷ new.rest = ap (λ x. x ++ a.front.rest) (sym f.is_read) ∙ sym f.joins ∙ takes_joins taken a.told in
   let same : bool_byte a.front.value ≡ v = cc in
   absurd (omega (arith, small_bool a.front.value, same))
 
 pub bool_refuses : (old new : ReaderState) (v : ℕ) → 1 < v → TakesNumber 1 old new v → Refuses bool_read.reads 0 true old new (reading.InvalidBoolEncoding v)
 bool_refuses old new v big t =
   let taken = byte_taken old new v t in
-  record { kept = taken.kept; left = λ told. record { front = v ∷ []; joins = taken.front told }; due = not_bool old new v big t }
+  record { kept = taken.loses.kept; left = λ told. record { front = v ∷ []; joins = takes_joins taken told }; due = not_bool old new v big t }
 
 pub bool_denied : (old new : ReaderState) (e : ReadError) → IsDenied 1 old new e → Refuses bool_read.reads 0 true old new e
 bool_denied old new e d = denied_refuses bool_read.reads 1 (λ b v r. ap length r) 0 true old new e d

@@ -1,8 +1,8 @@
 -- Reading texts that all have one size.
 use Rattle.std.proofs.Common.{◌≡◌, ◌∙◌, sym, ap, subst, ℕ, ◌+◌, ◌*◌, ◌<◌, ◌≤◌, ◌^◌, Bool, List, [], ◌∷◌, ◌++◌, length, take, drop, refl, arith, length-append, length-take-le, IsTrue, append_assoc, min}
-use Rattle.wincode_io.specs.Readers.{ReaderState, Stays, Loses, IsShort, IsRefusal, IsRefused, Arrays}
+use Rattle.wincode_io.specs.Readers.{ReaderState, Stays, Loses, Takes, IsShort, IsRefusal, IsRefused, Arrays}
 use Rattle.wincode.specs.Sequences.{kept_trans, told_kept}
-use Rattle.wincode.specs.Outcomes.{Found, Front, Gives, Accepts, Refuses, ReaderDue, Takes, IsDenied}
+use Rattle.wincode.specs.Outcomes.{Found, Front, Gives, Accepts, Refuses, ReaderDue, IsDenied}
 use Rattle.wincode.specs.declared.error.ReadError.{ReadError}
 use Rattle.wincode.specs.declared.error.ReadError.TheVariants as reading
 use Rattle.wincode_io.specs.declared.error.ReadError.{ReadError as IoReadError}
@@ -32,14 +32,18 @@ module _ {V : Type 0} (reads : List ℕ → V → Type 0) (n : ℕ) (sized : (b 
 -- bytes that were shown as an array, and then consumed
 pub arrays_takes : (n : ℕ) (old mid new : ReaderState) (a : List ℕ) → Arrays n old mid a → Loses n mid new → Takes n old new a
 arrays_takes n old mid new a s l = record {
-  kept = kept_trans s.stays.kept l.kept;
+  loses = record {
+    kept = kept_trans s.stays.kept l.kept;
+    rest = λ t. subst (λ b. (n ≤ length b) × (b ≡ take n b ++ new.rest)) (s.stays.rest t) (l.rest (told_kept s.stays.kept t));
+  };
   size = s.size;
-  front = λ t.
-    let same : mid.rest ≡ old.rest = s.stays.rest t in
-    let shown : take n mid.rest ≡ a = ap (take n) same ∙ sym (s.front t).1 in
-    sym same ∙ (l.rest (told_kept s.stays.kept t)).1 ∙ ap (λ b. b ++ new.rest) shown;
+  front = λ t. (s.front t).1;
 }
+
+-- what was taken stood before what is left
+pub takes_joins : {n : ℕ} {old new : ReaderState} {bytes : List ℕ} → Takes n old new bytes → IsTrue old.told → old.rest ≡ bytes ++ new.rest
+takes_joins {n} {old} {new} {bytes} t told = (t.loses.rest told).1 ∙ ap (λ b. b ++ new.rest) (sym (t.front told))
 
 -- the bytes that were taken read as v
 pub takes_gives : {V : Type 0} (reads : List ℕ → V → Type 0) (n : ℕ) (old new : ReaderState) (bytes : List ℕ) (v : V) → Takes n old new bytes → reads bytes v → Gives reads old new v
-takes_gives reads n old new bytes v t r = record { kept = t.kept; found = λ told. record { text = bytes; is_read = r; joins = t.front told } }
+takes_gives reads n old new bytes v t r = record { kept = t.loses.kept; found = λ told. record { text = bytes; is_read = r; joins = takes_joins t told } }

@@ -1,6 +1,6 @@
 -- What reading and writing a value answer, said once for lengths, leaves and compounds.
 use Rattle.std.specs.Prelude.{⊤, ◌≡◌, ℕ, ◌-◌, ◌*◌, ◌^◌, ◌<◌, ◌≤◌, min, Bool, false, ◌&&◌, List, [], ◌∷◌, ◌++◌, length, IsTrue, Option, Some, codes}
-use Rattle.wincode_io.specs.Readers.{ReaderState, Kept, IsShort, IsRefused}
+use Rattle.wincode_io.specs.Readers.{ReaderState, Kept, Takes, IsShort, IsRefused}
 use Rattle.wincode.specs.Numbers.{le}
 use Rattle.wincode_io.specs.Writers.{byte_limit}
 use Rattle.wincode.specs.Grammar.{WriteGrammar}
@@ -76,12 +76,6 @@ Excused asks sparing s (reading.Io reader.OutOfMemory) = s.steady ≡ false
 Excused asks sparing s (reading.Io (reader.Io e)) = s.steady ≡ false
 Excused asks sparing s reading.OutOfMemory = (s.steady && sparing) ≡ false
 Excused asks sparing s _ = ⊥
-
--- n bytes were taken from the front
-pub record Takes (n : ℕ) (old new : ReaderState) (bytes : List ℕ) : Type 0 where
-  pub kept : Kept old new
-  pub size : length bytes ≡ n
-  pub front : IsTrue old.told → old.rest ≡ bytes ++ new.rest
 
 -- the k bytes of the number n were taken from the front
 abbrev pub TakesNumber : ℕ → ReaderState → ReaderState → ℕ → Type 0

@@ -1,8 +1,9 @@
 //! Bytes and numbers taken from a reader, and numbers given to a writer.
 ghost use Rattle.std.specs.Prelude.{◌≡◌, true, false, IfOk, IfErr, OnOk};
 ghost use Rattle.std.specs.Int.{w8, w16, w32, w64, w128};
+ghost use Rattle.wincode_io.specs.Readers.{Takes};
 ghost use Rattle.wincode.specs.Leaves.{number_read, number_write, signed_read, signed_write, unit_write};
-ghost use Rattle.wincode.specs.Outcomes.{Gives, Refuses, Takes, TakesNumber, IsDenied, Wrote, Unwritten};
+ghost use Rattle.wincode.specs.Outcomes.{Gives, Refuses, TakesNumber, IsDenied, Wrote, Unwritten};
 
 use crate::error::{ReadResult, WriteResult};
 use crate::io::{Lending, Reader, Writer, fill_array};
