@@ -3,3 +3,9 @@ pub mod Readers
 pub mod Writers
 pub mod WriterLaws
 pub mod Cursors
+pub mod CursorWriters
+pub mod CursorLaws
+pub mod SliceWriters
+pub mod SliceWriterLaws
+pub mod WriteWindows
+pub mod WindowLaws

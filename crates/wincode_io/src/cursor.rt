@@ -1,21 +1,13 @@
 //! Cursors: a position in a slice or a vector.
 ghost use Rattle.std.specs.Prelude.{◌≡◌};
 
-use std::marker::Model;
+mod writing;
 
 /// A position, in bytes, in what it holds.
 #[derive(Drop)]
 pub struct Cursor<T> {
     inner: T,
-    pos: usize,
-}
-
-impl<T> Model for Cursor<T> {
-    ghost use Rattle.wincode_io.specs.Cursors.{Placed};
-
-    ghost Value = { Placed T };
-
-    ghost view = { λ c. record { inner = c.inner; position = c.pos } };
+    position: usize,
 }
 
 impl<T> Cursor<T> {
@@ -24,7 +16,7 @@ impl<T> Cursor<T> {
         ensures inner { result.inner ≡ inner }
         ensures position { result.position ≡ 0 }
     {
-        Cursor { inner, pos: 0 }
+        Cursor { inner, position: 0 }
     }
 
     /// A cursor at the position, which may be past the end.
@@ -32,7 +24,7 @@ impl<T> Cursor<T> {
         ensures inner { result.inner ≡ inner }
         ensures position { result.position ≡ pos }
     {
-        Cursor { inner, pos }
+        Cursor { inner, position: pos }
     }
 
     /// Moves to the position.
@@ -40,21 +32,21 @@ impl<T> Cursor<T> {
         ensures inner { self.new.inner ≡ self.old.inner }
         ensures position { self.new.position ≡ pos }
     {
-        self.pos = pos;
+        self.position = pos;
     }
 
     /// The position.
     pub fn position(&self) -> usize
         ensures { result ≡ self.now.position }
     {
-        self.pos
+        self.position
     }
 
     /// What the cursor holds.
     pub fn into_inner(self) -> T
         ensures { result ≡ self.inner }
     {
-        let Cursor { inner, pos: _pos } = self;
+        let Cursor { inner, position: _position } = self;
         inner
     }
 }

@@ -6,11 +6,15 @@ pub mod error;
 pub mod lending;
 pub mod reader;
 pub mod slice;
+pub mod slice_writer;
 pub mod vec;
+pub mod write_window;
 pub mod writer;
 
 pub use cursor::Cursor;
 pub use error::{ReadError, ReadResult, WriteError, WriteResult};
 pub use lending::{Input, Lending, Lifetime};
 pub use reader::{Reader, fill_array};
+pub use slice_writer::SliceWriter;
+pub use write_window::{TrustedSliceWriter, WriteWindow};
 pub use writer::Writer;
