@@ -24,7 +24,10 @@ impl<T> Cursor<T> {
         ensures inner { result.inner ≡ inner }
         ensures position { result.position ≡ pos }
     {
-        Cursor { inner, position: pos }
+        Cursor {
+            inner,
+            position: pos,
+        }
     }
 
     /// Moves to the position.
@@ -46,7 +49,10 @@ impl<T> Cursor<T> {
     pub fn into_inner(self) -> T
         ensures { result ≡ self.inner }
     {
-        let Cursor { inner, position: _position } = self;
+        let Cursor {
+            inner,
+            position: _position,
+        } = self;
         inner
     }
 }

@@ -63,7 +63,11 @@ impl<'a> Writer for SliceWriter<'a> {
     ghost ready = { λ w. length (drop w.at w.bytes.now) };
 
     fn make_room(&mut self, n: usize) -> WriteResult<()> {
-        if self.bytes.len() - self.at < n { Err(WriteError::WriteSizeLimit(n)) } else { Ok(()) }
+        if self.room() < n {
+            Err(WriteError::WriteSizeLimit(n))
+        } else {
+            Ok(())
+        }
     }
 
     fn write_ready(&mut self, src: &[u8]) {

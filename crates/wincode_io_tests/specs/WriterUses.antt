@@ -7,4 +7,4 @@ use Rattle.wincode_io.specs.Writers.{IsWriteRefused}
 abbrev pub BothRefused : {S : Type 0} → (S → List ℕ → S) → (S → ℕ) → List ℕ → List ℕ → S → S → Bool → ℕ → WriteError → Type 0
 BothRefused put room first second old new steady failures e =
     IsWriteRefused old new (room old < length first) (length first) steady failures e
-  ⊎ ((length first ≤ room old) × IsWriteRefused (put old first) new (room (put old first) < length second) (length second) steady failures e)
+    ⊎ ((length first ≤ room old) × IsWriteRefused (put old first) new (room (put old first) < length second) (length second) steady failures e)

@@ -21,7 +21,11 @@ impl Counted {
         ensures sound { result.sound ≡ sound }
         ensures failures { result.failures ≡ 0 }
     {
-        Counted { bytes, sound, failures: 0 }
+        Counted {
+            bytes,
+            sound,
+            failures: 0,
+        }
     }
 
     /// The bytes that the device took.

@@ -3,7 +3,7 @@ ghost use Rattle.std.specs.Prelude.{◌≡◌, ◌+◌, ◌-◌, ◌<◌, ◌≤
 ghost use Rattle.std.specs.Borrow.{GName};
 ghost use Rattle.wincode_io.specs.Cursors.{Placed};
 ghost use Rattle.wincode_io.specs.CursorWriters.{with_zeros, cursor_put, slice_cursor_room, vec_cursor_room};
-ghost use Rattle.wincode_io.specs.CursorLaws.{slice_cursor_laws, vec_cursor_laws, same_bound};
+ghost use Rattle.wincode_io.specs.CursorLaws.{slice_cursor_laws, vec_cursor_laws, placed, same_bound};
 ghost use Rattle.wincode_io.specs.Writers.{IsWriteRefusal, byte_limit};
 ghost use Rattle.wincode_io.specs.WriterLaws.{min_right};
 
@@ -33,17 +33,15 @@ impl<'a> Writer for Cursor<&'a mut [u8]> {
     ghost ready = { λ c. length c.inner.now - c.position };
 
     fn make_room(&mut self, n: usize) -> WriteResult<()> {
-        if self.inner.len().saturating_sub(self.position) < n { Err(WriteError::WriteSizeLimit(n)) } else { Ok(()) }
+        if self.inner.len().saturating_sub(self.position) < n {
+            Err(WriteError::WriteSizeLimit(n))
+        } else {
+            Ok(())
+        }
     }
 
-    #[tactic(auto, using(crate::proofs::CursorSteps::put_some, crate::proofs::CursorSteps::put_none, crate::proofs::CursorSteps::no_gap))]
     fn write_ready(&mut self, src: &[u8]) {
-        if src.is_empty() {
-            return;
-        }
-        let end = self.position + src.len();
-        self.inner[self.position..end].copy_from_slice(src);
-        self.position = end;
+        self.position = put_in_slice(&mut *self.inner, self.position, src);
     }
 
     ghost writer_laws = { slice_cursor_laws };
@@ -74,24 +72,35 @@ impl<'a, const N: usize> Writer for Cursor<&'a mut [u8; N]> {
 
     fn make_room(&mut self, n: usize) -> WriteResult<()> {
         let all = &self.inner[..];
-        if all.len().saturating_sub(self.position) < n { Err(WriteError::WriteSizeLimit(n)) } else { Ok(()) }
+        if all.len().saturating_sub(self.position) < n {
+            Err(WriteError::WriteSizeLimit(n))
+        } else {
+            Ok(())
+        }
     }
 
-    #[tactic(auto, using(crate::proofs::CursorSteps::put_some, crate::proofs::CursorSteps::put_none, crate::proofs::CursorSteps::no_gap))]
     fn write_ready(&mut self, src: &[u8]) {
-        if src.is_empty() {
-            return;
-        }
         let position = self.position;
-        let all = &mut self.inner[..];
-        let end = position + src.len();
-        all[position..end].copy_from_slice(src);
-        self.position = end;
+        self.position = put_in_slice(&mut self.inner[..], position, src);
     }
 
     ghost writer_laws = { slice_cursor_laws };
 
     ghost ready_room = { λ c. same_bound (length c.inner.now - c.position) };
+}
+
+/// Writes `src` over the slice at `position`, and gives the position behind it: that of `cursor_put`.
+#[tactic(auto, using(crate::proofs::CursorSteps::put_some, crate::proofs::CursorSteps::put_none, crate::proofs::CursorSteps::no_gap))]
+fn put_in_slice(bytes: &mut [u8], position: usize, src: &[u8]) -> usize
+    requires { length src.now ≤ length bytes.old - position }
+    ensures { placed bytes.new result ≡ cursor_put (placed bytes.old position) src.now }
+{
+    if src.is_empty() {
+        return position;
+    }
+    let end = position + src.len();
+    bytes[position..end].copy_from_slice(src);
+    end
 }
 
 /// Makes room, in memory, for `n` bytes at `position`. A sum past `usize` is `WriteSizeLimit(n)`, and a
@@ -136,6 +145,23 @@ fn overwrite(bytes: &mut Vec<u8>, position: usize, src: &[u8])
     all[position..end].copy_from_slice(src);
 }
 
+/// Writes `src` over the vector at `position`, with zeros up to it, in memory that it has, and gives the
+/// position behind it: that of `cursor_put`.
+#[tactic(auto, using(crate::proofs::CursorSteps::put_some, crate::proofs::CursorSteps::put_none, crate::proofs::CursorSteps::overwritten_grown))]
+fn put_in_vector(bytes: &mut Vec<u8>, position: usize, src: &[u8]) -> usize
+    requires { length src.now ≤ min (vec_capacity bytes.old - position) (byte_limit - position) }
+    ensures state { placed bytes.new.items result ≡ cursor_put (placed bytes.old.items position) src.now }
+    ensures capacity { vec_capacity bytes.old ≤ vec_capacity bytes.new }
+{
+    if src.is_empty() {
+        return position;
+    }
+    let end = position + src.len();
+    fill_to(bytes, end);
+    overwrite(bytes, position, src);
+    end
+}
+
 /// Overwrites the vector at the position, moves on, and grows it; zeros fill a gap once a byte is written
 /// past the end. Its room is `usize::MAX` minus the position. A refused growth is `OutOfMemory`.
 impl Writer for Cursor<Vec<u8>> {
@@ -162,15 +188,9 @@ impl Writer for Cursor<Vec<u8>> {
         grow_to(&mut self.inner, position, n)
     }
 
-    #[tactic(auto, using(crate::proofs::CursorSteps::put_some, crate::proofs::CursorSteps::put_none, crate::proofs::CursorSteps::overwritten_grown))]
     fn write_ready(&mut self, src: &[u8]) {
-        if src.is_empty() {
-            return;
-        }
-        let end = self.position + src.len();
-        fill_to(&mut self.inner, end);
-        overwrite(&mut self.inner, self.position, src);
-        self.position = end;
+        let position = self.position;
+        self.position = put_in_vector(&mut self.inner, position, src);
     }
 
     ghost writer_laws = { vec_cursor_laws };
@@ -204,15 +224,9 @@ impl<'a> Writer for Cursor<&'a mut Vec<u8>> {
         grow_to(&mut *self.inner, position, n)
     }
 
-    #[tactic(auto, using(crate::proofs::CursorSteps::put_some, crate::proofs::CursorSteps::put_none, crate::proofs::CursorSteps::overwritten_grown))]
     fn write_ready(&mut self, src: &[u8]) {
-        if src.is_empty() {
-            return;
-        }
-        let end = self.position + src.len();
-        fill_to(&mut *self.inner, end);
-        overwrite(&mut *self.inner, self.position, src);
-        self.position = end;
+        let position = self.position;
+        self.position = put_in_vector(&mut *self.inner, position, src);
     }
 
     ghost writer_laws = { vec_cursor_laws };
