@@ -3,8 +3,7 @@ use Rattle.std.proofs.Common.{◌≡◌, ℕ, ◌+◌, ◌-◌, ◌<◌, ◌≤�
 use Rattle.std.proofs.lemmas.List.{take-append-le, length-replicate, drop_all, replicate-append-replicate}
 use Rattle.std.proofs.lemmas.Bool.{cases_lt}
 use Rattle.wincode_io.specs.Cursors.{Placed}
-use Rattle.wincode_io.specs.CursorWriters.{with_zeros, overwritten, cursor_put}
-use Rattle.wincode_io.specs.CursorLaws.{placed}
+use Rattle.wincode_io.specs.CursorWriters.{placed, with_zeros, overwritten, cursor_put}
 
 pub put_some : (s : Placed (List ℕ)) (a : List ℕ) → 0 < length a → cursor_put s a ≡ placed (overwritten s.inner s.position a) (s.position + length a)
 put_some s [] h = absurd (omega arith)

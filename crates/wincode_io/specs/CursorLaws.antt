@@ -1,15 +1,11 @@
 -- The laws of writing cursors.
-use Rattle.std.proofs.Common.{◌≡◌, ℕ, ◌+◌, ◌-◌, ◌<◌, ◌≤◌, List, [], ◌∷◌, ◌++◌, length, take, drop, replicate, refl, ap, sym, ◌∙◌, append_assoc, append-nil, arith, length-append, length-drop, length-take, drop-drop}
+use Rattle.std.proofs.Common.{◌≡◌, ℕ, ◌+◌, ◌-◌, ◌≤◌, List, [], ◌∷◌, ◌++◌, length, take, drop, replicate, refl, ap, sym, ◌∙◌, append_assoc, append-nil, arith, length-append, length-drop, length-take, drop-drop}
 use Rattle.std.proofs.Math.Seq.{take-append_seam, drop-append-add}
 use Rattle.std.proofs.lemmas.Grind.{common_steps}
 use Rattle.std.proofs.lemmas.List.{length-replicate}
 use Rattle.wincode_io.specs.Writers.{WriterLaws, byte_limit}
 use Rattle.wincode_io.specs.Cursors.{Placed}
-use Rattle.wincode_io.specs.CursorWriters.{with_zeros, overwritten, cursor_put, slice_cursor_room, vec_cursor_room}
-
--- the cursor with these bytes at this position
-abbrev pub placed : List ℕ → ℕ → Placed (List ℕ)
-placed bytes position = record { inner = bytes; position = position }
+use Rattle.wincode_io.specs.CursorWriters.{placed, with_zeros, overwritten, cursor_put, slice_cursor_room, vec_cursor_room}
 
 taken : (f a r z : List ℕ) (p : ℕ) → length f ≡ p → take (p + length a) ((f ++ (a ++ r)) ++ z) ≡ f ++ a
 taken f a r z p e = ap (λ n. take (n + length a) ((f ++ (a ++ r)) ++ z)) (sym e) ∙ ap (λ n. take n ((f ++ (a ++ r)) ++ z)) (sym (length-append f a)) ∙ ap (λ l. take (length (f ++ a)) l) (ap (λ l. l ++ z) (sym (append_assoc f a r)) ∙ append_assoc (f ++ a) r z) ∙ take-append_seam (f ++ a) (r ++ z)
@@ -56,6 +52,3 @@ slice_cursor_laws = record { nil = λ s. refl; join = λ s a b h. put_joined s a
 -- a cursor over a vector
 pub vec_cursor_laws : WriterLaws cursor_put vec_cursor_room
 vec_cursor_laws = record { nil = λ s. refl; join = λ s a b h. put_joined s a b; left = λ s a h. vec_room_after byte_limit s a h }
-
-pub same_bound : (n : ℕ) → n ≤ n
-same_bound n = omega arith

@@ -3,6 +3,10 @@ use Rattle.std.specs.Prelude.{ℕ, ◌+◌, ◌-◌, List, [], ◌∷◌, ◌++�
 use Rattle.wincode_io.specs.Cursors.{Placed}
 use Rattle.wincode_io.specs.Writers.{byte_limit}
 
+-- a cursor with these bytes, at this position
+abbrev pub placed : List ℕ → ℕ → Placed (List ℕ)
+placed bytes position = record { inner = bytes; position = position }
+
 -- the bytes, with zeros behind them where they are fewer than n
 abbrev pub with_zeros : List ℕ → ℕ → List ℕ
 with_zeros bytes n = bytes ++ replicate (n - length bytes) 0
@@ -14,7 +18,7 @@ overwritten bytes position a = take position (with_zeros bytes position) ++ (a +
 -- a cursor that took `a` at its position: nothing leaves it, the position too
 abbrev pub cursor_put : Placed (List ℕ) → List ℕ → Placed (List ℕ)
 cursor_put s [] = s
-cursor_put s (b ∷ more) = record { inner = overwritten s.inner s.position (b ∷ more); position = s.position + length (b ∷ more) }
+cursor_put s (b ∷ more) = placed (overwritten s.inner s.position (b ∷ more)) (s.position + length (b ∷ more))
 
 -- a cursor over a slice has the bytes from its position to the end, none past it
 abbrev pub slice_cursor_room : Placed (List ℕ) → ℕ

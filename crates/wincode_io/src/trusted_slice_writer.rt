@@ -1,7 +1,7 @@
 //! Windows for writing over a slice, from a place of the caller's on.
 ghost use Rattle.std.specs.Prelude.{◌≡◌, ℕ, ◌-◌, ◌≤◌, List, length, true};
 ghost use Rattle.wincode_io.specs.Cursors.{Placed};
-ghost use Rattle.wincode_io.specs.CursorWriters.{cursor_put, slice_cursor_room};
+ghost use Rattle.wincode_io.specs.CursorWriters.{placed, cursor_put, slice_cursor_room};
 ghost use Rattle.wincode_io.specs.CursorLaws.{slice_cursor_laws};
 ghost use Rattle.wincode_io.specs.WriteWindows.{WindowState, PlaceKept, window_put, window_room};
 ghost use Rattle.wincode_io.specs.WindowLaws.{window_laws, window_bound};
@@ -43,7 +43,7 @@ impl<'b> TrustedSliceWriter<'b> {
 impl<'b> Writer for TrustedSliceWriter<'b> {
     ghost State = { WindowState (Placed (List ℕ)) };
 
-    ghost state = { λ w. record { target = record { inner = w.bytes.now; position = w.at.now }; left = w.left } };
+    ghost state = { λ w. record { target = placed w.bytes.now w.at.now; left = w.left } };
 
     ghost put = { window_put cursor_put };
 

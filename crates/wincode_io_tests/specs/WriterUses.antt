@@ -1,5 +1,5 @@
 -- What writes in parts leave.
-use Rattle.std.specs.Prelude.{◌≡◌, ℕ, ◌<◌, ◌≤◌, ◌⊎◌, Bool, List, length, false}
+use Rattle.std.specs.Prelude.{ℕ, ◌<◌, ◌≤◌, ◌⊎◌, Bool, List, length}
 use Rattle.wincode_io.specs.declared.error.WriteError.{WriteError}
 use Rattle.wincode_io.specs.Writers.{IsWriteRefused}
 

@@ -1,7 +1,7 @@
 //! Writing in parts and in windows, through any writer.
 ghost use Rattle.std.specs.Prelude.{◌≡◌, ℕ, ◌+◌, ◌-◌, ◌^◌, ◌<◌, ◌≤◌, ◌⊎◌, ◌/◌, List, length, take, drop, ◌++◌, OnOk, IfErr, false, true};
 ghost use Rattle.wincode_io.specs.Writers.{IsWriteRefusal, IsWriteRefused, byte_limit};
-ghost use Rattle.wincode_io.specs.CursorWriters.{cursor_put};
+ghost use Rattle.wincode_io.specs.CursorWriters.{placed, cursor_put};
 ghost use Rattle.wincode_io_tests.specs.WriterUses.{BothRefused};
 
 use wincode_io::{Cursor, SliceWriter, TrustedSliceWriter, WriteResult, WriteWindow, Writer};
@@ -80,7 +80,7 @@ pub fn overwrite_front(bytes: &mut [u8], src: &[u8]) -> WriteResult<()>
 
 /// Writes over the slice at a position.
 pub fn overwrite_at(bytes: &mut [u8], position: usize, src: &[u8]) -> WriteResult<()>
-    ensures ok { OnOk result ((length src.now ≤ length bytes.old - position) × (bytes.new ≡ (cursor_put (record { inner = bytes.old; position = position }) src.now).inner)) }
+    ensures ok { OnOk result ((length src.now ≤ length bytes.old - position) × (bytes.new ≡ (cursor_put (placed bytes.old position) src.now).inner)) }
     ensures err { IfErr result (IsWriteRefused bytes.old bytes.new (length bytes.old - position < length src.now) (length src.now) true 0) }
 {
     let mut cursor = Cursor::new_at(bytes, position);
@@ -89,7 +89,7 @@ pub fn overwrite_at(bytes: &mut [u8], position: usize, src: &[u8]) -> WriteResul
 
 /// Writes over the vector at a position, through a window, and grows it.
 pub fn grow_at(bytes: &mut Vec<u8>, position: usize, src: &[u8]) -> WriteResult<()>
-    ensures ok { OnOk result ((length src.now ≤ byte_limit - position) × (bytes.new.items ≡ (cursor_put (record { inner = bytes.old.items; position = position }) src.now).inner)) }
+    ensures ok { OnOk result ((length src.now ≤ byte_limit - position) × (bytes.new.items ≡ (cursor_put (placed bytes.old.items position) src.now).inner)) }
     ensures err { IfErr result (IsWriteRefused bytes.old.items bytes.new.items (byte_limit - position < length src.now) (length src.now) false 0) }
 {
     let mut cursor = Cursor::new_at(bytes, position);
@@ -104,7 +104,7 @@ pub fn overwrite_on(
     second: &[u8],
 ) -> WriteResult<()>
     requires { length first.now + length second.now ≤ length bytes.old - at.old }
-    ensures ok { OnOk result ((bytes.new ≡ (cursor_put (record { inner = bytes.old; position = at.old }) (first.now ++ second.now)).inner) × (at.new ≡ at.old + (length first.now + length second.now))) }
+    ensures ok { OnOk result ((bytes.new ≡ (cursor_put (placed bytes.old at.old) (first.now ++ second.now)).inner) × (at.new ≡ at.old + (length first.now + length second.now))) }
     ensures err { IfErr result (λ _. ⊥) }
 {
     let mut window = TrustedSliceWriter::new(bytes, at, first.len() + second.len());

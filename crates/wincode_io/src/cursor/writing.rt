@@ -2,10 +2,10 @@
 ghost use Rattle.std.specs.Prelude.{◌≡◌, ◌+◌, ◌-◌, ◌<◌, ◌≤◌, OnOk, IfErr, false, true, min, length, take, drop, ◌++◌, vec_len, vec_capacity, List, ℕ};
 ghost use Rattle.std.specs.Borrow.{GName};
 ghost use Rattle.wincode_io.specs.Cursors.{Placed};
-ghost use Rattle.wincode_io.specs.CursorWriters.{with_zeros, cursor_put, slice_cursor_room, vec_cursor_room};
-ghost use Rattle.wincode_io.specs.CursorLaws.{slice_cursor_laws, vec_cursor_laws, placed, same_bound};
+ghost use Rattle.wincode_io.specs.CursorWriters.{placed, with_zeros, cursor_put, slice_cursor_room, vec_cursor_room};
+ghost use Rattle.wincode_io.specs.CursorLaws.{slice_cursor_laws, vec_cursor_laws};
 ghost use Rattle.wincode_io.specs.Writers.{IsWriteRefusal, byte_limit};
-ghost use Rattle.wincode_io.specs.WriterLaws.{min_right};
+ghost use Rattle.wincode_io.specs.WriterLaws.{min_right, same_bound};
 
 use crate::cursor::Cursor;
 use crate::error::{WriteError, WriteResult};
@@ -16,7 +16,7 @@ use crate::writer::Writer;
 impl<'a> Writer for Cursor<&'a mut [u8]> {
     ghost State = { Placed (List ℕ) };
 
-    ghost state = { λ c. record { inner = c.inner.now; position = c.position } };
+    ghost state = { λ c. placed c.inner.now c.position };
 
     ghost put = { cursor_put };
 
@@ -54,7 +54,7 @@ impl<'a> Writer for Cursor<&'a mut [u8]> {
 impl<'a, const N: usize> Writer for Cursor<&'a mut [u8; N]> {
     ghost State = { Placed (List ℕ) };
 
-    ghost state = { λ c. record { inner = c.inner.now; position = c.position } };
+    ghost state = { λ c. placed c.inner.now c.position };
 
     ghost put = { cursor_put };
 
@@ -167,7 +167,7 @@ fn put_in_vector(bytes: &mut Vec<u8>, position: usize, src: &[u8]) -> usize
 impl Writer for Cursor<Vec<u8>> {
     ghost State = { Placed (List ℕ) };
 
-    ghost state = { λ c. record { inner = c.inner.items; position = c.position } };
+    ghost state = { λ c. placed c.inner.items c.position };
 
     ghost put = { cursor_put };
 
@@ -203,7 +203,7 @@ impl Writer for Cursor<Vec<u8>> {
 impl<'a> Writer for Cursor<&'a mut Vec<u8>> {
     ghost State = { Placed (List ℕ) };
 
-    ghost state = { λ c. record { inner = c.inner.now.items; position = c.position } };
+    ghost state = { λ c. placed c.inner.now.items c.position };
 
     ghost put = { cursor_put };
 
