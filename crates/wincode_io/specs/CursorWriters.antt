@@ -15,7 +15,7 @@ with_zeros bytes n = bytes ++ replicate (n - length bytes) 0
 abbrev pub overwritten : List ℕ → ℕ → List ℕ → List ℕ
 overwritten bytes position a = take position (with_zeros bytes position) ++ (a ++ drop (position + length a) bytes)
 
--- a cursor that took `a` at its position: nothing leaves it, the position too
+-- a cursor that took `a` at its position; taking nothing changes nothing, the position neither
 abbrev pub cursor_put : Placed (List ℕ) → List ℕ → Placed (List ℕ)
 cursor_put s [] = s
 cursor_put s (b ∷ more) = placed (overwritten s.inner s.position (b ∷ more)) (s.position + length (b ∷ more))

@@ -30,7 +30,8 @@ pub fn write_in_window<W: Writer>(writer: &mut W, n: usize, src: &[u8]) -> Write
 }
 
 /// In a window of the parts' lengths and `spare` bytes more, writes `outer`, then `inner` through a
-/// window of its own, then `after`; the spare bytes aren't skipped. All is written or nothing: a refusal is that of the whole window.
+/// window of its own, then `after`; the spare bytes aren't skipped. All is written or nothing: a refusal
+/// is that of the whole window.
 pub fn write_within<W: Writer>(
     writer: &mut W,
     outer: &[u8],
