@@ -4,3 +4,9 @@ pub mod Writers
 pub mod WriterLaws
 pub mod Cursors
 pub mod Windows
+pub mod CursorWriters
+pub mod CursorLaws
+pub mod SliceWriters
+pub mod SliceWriterLaws
+pub mod WriteWindows
+pub mod WindowLaws

@@ -6,8 +6,11 @@ pub mod error;
 pub mod lending;
 pub mod reader;
 pub mod slice;
+pub mod slice_writer;
+pub mod trusted_slice_writer;
 pub mod vec;
 pub mod window;
+pub mod write_window;
 pub mod writer;
 
 pub use cursor::Cursor;
@@ -17,4 +20,7 @@ pub use reader::{Reader, copy_into_array, fill_array};
 pub use window::{
     ReadWindow, TrustedSliceReader, TrustedSliceReaderZeroCopy, TrustedSliceReaderZeroCopyMut,
 };
+pub use slice_writer::SliceWriter;
+pub use trusted_slice_writer::TrustedSliceWriter;
+pub use write_window::WriteWindow;
 pub use writer::Writer;

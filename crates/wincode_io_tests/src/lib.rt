@@ -1,4 +1,6 @@
-//! What the readers of `wincode_io` do, in calls through their bounds and on fixed bytes.
+//! Uses of the readers and writers of `wincode_io`, with what they leave, and tests on fixed bytes.
 #![tactic(auto)]
 
+pub mod counted;
 pub mod readers;
+pub mod writers;

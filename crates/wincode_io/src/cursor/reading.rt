@@ -2,7 +2,7 @@
 ghost use Rattle.std.specs.Prelude.{◌≡◌, ◌≤◌, drop, IfOk, IfErr, OnOk};
 ghost use Rattle.wincode_io.specs.Readers.{Loses, Windowed, IsRefused, IsShort};
 ghost use Rattle.wincode_io.specs.Windows.{window_state};
-ghost use Rattle.wincode_io.specs.Cursors.{over, Moves};
+ghost use Rattle.wincode_io.specs.Cursors.{reading, Moves};
 
 use super::super::error::{ReadError, ReadResult};
 use super::super::lending::Lifetime;
@@ -13,27 +13,27 @@ use super::Cursor;
 /// Reads from the position on, and lends nothing. Past the end it has no bytes left, and stays where
 /// it is.
 impl<'a> Reader<Lifetime<'a>> for Cursor<&'a [u8]> {
-    ghost state = { λ c. over c.inner.now c.position };
+    ghost state = { reading };
 
     fn fill(&mut self, _n: usize) -> ReadResult<()> {
         Ok(())
     }
 
     fn at_hand(&self) -> &[u8] {
-        rest_of(self.inner, self.pos)
+        rest_of(self.inner, self.position)
     }
 
     fn consume_unchecked(&mut self, n: usize)
-        requires { n ≤ (over self.old.inner.now self.old.position).ready }
-        ensures loses { Loses n (over self.old.inner.now self.old.position) (over self.new.inner.now self.new.position) }
+        requires { n ≤ (reading self.old).ready }
+        ensures loses { Loses n (reading self.old) (reading self.new) }
         ensures moves { Moves n self.old self.new }
     {
-        self.pos += n;
+        self.position += n;
     }
 
     fn consume(&mut self, n: usize) -> ReadResult<()>
-        ensures ok { OnOk result (Loses n (over self.old.inner.now self.old.position) (over self.new.inner.now self.new.position)) }
-        ensures err { IfErr result (IsRefused (IsShort n (over self.old.inner.now self.old.position)) ⊥ n (over self.old.inner.now self.old.position) (over self.new.inner.now self.new.position)) }
+        ensures ok { OnOk result (Loses n (reading self.old) (reading self.new)) }
+        ensures err { IfErr result (IsRefused (IsShort n (reading self.old)) ⊥ n (reading self.old) (reading self.new)) }
         ensures moves { OnOk result (Moves n self.old self.new) }
         ensures stays { IfErr result (λ e. self.new ≡ self.old) }
     {
@@ -54,14 +54,14 @@ impl<'a> Reader<Lifetime<'a>> for Cursor<&'a [u8]> {
     }
 
     fn as_trusted_for(&mut self, n: usize) -> ReadResult<ReadWindow<Lifetime<'a>>>
-        ensures ok { IfOk result (λ w. Windowed n (over self.old.inner.now self.old.position) (over self.new.inner.now self.new.position) (window_state w)) }
-        ensures err { IfErr result (IsRefused (IsShort n (over self.old.inner.now self.old.position)) ⊥ n (over self.old.inner.now self.old.position) (over self.new.inner.now self.new.position)) }
+        ensures ok { IfOk result (λ w. Windowed n (reading self.old) (reading self.new) (window_state w)) }
+        ensures err { IfErr result (IsRefused (IsShort n (reading self.old)) ⊥ n (reading self.old) (reading self.new)) }
         ensures moves { OnOk result (Moves n self.old self.new) }
         ensures stays { IfErr result (λ e. self.new ≡ self.old) }
     {
-        let rest = rest_of(self.inner, self.pos);
+        let rest = rest_of(self.inner, self.position);
         if n <= rest.len() {
-            self.pos += n;
+            self.position += n;
             Ok(ReadWindow::Plain(TrustedSliceReader::<Lifetime<'a>>::new(&rest[..n])))
         } else {
             Err(ReadError::ReadSizeLimit(n))

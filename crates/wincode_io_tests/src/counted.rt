@@ -1,0 +1,100 @@
+//! A writer over a device that fails.
+ghost use Rattle.std.specs.Prelude.{◌≡◌, ℕ, ◌+◌, ◌-◌, ◌<◌, ◌≤◌, Bool, true, false, IsTrue, min, List, length, ◌++◌, vec_capacity};
+ghost use Rattle.wincode_io.specs.Writers.{byte_limit};
+ghost use Rattle.wincode_io.specs.WriterLaws.{append_laws, min_right};
+
+use std::io;
+use wincode_io::{WriteError, WriteResult, Writer};
+
+/// Appends to a vector, as a device does that makes room so many times and then fails each time.
+#[derive(Drop)]
+pub struct Counted {
+    bytes: Vec<u8>,
+    sound: usize,
+    failures: usize,
+}
+
+impl Counted {
+    /// A device with these bytes, which makes room `sound` times and has not failed.
+    pub fn new(bytes: Vec<u8>, sound: usize) -> Counted
+        ensures bytes { result.bytes ≡ bytes }
+        ensures sound { result.sound ≡ sound }
+        ensures failures { result.failures ≡ 0 }
+    {
+        Counted {
+            bytes,
+            sound,
+            failures: 0,
+        }
+    }
+
+    /// The bytes that the device took.
+    pub fn bytes(&self) -> &[u8]
+        ensures { result.now ≡ self.now.bytes.items }
+    {
+        self.bytes.as_slice()
+    }
+
+    /// How often the device failed; the count stays at `usize::MAX`.
+    pub fn failures(&self) -> usize
+        ensures { result ≡ self.now.failures }
+    {
+        self.failures
+    }
+
+    /// Asks the device once. `false` is a failure, which is counted.
+    fn ask(&mut self) -> bool
+        ensures bytes { self.new.bytes ≡ self.old.bytes }
+        ensures answer { result ≡ true → (0 < self.old.sound) × (self.new.sound + 1 ≡ self.old.sound) × (self.new.failures ≡ self.old.failures) }
+        ensures failure { result ≡ false → (self.old.sound ≡ 0) × (self.new.sound ≡ 0) × (self.new.failures ≡ min (self.old.failures + 1) byte_limit) }
+    {
+        if 0 < self.sound {
+            self.sound -= 1;
+            return true;
+        }
+        self.failures = self.failures.saturating_add(1);
+        false
+    }
+}
+
+/// Appends. Once the device fails, so does each call that asks for room, as `Io` of kind Other.
+impl Writer for Counted {
+    ghost State = { List ℕ };
+
+    ghost state = { λ c. c.bytes.items };
+
+    ghost put = { λ s a. s ++ a };
+
+    ghost room = { λ s. byte_limit - length s };
+
+    ghost Kept = { Unit };
+
+    ghost kept = { λ _. tt };
+
+    ghost steady = { λ _. false };
+
+    ghost failures = { λ c. c.failures };
+
+    ghost ready = { λ c. min (vec_capacity c.bytes - length c.bytes.items) (byte_limit - length c.bytes.items) };
+
+    fn make_room(&mut self, n: usize) -> WriteResult<()> {
+        if usize::MAX - self.bytes.len() < n {
+            return Err(WriteError::WriteSizeLimit(n));
+        }
+        if !self.ask() {
+            return Err(WriteError::Io(io::Error::from(io::ErrorKind::Other)));
+        }
+        if self.bytes.reserve(n).is_err() {
+            return Err(WriteError::OutOfMemory);
+        }
+        Ok(())
+    }
+
+    fn write_ready(&mut self, src: &[u8]) {
+        let _ = self.bytes.extend_from_slice(src);
+    }
+
+    ghost writer_laws = { append_laws };
+
+    ghost ready_room = { λ c. min_right (vec_capacity c.bytes - length c.bytes.items) (byte_limit - length c.bytes.items) };
+}
