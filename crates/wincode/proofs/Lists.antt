@@ -6,7 +6,7 @@ use Rattle.wincode_io.specs.Writers.{WriterLaws}
 use Rattle.wincode.specs.Grammar.{WriteGrammar, WriteLaws}
 use Rattle.wincode.specs.Lengths.{Scheme, HasText, text_len, length_write}
 use Rattle.wincode.specs.Lists.{Each, total, items_write, list_write}
-use Rattle.wincode.specs.Outcomes.{Wrote, Unwritten, IsOverflow, IsSizeRefused, IsTextless}
+use Rattle.wincode.specs.Outcomes.{Wrote, Unwritten, IsSizeRefused, IsTextless}
 use Rattle.wincode.specs.WriteSequences.{items_wrote_more, items_unwritten, total-append, list_wrote, list_unwritten_first, list_unwritten_second, each_append, each_split}
 use Rattle.wincode.specs.declared.error.WriteError.{WriteError}
 
@@ -45,8 +45,8 @@ module _ {A : Type 0} (xs : List A) (i : ℕ) (x : A) (h : i < length xs) (e : x
 
       pub items_stopped : (steady : Bool) (failures : ℕ) (e : WriteError) → Wrote put room (items_write g) old mid (map f (take i xs)) → Unwritten put room g mid new (f x) steady failures e → Unwritten put room (items_write g) old new (map f xs) steady failures e
       items_stopped steady failures e r u =
-        let P : List V → Type 0 = λ vs. Unwritten put room (items_write g) old new vs steady failures e in
-        subst P (sym map_parted) (items_unwritten put room laws g p f l old mid new (map f (take i xs)) (f x) (map f (drop (suc i) xs)) steady failures e r u)
+          let P : List V → Type 0 = λ vs. Unwritten put room (items_write g) old new vs steady failures e in
+          subst P (sym map_parted) (items_unwritten put room laws g p f l old mid new (map f (take i xs)) (f x) (map f (drop (suc i) xs)) steady failures e r u)
 
 -- ---- the length of a list is that of what contracts see of it
 
@@ -83,7 +83,7 @@ module _ {X V : Type 0} (s : Scheme) (g : WriteGrammar V) (f : X → V) (xs : Li
 
     -- the sum of sizes overflows
     pub size_over : (sum : ℕ) → sum ≡ text_len (s.text (length xs)) + total g.size (map f (take i xs)) → 2 ^ 64 ≤ sum + g.size (f x)
-      → (list_write s g).can (map f xs) → (list_write s g).size (map f xs) < 2 ^ 64 → ⊥
+        → (list_write s g).can (map f xs) → (list_write s g).size (map f xs) < 2 ^ 64 → ⊥
     size_over sum e over c fits = absurd (omega (arith, total_within xs i x h is f g.size, seen_size s f xs))
 
 -- ---- a list after its length
@@ -97,8 +97,8 @@ module _ {S X V : Type 0} (put : S → List ℕ → S) (room : S → ℕ) (laws 
 
   pub length_unwritten : (old new : S) (steady : Bool) (failures : ℕ) (e : WriteError) → Unwritten put room (length_write s) old new (length xs) steady failures e → Unwritten put room (list_write s g) old new (map f xs) steady failures e
   length_unwritten old new steady failures e u =
-    let P : ℕ → Type 0 = λ n. Unwritten put room (length_write s) old new n steady failures e in
-    list_unwritten_first put room laws g p f l s old new (map f xs) steady failures e (subst P (sym (length-map xs f)) u)
+      let P : ℕ → Type 0 = λ n. Unwritten put room (length_write s) old new n steady failures e in
+      list_unwritten_first put room laws g p f l s old new (map f xs) steady failures e (subst P (sym (length-map xs f)) u)
 
   pub rest_unwritten : (old mid new : S) (steady : Bool) (failures : ℕ) (e : WriteError) → Wrote put room (length_write s) old mid (length xs) → Unwritten put room (items_write g) mid new (map f xs) steady failures e → Unwritten put room (list_write s g) old new (map f xs) steady failures e
   rest_unwritten old mid new steady failures e r u = list_unwritten_second put room laws g p f l s old mid new (map f xs) steady failures e (length_seen old mid r) u

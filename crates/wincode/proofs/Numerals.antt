@@ -1,9 +1,9 @@
 -- What numbers read and write, by the words of std.
-use Rattle.std.proofs.Common.{◌≡◌, ◌∙◌, sym, ap, subst, ℕ, ◌<◌, ◌≤◌, nat_eq, zero, suc, ◌^◌, Bool, List, [], ◌∷◌, ◌++◌, ◌%◌, w8, length, get_or, refl, arith, Some, false, true}
+use Rattle.std.proofs.Common.{◌≡◌, ◌∙◌, sym, ap, subst, ℕ, ◌<◌, ◌≤◌, nat_eq, zero, suc, ◌^◌, Bool, List, [], ◌∷◌, ◌++◌, w8, length, get_or, refl, arith, Some, false, true}
 use Rattle.std.proofs.lemmas.List.Elements.{All-from_get_or}
 use Rattle.std.specs.Int.{to_le_bytes, from_le_bytes, Width, byte_len}
 use Rattle.wincode_io.specs.Bytes.{IsBytes}
-use Rattle.wincode.specs.Numbers.{le, worth}
+use Rattle.wincode.specs.Numbers.{le}
 use Rattle.wincode.specs.NumberLaws.{le-from_le_bytes, from_le_bytes-worth, worth_below, to_le_bytes-le, length-le}
 use Rattle.wincode_io.specs.Readers.{ReaderState, Takes}
 use Rattle.wincode_io.specs.Writers.{WriterLaws, IsWriteRefused}
@@ -31,16 +31,17 @@ module _ (w : Width) (some : 0 < byte_len w) where
   -- what `from_le_bytes` makes of bytes has them as its text
   pub number_text : (bytes : List ℕ) → AreSmall bytes → length bytes ≡ byte_len w → (number_read (byte_len w) true).reads bytes (from_le_bytes w bytes)
   number_text bytes small size =
-    let all = are_bytes bytes small in
-    let e = from_le_bytes-worth w bytes some size in
-    (subst (λ k. from_le_bytes w bytes < 256 ^ k) size (subst (λ n. n < 256 ^ length bytes) (sym e) (worth_below bytes all)),
-     sym (le-from_le_bytes w bytes some all size))
+      let all = are_bytes bytes small in
+      let e = from_le_bytes-worth w bytes some size in (
+        subst (λ k. from_le_bytes w bytes < 256 ^ k) size (subst (λ n. n < 256 ^ length bytes) (sym e) (worth_below bytes all)),
+        sym (le-from_le_bytes w bytes some all size),
+      )
 
   -- bytes that were taken are those of their number
   pub number_taken : (old new : ReaderState) (bytes : List ℕ) (v : ℕ) → Takes (byte_len w) old new bytes → AreSmall bytes → v ≡ from_le_bytes w bytes → TakesNumber (byte_len w) old new v
   number_taken old new bytes v t small e =
-    let is : (v < 256 ^ byte_len w) × (bytes ≡ le (byte_len w) v) = subst (λ n. (n < 256 ^ byte_len w) × (bytes ≡ le (byte_len w) n)) (sym e) (number_text bytes small t.size) in
-    (is.0, subst (Takes (byte_len w) old new) is.1 t)
+      let is : (v < 256 ^ byte_len w) × (bytes ≡ le (byte_len w) v) = subst (λ n. (n < 256 ^ byte_len w) × (bytes ≡ le (byte_len w) n)) (sym e) (number_text bytes small t.size) in
+      (is.0, subst (Takes (byte_len w) old new) is.1 t)
 
 pub number_gives : (k : ℕ) (any : Bool) (old new : ReaderState) (v : ℕ) → TakesNumber k old new v → Gives (number_read k any).reads old new v
 number_gives k any old new v t = takes_gives (number_read k any).reads k old new (le k v) v t.1 (t.0, refl)
@@ -58,7 +59,7 @@ module _ {S : Type 0} (put : S → List ℕ → S) (room : S → ℕ) (w : Width
   number_wrote old new v text e d = let is = e ∙ to_le_bytes-le w v in text_wrote put room (number_write (byte_len w) any) v text old new tt is (ap length is ∙ length-le (byte_len w) v) d
 
   pub number_unwritten : WriterLaws put room → (old new : S) (v : ℕ) (text : List ℕ) (steady : Bool) (failures : ℕ) (e : IoWriteError) → text ≡ to_le_bytes w v
-    → IsWriteRefused old new (room old < length text) (length text) steady failures e → Unwritten put room (number_write (byte_len w) any) old new v steady failures (writing.Io e)
+      → IsWriteRefused old new (room old < length text) (length text) steady failures e → Unwritten put room (number_write (byte_len w) any) old new v steady failures (writing.Io e)
   number_unwritten laws old new v text steady failures e f d = let is = f ∙ to_le_bytes-le w v in text_unwritten put room (number_write (byte_len w) any) v text old new steady failures e laws is (ap length is ∙ length-le (byte_len w) v) d
 
 -- the one byte of a byte
@@ -79,7 +80,7 @@ module _ {S : Type 0} (put : S → List ℕ → S) (room : S → ℕ) (w : Width
   signed_wrote old new z text e d = let is = e ∙ to_le_bytes-le w (cast_unsigned w z) in text_wrote put room (signed_write w any) z text old new tt is (ap length is ∙ length-le (byte_len w) (cast_unsigned w z)) d
 
   pub signed_unwritten : WriterLaws put room → (old new : S) (z : ℤ) (text : List ℕ) (steady : Bool) (failures : ℕ) (e : IoWriteError) → text ≡ to_le_bytes w (cast_unsigned w z)
-    → IsWriteRefused old new (room old < length text) (length text) steady failures e → Unwritten put room (signed_write w any) old new z steady failures (writing.Io e)
+      → IsWriteRefused old new (room old < length text) (length text) steady failures e → Unwritten put room (signed_write w any) old new z steady failures (writing.Io e)
   signed_unwritten laws old new z text steady failures e f d = let is = f ∙ to_le_bytes-le w (cast_unsigned w z) in text_unwritten put room (signed_write w any) z text old new steady failures e laws is (ap length is ∙ length-le (byte_len w) (cast_unsigned w z)) d
 
 -- ---- booleans and values without bytes
@@ -104,16 +105,16 @@ small_bool true = omega arith
 
 not_bool : (old new : ReaderState) (v : ℕ) → 1 < v → TakesNumber 1 old new v → Accepts bool_read.reads old → ⊥
 not_bool old new v big t a =
-  let f = a.front.found in
-  let taken = byte_taken old new v t in
-  let e : bool_byte a.front.value ∷ a.front.rest ≡ v ∷ new.rest = ap (λ x. x ++ a.front.rest) (sym f.is_read) ∙ sym f.joins ∙ takes_joins taken a.told in
-  let same : bool_byte a.front.value ≡ v = cc in
-  absurd (omega (arith, small_bool a.front.value, same))
+    let f = a.front.found in
+    let taken = byte_taken old new v t in
+    let e : bool_byte a.front.value ∷ a.front.rest ≡ v ∷ new.rest = ap (λ x. x ++ a.front.rest) (sym f.is_read) ∙ sym f.joins ∙ takes_joins taken a.told in
+    let same : bool_byte a.front.value ≡ v = cc in
+    absurd (omega (arith, small_bool a.front.value, same))
 
 pub bool_refuses : (old new : ReaderState) (v : ℕ) → 1 < v → TakesNumber 1 old new v → Refuses bool_read.reads 0 true old new (reading.InvalidBoolEncoding v)
 bool_refuses old new v big t =
-  let taken = byte_taken old new v t in
-  record { kept = taken.loses.kept; left = λ told. record { front = v ∷ []; joins = takes_joins taken told }; due = not_bool old new v big t }
+    let taken = byte_taken old new v t in
+    record { kept = taken.loses.kept; left = λ told. record { front = v ∷ []; joins = takes_joins taken told }; due = not_bool old new v big t }
 
 pub bool_denied : (old new : ReaderState) (e : ReadError) → IsDenied 1 old new e → Refuses bool_read.reads 0 true old new e
 bool_denied old new e d = denied_refuses bool_read.reads 1 (λ b v r. ap length r) 0 true old new e d

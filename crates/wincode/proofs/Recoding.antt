@@ -1,7 +1,7 @@
 -- What is read as nested lists of numbers can be written, in as many bytes.
-use Rattle.std.proofs.Common.{◌≡◌, ◌∙◌, sym, ap, ℕ, ◌+◌, ◌<◌, ◌≤◌, ◌^◌, List, [], ◌∷◌, ◌++◌, length, map, refl, arith, true, false, Option, Some, None, IfSome, subst, length-append}
+use Rattle.std.proofs.Common.{◌≡◌, sym, ap, ℕ, ◌<◌, ◌^◌, List, [], ◌∷◌, length, map, arith, true, false, Option, Some, None, IfSome, subst, length-append}
 use Rattle.wincode_io.specs.Readers.{memory, shared}
-use Rattle.wincode.specs.Grammar.{ReadGrammar, WriteGrammar, WriteLaws}
+use Rattle.wincode.specs.Grammar.{ReadGrammar, WriteGrammar}
 use Rattle.wincode.specs.Leaves.{number_read, number_write}
 use Rattle.wincode.specs.LeafLaws.{number_write_laws}
 use Rattle.wincode.specs.Lengths.{Scheme, SchemeLaws, bincode}
@@ -24,12 +24,12 @@ IsWritable {V} r w = (b : List ℕ) (v : V) → r.reads b v → w.writes v b × 
 items_writable : {V : Type 0} (r : ReadGrammar V) (w : WriteGrammar V) → IsWritable r w → (vs : List V) (b : List ℕ) → Joined (λ v t. r.reads t v) vs b → Joined w.writes vs b × Each w.can vs
 items_writable r w h [] b j = (j, tt)
 items_writable r w h (v ∷ vs) b j =
-  let one = h j.0 v j.2 in let all = items_writable r w h vs j.1 j.3 in ((j.0, j.1, one.0, all.0, j.4), (one.1, all.1))
+    let one = h j.0 v j.2 in let all = items_writable r w h vs j.1 j.3 in ((j.0, j.1, one.0, all.0, j.4), (one.1, all.1))
 
 list_writable : {V : Type 0} (s : Scheme) → SchemeLaws s → (r : ReadGrammar V) (w : WriteGrammar V) → IsWritable r w → IsWritable (list_read s r) (list_write s w)
 list_writable s laws r w h b vs t =
-  let all = items_writable r w h vs t.1.1 t.1.3 in
-  ((t.1.0, t.1.1, t.1.2, all.0, t.1.4), (laws.admitted (length vs) r.prealloc t.0, all.1))
+    let all = items_writable r w h vs t.1.1 t.1.3 in
+    ((t.1.0, t.1.1, t.1.2, all.0, t.1.4), (laws.admitted (length vs) r.prealloc t.0, all.1))
 
 numbers_writable : IsWritable (number_read 8 true) (number_write 8 true)
 numbers_writable b v r = (r.1, tt)
@@ -39,20 +39,20 @@ limit = 4194304
 
 nested_writable : IsWritable nested_read nested_write
 nested_writable =
-  list_writable (bincode limit) (bincode_laws limit) (list_read (bincode limit) (number_read 8 true)) (list_write (bincode limit) (number_write 8 true))
+    list_writable (bincode limit) (bincode_laws limit) (list_read (bincode limit) (number_read 8 true)) (list_write (bincode limit) (number_write 8 true))
     (list_writable (bincode limit) (bincode_laws limit) (number_read 8 true) (number_write 8 true) numbers_writable)
 
 nested_size : (v : List (List ℕ)) (b : List ℕ) → nested_write.writes v b → length b ≡ nested_write.size v
 nested_size v b w =
-  let numbers = list_write_laws {X = List ℕ} (bincode limit) (λ xs. xs) (λ n. n < 256 ^ 8) (λ n. n) (number_write 8 true) (number_write_laws 8 true) in
-  let all = list_write_laws {X = List (List ℕ)} (bincode limit) (λ xs. xs) (λ xs. Each (λ n. n < 256 ^ 8) xs) (λ xs. map (λ n. n) xs) (list_write (bincode limit) (number_write 8 true)) numbers in
-  all.text_size v b w
+    let numbers = list_write_laws {X = List ℕ} (bincode limit) (λ xs. xs) (λ n. n < 256 ^ 8) (λ n. n) (number_write 8 true) (number_write_laws 8 true) in
+    let all = list_write_laws {X = List (List ℕ)} (bincode limit) (λ xs. xs) (λ xs. Each (λ n. n < 256 ^ 8) xs) (λ xs. map (λ n. n) xs) (list_write (bincode limit) (number_write 8 true)) numbers in
+    all.text_size v b w
 
 -- what was found at the front of bytes can be written, and fits
 pub found_writable : (bytes : List ℕ) (v : List (List ℕ)) (rest : List ℕ) → length bytes < 2 ^ 64 → Found nested_read.reads bytes v rest → nested_write.can v × (nested_write.size v < 2 ^ 64)
 found_writable bytes v rest small f =
-  let h = nested_writable f.text v f.is_read in
-  (h.1, omega (arith, nested_size v f.text h.0, ap length f.joins, length-append f.text rest, small))
+    let h = nested_writable f.text v f.is_read in
+    (h.1, omega (arith, nested_size v f.text h.0, ap length f.joins, length-append f.text rest, small))
 
 pub excused_memory : (bytes : List ℕ) (e : ReadError) → Excused 0 false (memory shared bytes) e → IsReadMemory e
 excused_memory bytes reading.OutOfMemory x = tt
@@ -64,7 +64,7 @@ excused_memory bytes _ x = absurd x
 
 -- the bytes of a known input were not recoded
 unread : (input : Option (List ℕ)) (shape bytes : List ℕ) (e : ReadError) → IfSome input (λ all. bytes ≡ all) → ((text : List ℕ) → Recoded nested_read nested_write bytes text → IsReadMemory e)
-  → IfSome input (λ all. (text : List ℕ) → IsRecoded shape all text → IsReadMemory e)
+    → IfSome input (λ all. (text : List ℕ) → IsRecoded shape all text → IsReadMemory e)
 unread None shape bytes e same none = tt
 unread (Some all) shape bytes e same none = λ text h. none text (subst (λ b. Recoded nested_read nested_write b text) (sym same) h.1)
 

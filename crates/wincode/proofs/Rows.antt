@@ -1,5 +1,5 @@
 -- The definitions, evaluated on worked rows of bytes and values.
-use Rattle.std.proofs.Common.{◌≡◌, ◌∙◌, sym, ap, subst, ℕ, ◌*◌, ◌<◌, ◌≤◌, ◌^◌, List, [], ◌∷◌, ◌++◌, length, Some, refl, arith, true, length-append, lit<, lit≤}
+use Rattle.std.proofs.Common.{◌≡◌, sym, ap, ℕ, ◌<◌, ◌^◌, List, [], ◌∷◌, ◌++◌, length, refl, arith, true, length-append, lit<, lit≤}
 use Rattle.wincode.specs.Numbers.{le}
 use Rattle.wincode.specs.Grammar.{ReadGrammar, WriteGrammar}
 use Rattle.wincode.specs.Leaves.{number_read, number_write}
@@ -7,7 +7,7 @@ use Rattle.wincode.specs.Lengths.{bincode, IsLength}
 use Rattle.wincode.specs.LengthLaws.{bincode_text_is}
 use Rattle.wincode.specs.LeafLaws.{number_one}
 use Rattle.wincode.specs.Lists.{list_read, list_write}
-use Rattle.wincode.specs.Outcomes.{Found, Front}
+use Rattle.wincode.specs.Outcomes.{Front}
 
 abbrev limit : ℕ
 limit = 4194304
@@ -41,24 +41,38 @@ eight_bytes = (lit< tt, refl)
 
 pub nested_reads : (list_read (bincode limit) numbers_read).reads nested_text nested
 unfolding le
-nested_reads =
-  ((lit< tt, lit≤ tt),
-   (2 ∷ zeros, (1 ∷ zeros) ++ ((1 ∷ zeros) ++ (0 ∷ zeros)), refl,
-    ((1 ∷ zeros) ++ (1 ∷ zeros), 0 ∷ zeros,
-     ((lit< tt, lit≤ tt), (1 ∷ zeros, 1 ∷ zeros, refl, (1 ∷ zeros, [], (lit< tt, refl), refl, refl), refl)),
-     (0 ∷ zeros, [], ((lit< tt, lit≤ tt), (0 ∷ zeros, [], refl, refl, refl)), refl, refl),
-     refl),
-    refl))
+nested_reads = (
+  (lit< tt, lit≤ tt),
+  (
+    2 ∷ zeros,
+    (1 ∷ zeros) ++ ((1 ∷ zeros) ++ (0 ∷ zeros)),
+    refl,
+    (
+      (1 ∷ zeros) ++ (1 ∷ zeros),
+      0 ∷ zeros,
+      ((lit< tt, lit≤ tt), (1 ∷ zeros, 1 ∷ zeros, refl, (1 ∷ zeros, [], (lit< tt, refl), refl, refl), refl)),
+      (0 ∷ zeros, [], ((lit< tt, lit≤ tt), (0 ∷ zeros, [], refl, refl, refl)), refl, refl),
+      refl,
+    ),
+    refl,
+  ),
+)
 
 pub nested_writes : (list_write (bincode limit) numbers_write).writes nested nested_text
 unfolding le
-nested_writes =
-   (2 ∷ zeros, (1 ∷ zeros) ++ ((1 ∷ zeros) ++ (0 ∷ zeros)), refl,
-    ((1 ∷ zeros) ++ (1 ∷ zeros), 0 ∷ zeros,
-     (1 ∷ zeros, 1 ∷ zeros, refl, (1 ∷ zeros, [], refl, refl, refl), refl),
-     (0 ∷ zeros, [], (0 ∷ zeros, [], refl, refl, refl), refl, refl),
-     refl),
-    refl)
+nested_writes = (
+  2 ∷ zeros,
+  (1 ∷ zeros) ++ ((1 ∷ zeros) ++ (0 ∷ zeros)),
+  refl,
+  (
+    (1 ∷ zeros) ++ (1 ∷ zeros),
+    0 ∷ zeros,
+    (1 ∷ zeros, 1 ∷ zeros, refl, (1 ∷ zeros, [], refl, refl, refl), refl),
+    (0 ∷ zeros, [], (0 ∷ zeros, [], refl, refl, refl), refl, refl),
+    refl,
+  ),
+  refl,
+)
 
 pub nested_sized : (list_write (bincode limit) numbers_write).size nested ≡ 32
 unfolding le
@@ -68,15 +82,15 @@ nested_sized = refl
 pub nothing_reads : Front numbers_read.reads [] → ⊥
 unfolding le
 nothing_reads f =
-  let t = f.found.is_read.1 in
-  let size : length t.0 ≡ 8 = ap length (bincode_text_is limit (length f.value) t.0 t.2).1 in
-  absurd (omega (arith, ap length f.found.joins, length-append f.found.text f.rest, ap length t.4, length-append t.0 t.1, size))
+    let t = f.found.is_read.1 in
+    let size : length t.0 ≡ 8 = ap length (bincode_text_is limit (length f.value) t.0 t.2).1 in
+    absurd (omega (arith, ap length f.found.joins, length-append f.found.text f.rest, ap length t.4, length-append t.0 t.1, size))
 
 -- the length that bytes are the text of
 length_is : (b : List ℕ) (m n : ℕ) (p : ℕ) → m < 2 ^ 64 → b ≡ le 8 m → IsLength (bincode limit) p b n → n ≡ m
 length_is b m n p small e h =
-  let f = bincode_text_is limit n b h.1 in
-  sym (number_one 8 true b b [] [] m n (small, e) (f.0, f.1) refl).1
+    let f = bincode_text_is limit n b h.1 in
+    sym (number_one 8 true b b [] [] m n (small, e) (f.0, f.1) refl).1
 
 -- 524289 numbers are refused, and so are 2 to the 63
 pub too_many : (n : ℕ) → IsLength (bincode limit) 8 (1 ∷ 0 ∷ 8 ∷ 0 ∷ 0 ∷ 0 ∷ 0 ∷ 0 ∷ []) n → ⊥

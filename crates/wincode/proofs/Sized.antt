@@ -1,8 +1,8 @@
 -- Reading texts that all have one size.
-use Rattle.std.proofs.Common.{◌≡◌, ◌∙◌, sym, ap, subst, ℕ, ◌+◌, ◌*◌, ◌<◌, ◌≤◌, ◌^◌, Bool, List, [], ◌∷◌, ◌++◌, length, take, drop, refl, arith, length-append, length-take-le, IsTrue, append_assoc, min}
-use Rattle.wincode_io.specs.Readers.{ReaderState, Stays, Loses, Takes, IsShort, IsRefusal, IsRefused, Arrays}
+use Rattle.std.proofs.Common.{◌≡◌, ◌∙◌, sym, ap, subst, ℕ, ◌≤◌, Bool, List, [], ◌++◌, length, take, arith, length-append, IsTrue}
+use Rattle.wincode_io.specs.Readers.{ReaderState, Loses, Takes, IsShort, IsRefusal, Arrays}
 use Rattle.wincode.specs.Sequences.{kept_trans, told_kept}
-use Rattle.wincode.specs.Outcomes.{Found, Front, Gives, Accepts, Refuses, ReaderDue, IsDenied}
+use Rattle.wincode.specs.Outcomes.{Gives, Accepts, Refuses, ReaderDue, IsDenied}
 use Rattle.wincode.specs.declared.error.ReadError.{ReadError}
 use Rattle.wincode.specs.declared.error.ReadError.TheVariants as reading
 use Rattle.wincode_io.specs.declared.error.ReadError.{ReadError as IoReadError}
@@ -11,8 +11,8 @@ use Rattle.wincode_io.specs.declared.error.ReadError.TheVariants as reader
 module _ {V : Type 0} (reads : List ℕ → V → Type 0) (n : ℕ) (sized : (b : List ℕ) (v : V) → reads b v → length b ≡ n) where
   too_short : (old : ReaderState) → IsShort n old → Accepts reads old → ⊥
   too_short old short a =
-    let f = a.front.found in
-    absurd (omega (arith, short a.told, sized f.text a.front.value f.is_read, ap length f.joins, length-append f.text a.front.rest))
+      let f = a.front.found in
+      absurd (omega (arith, short a.told, sized f.text a.front.value f.is_read, ap length f.joins, length-append f.text a.front.rest))
 
   denied_due : (asks : ℕ) (old new : ReaderState) (e : IoReadError) → IsRefusal (IsShort n old) ⊥ n new e → ReaderDue (Accepts reads old) asks new e
   denied_due asks old new (reader.ReadSizeLimit m) d = λ a. too_short old d.0 a

@@ -28,7 +28,7 @@ pub record WriteGrammar (V : Type 0) : Type 1 where
 abbrev pub IsReadStatic : {V : Type 0} → (List ℕ → V → Type 0) → TypeMeta → Type 0
 IsReadStatic reads Dynamic = Unit {0}
 IsReadStatic {V} reads (Static s z) = ((b : List ℕ) (v : V) → reads b v → length b ≡ s)
-  × (IsTrue z → (b : List ℕ) → IsBytes b → length b ≡ s → (v : V) × reads b v)
+    × (IsTrue z → (b : List ℕ) → IsBytes b → length b ≡ s → (v : V) × reads b v)
 
 -- Every value can be written, in so many bytes.
 abbrev pub IsWriteStatic : {X V : Type 0} → (X → Type 0) → (X → V) → (V → Type 0) → (V → ℕ) → TypeMeta → Type 0

@@ -1,9 +1,9 @@
 -- The laws of leaves.
-use Rattle.std.proofs.Common.{◌≡◌, ◌∙◌, sym, ap, subst, ℕ, ◌<◌, ◌≤◌, ◌^◌, Bool, true, false, List, [], ◌∷◌, ◌++◌, length, take, refl, arith, append_assoc, length-append, length-take-le, IsTrue}
+use Rattle.std.proofs.Common.{◌≡◌, ◌∙◌, sym, ap, subst, ℕ, ◌<◌, ◌≤◌, ◌^◌, Bool, true, false, List, [], ◌∷◌, ◌++◌, length, refl, arith}
 use Rattle.wincode_io.specs.Bytes.{IsBytes}
 use Rattle.wincode.specs.Numbers.{le, worth}
 use Rattle.wincode.specs.NumberLaws.{length-le, worth-le, le-worth, worth_below}
-use Rattle.wincode.specs.Grammar.{ReadGrammar, WriteGrammar, ReadLaws, WriteLaws, ReadsBack}
+use Rattle.wincode.specs.Grammar.{ReadLaws, WriteLaws, ReadsBack}
 use Rattle.wincode.specs.Leaves.{number_read, number_write, signed_read, signed_write, bool_byte, bool_read, bool_write, unit_read, unit_write}
 use Rattle.std.specs.Prelude.{ℤ, FitsSigned}
 use Rattle.std.specs.Int.{Width, byte_len, cast_unsigned, cast_signed}
@@ -17,21 +17,21 @@ same_front [] [] x y l e = refl
 same_front [] (d ∷ b) x y l e = absurd (omega arith)
 same_front (c ∷ a) [] x y l e = absurd (omega arith)
 same_front (c ∷ a) (d ∷ b) x y l e =
-  let h : a ++ x ≡ b ++ y = cc in
-  let k : c ≡ d = cc in
-  let m : length a ≡ length b = omega arith in
-  let r = same_front a b x y m h in cc
+    let h : a ++ x ≡ b ++ y = cc in
+    let k : c ≡ d = cc in
+    let m : length a ≡ length b = omega arith in
+    let r = same_front a b x y m h in cc
 
 pub number_one : (k : ℕ) (any : Bool) (a b x y : List ℕ) (v w : ℕ) → (number_read k any).reads a v → (number_read k any).reads b w → a ++ x ≡ b ++ y → (a ≡ b) × (v ≡ w)
 number_one k any a b x y v w p q e =
-  let size : length a ≡ length b = ap length p.1 ∙ length-le k v ∙ sym (ap length q.1 ∙ length-le k w) in
-  let same = same_front a b x y size e in
-  (same, sym (worth-le k v p.0) ∙ ap worth (sym p.1 ∙ same ∙ q.1) ∙ worth-le k w q.0)
+    let size : length a ≡ length b = ap length p.1 ∙ length-le k v ∙ sym (ap length q.1 ∙ length-le k w) in
+    let same = same_front a b x y size e in
+    (same, sym (worth-le k v p.0) ∙ ap worth (sym p.1 ∙ same ∙ q.1) ∙ worth-le k w q.0)
 
 -- every list of k bytes is a number
 number_of : (k : ℕ) (b : List ℕ) → IsBytes b → length b ≡ k → (v : ℕ) × ((v < 256 ^ k) × (b ≡ le k v))
 number_of k b all e =
-  (worth b, (subst (λ n. worth b < 256 ^ n) e (worth_below b all), sym (le-worth b all) ∙ ap (λ n. le n (worth b)) e))
+    (worth b, (subst (λ n. worth b < 256 ^ n) e (worth_below b all), sym (le-worth b all) ∙ ap (λ n. le n (worth b)) e))
 
 pub number_read_laws : (k : ℕ) (any : Bool) → 1 ≤ k → ReadLaws (λ v. v < 256 ^ k) (number_read k any)
 number_read_laws k any some = record {
@@ -68,14 +68,14 @@ module _ (w : Width) (pow : 256 ^ byte_len w ≡ 2 ^ bits w) where
 
   signed_one : (any : Bool) (a b x y : List ℕ) (v z : ℤ) → (signed_read w any).reads a v → (signed_read w any).reads b z → a ++ x ≡ b ++ y → (a ≡ b) × (v ≡ z)
   signed_one any a b x y v z p q e =
-    let one = number_one (byte_len w) any a b x y (cast_unsigned w v) (cast_unsigned w z) (as_unsigned any a v p) (as_unsigned any b z q) e in
-    (one.0, sym (to_z-of_z w v p.0) ∙ ap (cast_signed w) one.1 ∙ to_z-of_z w z q.0)
+      let one = number_one (byte_len w) any a b x y (cast_unsigned w v) (cast_unsigned w z) (as_unsigned any a v p) (as_unsigned any b z q) e in
+      (one.0, sym (to_z-of_z w v p.0) ∙ ap (cast_signed w) one.1 ∙ to_z-of_z w z q.0)
 
   -- a number read as unsigned is one that is read as signed
   pub signed_of : (any : Bool) (b : List ℕ) (n : ℕ) → (number_read (byte_len w) any).reads b n → (signed_read w any).reads b (cast_signed w n)
   signed_of any b n r =
-    let small : n < 2 ^ bits w = subst (λ m. n < m) pow r.0 in
-    (read_sfits w n, r.1 ∙ ap (le (byte_len w)) (sym (of_z-to_z w n small)))
+      let small : n < 2 ^ bits w = subst (λ m. n < m) pow r.0 in
+      (read_sfits w n, r.1 ∙ ap (le (byte_len w)) (sym (of_z-to_z w n small)))
 
   pub signed_read_laws : (any : Bool) → 1 ≤ byte_len w → ReadLaws (FitsSigned w) (signed_read w any)
   signed_read_laws any some = record {
@@ -111,10 +111,10 @@ bool_same true true e = refl
 
 bool_one : (a b x y : List ℕ) (v w : Bool) → a ≡ bool_byte v ∷ [] → b ≡ bool_byte w ∷ [] → a ++ x ≡ b ++ y → (a ≡ b) × (v ≡ w)
 bool_one a b x y v w p q e =
-  let same = same_front a b x y (ap length p ∙ sym (ap length q)) e in
-  let heads : bool_byte v ∷ [] ≡ bool_byte w ∷ [] = sym p ∙ same ∙ q in
-  let one : bool_byte v ≡ bool_byte w = cc in
-  (same, bool_same v w one)
+    let same = same_front a b x y (ap length p ∙ sym (ap length q)) e in
+    let heads : bool_byte v ∷ [] ≡ bool_byte w ∷ [] = sym p ∙ same ∙ q in
+    let one : bool_byte v ≡ bool_byte w = cc in
+    (same, bool_same v w one)
 
 pub bool_read_laws : ReadLaws (λ v. Unit {0}) bool_read
 bool_read_laws = record {

@@ -1,10 +1,10 @@
 -- The laws of lists, from those of their items and lengths.
-use Rattle.std.proofs.Common.{◌≡◌, ◌∙◌, sym, ap, subst, ℕ, ◌+◌, ◌*◌, ◌^◌, ◌<◌, ◌≤◌, ◌&&◌, Bool, true, false, List, [], ◌∷◌, ◌++◌, length, map, Some, None, zero, suc, refl, arith, append_assoc, append-nil, length-append}
+use Rattle.std.proofs.Common.{◌≡◌, ◌∙◌, sym, ap, subst, ℕ, ◌+◌, ◌<◌, ◌&&◌, Bool, true, false, List, [], ◌∷◌, ◌++◌, length, map, zero, suc, refl, arith, append_assoc, append-nil, length-append}
 use Rattle.std.proofs.lemmas.List.{length-map}
 use Rattle.wincode_io.specs.Readers.{ReaderState}
 use Rattle.wincode.specs.Grammar.{ReadGrammar, WriteGrammar, ReadLaws, WriteLaws, ReadsBack, IsUnambiguous}
-use Rattle.wincode.specs.Lengths.{Scheme, SchemeLaws, HasText, IsLength, text_len}
-use Rattle.wincode.specs.Lists.{Joined, Each, total, AreItems, IsListText, items_write, list_read, list_write}
+use Rattle.wincode.specs.Lengths.{Scheme, SchemeLaws, IsLength, text_len}
+use Rattle.wincode.specs.Lists.{Joined, Each, total, AreItems, items_write, list_read, list_write}
 use Rattle.wincode.specs.LengthLaws.{length_one, text_of_len}
 use Rattle.wincode.specs.Sequences.{Then, then_unambiguous, cancel, gives_map, refuses_map, then_gives, then_first, then_second, kept_trans, told_kept}
 use Rattle.wincode.specs.Outcomes.{Gives, Refuses}
@@ -18,12 +18,12 @@ module _ {V : Type 0} (reads : List ℕ → V → Type 0) (one : IsUnambiguous r
   joined_one [] (w ∷ ws) a b x y l p q e = absurd (omega arith)
   joined_one (v ∷ vs) [] a b x y l p q e = absurd (omega arith)
   joined_one (v ∷ vs) (w ∷ ws) a b x y l p q e =
-    let whole : p.0 ++ (p.1 ++ x) ≡ q.0 ++ (q.1 ++ y) = sym (append_assoc p.0 p.1 x) ∙ ap (λ r. r ++ x) (sym p.4) ∙ e ∙ ap (λ r. r ++ y) q.4 ∙ append_assoc q.0 q.1 y in
-    let same = one p.0 q.0 (p.1 ++ x) (q.1 ++ y) v w p.2 q.2 whole in
-    let after = cancel p.0 (p.1 ++ x) (q.1 ++ y) (whole ∙ sym (ap (λ r. r ++ (q.1 ++ y)) same.0)) in
-    let m : length vs ≡ length ws = omega arith in
-    let rest = joined_one vs ws p.1 q.1 x y m p.3 q.3 after in
-    (p.4 ∙ ap (λ r. r ++ p.1) same.0 ∙ ap (λ r. q.0 ++ r) rest.0 ∙ sym q.4, ap (λ u. u ∷ vs) same.1 ∙ ap (λ us. w ∷ us) rest.1)
+      let whole : p.0 ++ (p.1 ++ x) ≡ q.0 ++ (q.1 ++ y) = sym (append_assoc p.0 p.1 x) ∙ ap (λ r. r ++ x) (sym p.4) ∙ e ∙ ap (λ r. r ++ y) q.4 ∙ append_assoc q.0 q.1 y in
+      let same = one p.0 q.0 (p.1 ++ x) (q.1 ++ y) v w p.2 q.2 whole in
+      let after = cancel p.0 (p.1 ++ x) (q.1 ++ y) (whole ∙ sym (ap (λ r. r ++ (q.1 ++ y)) same.0)) in
+      let m : length vs ≡ length ws = omega arith in
+      let rest = joined_one vs ws p.1 q.1 x y m p.3 q.3 after in
+      (p.4 ∙ ap (λ r. r ++ p.1) same.0 ∙ ap (λ r. q.0 ++ r) rest.0 ∙ sym q.4, ap (λ u. u ∷ vs) same.1 ∙ ap (λ us. w ∷ us) rest.1)
 
   pub items_one : (n : ℕ) → IsUnambiguous (AreItems n reads)
   items_one n a b x y vs ws p q e = joined_one vs ws a b x y (p.0 ∙ sym q.0) p.1 q.1 e
@@ -77,16 +77,16 @@ module _ {V : Type 0} (reads : List ℕ → V → Type 0) where
   split i [] b h p = absurd (omega arith)
   split zero (v ∷ vs) b h p = (vs, record { before = []; x = []; y = b; one = (refl, refl); two = record { before = v; x = p.0; y = p.1; one = p.2; two = p.3; joins = p.4 }; joins = refl })
   split (suc i) (v ∷ vs) b h p =
-    let l : i < length vs = omega arith in
-    let r = split i vs p.1 l p.3 in
-    (r.0, record { before = v ∷ r.1.before; x = p.0 ++ r.1.x; y = r.1.y; one = (ap suc r.1.one.0, (p.0, r.1.x, p.2, r.1.one.1, refl)); two = r.1.two; joins = p.4 ∙ ap (λ t. p.0 ++ t) r.1.joins ∙ sym (append_assoc p.0 r.1.x r.1.y) })
+      let l : i < length vs = omega arith in
+      let r = split i vs p.1 l p.3 in
+      (r.0, record { before = v ∷ r.1.before; x = p.0 ++ r.1.x; y = r.1.y; one = (ap suc r.1.one.0, (p.0, r.1.x, p.2, r.1.one.1, refl)); two = r.1.two; joins = p.4 ∙ ap (λ t. p.0 ++ t) r.1.joins ∙ sym (append_assoc p.0 r.1.x r.1.y) })
 
   pub items_refused : IsUnambiguous reads → (i n asks : ℕ) (sparing : Bool) → i < n → (old mid new : ReaderState) (vs : List V) (e : ReadError) → Gives (AreItems i reads) old mid vs → Refuses reads asks sparing mid new e → Refuses (AreItems n reads) asks false old new e
   items_refused one i n asks sparing l old mid new vs e g r =
-    refuses_map (Then (AreItems i reads) FromItem) (AreItems n reads) asks false old new e
+      refuses_map (Then (AreItems i reads) FromItem) (AreItems n reads) asks false old new e
       (λ b ws t. let m : i < length ws = omega (arith, t.0) in split i ws b m t.1)
       (then_second (AreItems i reads) FromItem (items_one reads one i) asks asks false false old mid new vs e (omega arith) (λ x. x) g
-        (then_first reads AfterItem asks asks sparing false mid new e (omega arith) (λ x. refl) r))
+      (then_first reads AfterItem asks asks sparing false mid new e (omega arith) (λ x. refl) r))
 
 none_spared : (a : Bool) → (a && false) ≡ false
 none_spared false = refl
@@ -143,26 +143,27 @@ list_write_laws s items proper seen g laws = record {
 -- ---- reading back what was written
 
 each_back : {X V W : Type 0} (proper : X → Type 0) (ws : X → W) (w : WriteGrammar W) (rs : X → V) (r : ReadGrammar V) → ReadsBack proper ws w rs r
-  → (xs : List X) (b : List ℕ) → Each proper xs → Joined w.writes (map ws xs) b → Each w.fits (map ws xs) → Joined (λ v t. r.reads t v) (map rs xs) b
+    → (xs : List X) (b : List ℕ) → Each proper xs → Joined w.writes (map ws xs) b → Each w.fits (map ws xs) → Joined (λ v t. r.reads t v) (map rs xs) b
 each_back proper ws w rs r law [] b p j f = j
 each_back proper ws w rs r law (x ∷ xs) b p j f = (j.0, j.1, law.back x j.0 p.0 j.2 f.0, each_back proper ws w rs r law xs j.1 p.1 j.3 f.1, j.4)
 
 each_within : {X V W : Type 0} (proper : X → Type 0) (ws : X → W) (w : WriteGrammar W) (rs : X → V) (r : ReadGrammar V) → ReadsBack proper ws w rs r
-  → (xs : List X) (b : List ℕ) → Joined (λ v t. r.reads t v) (map rs xs) b → Each w.fits (map ws xs)
+    → (xs : List X) (b : List ℕ) → Joined (λ v t. r.reads t v) (map rs xs) b → Each w.fits (map ws xs)
 each_within proper ws w rs r law [] b j = tt
 each_within proper ws w rs r law (x ∷ xs) b j = (law.within j.0 x j.2, each_within proper ws w rs r law xs j.1 j.3)
 
 pub list_reads_back : {X Y V W : Type 0} (s : Scheme) → SchemeLaws s → (items : X → List Y) (proper : Y → Type 0) (ws : Y → W) (w : WriteGrammar W) (rs : Y → V) (r : ReadGrammar V) → ReadsBack proper ws w rs r
-  → ReadsBack (λ x. Each proper (items x)) (λ x. map ws (items x)) (list_write s w) (λ x. map rs (items x)) (list_read s r)
+    → ReadsBack (λ x. Each proper (items x)) (λ x. map ws (items x)) (list_write s w) (λ x. map rs (items x)) (list_read s r)
 list_reads_back s scheme items proper ws w rs r law = record {
   back = λ x b p t f.
-    let same : length (map ws (items x)) ≡ length (map rs (items x)) = length-map (items x) ws ∙ sym (length-map (items x) rs) in
-    (subst (λ n. s.admits n r.prealloc) same (subst (λ q. s.admits (length (map ws (items x))) q) law.same_prealloc f.1),
-     (t.0, t.1, ap s.text (sym same) ∙ t.2, each_back proper ws w rs r law (items x) t.1 p t.3 f.2, t.4));
+      let same : length (map ws (items x)) ≡ length (map rs (items x)) = length-map (items x) ws ∙ sym (length-map (items x) rs) in (
+        subst (λ n. s.admits n r.prealloc) same (subst (λ q. s.admits (length (map ws (items x))) q) law.same_prealloc f.1),
+        (t.0, t.1, ap s.text (sym same) ∙ t.2, each_back proper ws w rs r law (items x) t.1 p t.3 f.2, t.4),
+      );
   within = λ b x t.
-    let same : length (map rs (items x)) ≡ length (map ws (items x)) = length-map (items x) rs ∙ sym (length-map (items x) ws) in
-    let admitted : s.admits (length (map ws (items x))) w.prealloc = subst (λ n. s.admits n w.prealloc) same (subst (λ q. s.admits (length (map rs (items x))) q) (sym law.same_prealloc) t.0) in
-    (scheme.admitted (length (map ws (items x))) w.prealloc admitted, admitted, each_within proper ws w rs r law (items x) t.1.1 t.1.3);
+      let same : length (map rs (items x)) ≡ length (map ws (items x)) = length-map (items x) rs ∙ sym (length-map (items x) ws) in
+      let admitted : s.admits (length (map ws (items x))) w.prealloc = subst (λ n. s.admits n w.prealloc) same (subst (λ q. s.admits (length (map rs (items x))) q) (sym law.same_prealloc) t.0) in
+      (scheme.admitted (length (map ws (items x))) w.prealloc admitted, admitted, each_within proper ws w rs r law (items x) t.1.1 t.1.3);
   same_prealloc = refl;
   same_meta = refl;
 }

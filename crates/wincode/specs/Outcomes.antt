@@ -1,5 +1,5 @@
 -- What reading and writing a value answer, said once for lengths, leaves and compounds.
-use Rattle.std.specs.Prelude.{⊤, ◌≡◌, ℕ, ◌-◌, ◌*◌, ◌^◌, ◌<◌, ◌≤◌, min, Bool, false, ◌&&◌, List, [], ◌∷◌, ◌++◌, length, IsTrue, Option, Some, codes}
+use Rattle.std.specs.Prelude.{⊤, ◌≡◌, ℕ, ◌*◌, ◌^◌, ◌<◌, ◌≤◌, min, Bool, false, ◌&&◌, List, [], ◌∷◌, ◌++◌, length, IsTrue, Option, Some}
 use Rattle.wincode_io.specs.Readers.{ReaderState, Kept, Takes, IsShort, IsRefused}
 use Rattle.wincode.specs.Numbers.{le}
 use Rattle.wincode_io.specs.Writers.{byte_limit}
@@ -96,7 +96,7 @@ IsBoolRefused old new _ = ⊥
 abbrev pub IsLengthRefused : ℕ → ℕ → ReaderState → ReaderState → ReadError → Type 0
 IsLengthRefused limit p old new (reading.Io e) = IsRefused (IsShort 8 old) ⊥ 8 old new e
 IsLengthRefused limit p old new (reading.PreallocationSizeLimit needed most) =
-  (n : ℕ) × (TakesNumber 8 old new n × (limit < n * p) × (needed ≡ min (n * p) byte_limit) × (most ≡ limit))
+    (n : ℕ) × (TakesNumber 8 old new n × (limit < n * p) × (needed ≡ min (n * p) byte_limit) × (most ≡ limit))
 IsLengthRefused limit p old new _ = ⊥
 
 -- ---- writing

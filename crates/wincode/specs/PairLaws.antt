@@ -1,5 +1,5 @@
 -- The laws of two parts, from those of each.
-use Rattle.std.proofs.Common.{◌≡◌, ◌∙◌, sym, ap, subst, ℕ, ◌+◌, ◌^◌, ◌<◌, ◌≤◌, ◌&&◌, Bool, true, false, List, ◌++◌, length, min, max, nat_lt, cond, refl, arith, length-append, IsTrue}
+use Rattle.std.proofs.Common.{◌≡◌, ◌∙◌, sym, ap, subst, ℕ, ◌+◌, ◌^◌, ◌≤◌, ◌&&◌, Bool, true, false, List, ◌++◌, length, min, max, nat_lt, cond, refl, arith, length-append}
 use Rattle.wincode_io.specs.Readers.{ReaderState}
 use Rattle.wincode.specs.Grammar.{ReadGrammar, WriteGrammar, ReadLaws, WriteLaws, ReadsBack, IsUnambiguous, IsReadStatic, IsWriteStatic}
 use Rattle.wincode.specs.Pairs.{pair_meta, pair_read, pair_write}
@@ -19,7 +19,7 @@ pub pair_size : {V W : Type 0} (g : ReadGrammar V) (h : ReadGrammar W) (m n : Ty
 pair_size g h Dynamic n p q = tt
 pair_size g h (Static a x) Dynamic p q = tt
 pair_size {V} {W} g h (Static a x) (Static b y) p q =
-  elim (nat_lt (a + b) (2 ^ 64)) as (λ t. IsReadStatic {V = V × W} (pair_read g h).reads (cond t (Static (a + b) false) Dynamic))
+    elim (nat_lt (a + b) (2 ^ 64)) as (λ t. IsReadStatic {V = V × W} (pair_read g h).reads (cond t (Static (a + b) false) Dynamic))
     [ true ↦ (λ t v r. ap length r.4 ∙ length-append r.0 r.1 ∙ ap (λ k. k + length r.1) (p.0 r.0 v.0 r.2) ∙ ap (λ k. a + k) (q.0 r.1 v.1 r.3), λ z. absurd (cc z)) | false ↦ tt ]
 
 pub pair_read_laws : {V W : Type 0} (p : V → Type 0) (q : W → Type 0) (g : ReadGrammar V) (h : ReadGrammar W) → ReadLaws p g → ReadLaws q h → ReadLaws (λ v. p v.0 × q v.1) (pair_read g h)
@@ -52,35 +52,35 @@ module _ {V W : Type 0} (g : ReadGrammar V) (h : ReadGrammar W) where
 
   pub pair_gives : (old mid new : ReaderState) (v : V) (w : W) → Gives g.reads old mid v → Gives h.reads mid new w → Gives (pair_read g h).reads old new (v, w)
   pair_gives old mid new v w r s =
-    gives_map (Then g.reads pair_second_reads) (pair_read g h).reads old new (v, w) (v, w)
+      gives_map (Then g.reads pair_second_reads) (pair_read g h).reads old new (v, w) (v, w)
       (λ b t. (t.x, t.y, subst (λ u. g.reads t.x u) (sym t.two.0) t.one, t.two.1, t.joins))
       (then_gives g.reads pair_second_reads old mid new v (v, w) r (gives_pair old mid new v w s))
 
   pub pair_first : (old new : ReaderState) (e : ReadError) → Refuses g.reads g.asks g.sparing old new e → Refuses (pair_read g h).reads (pair_read g h).asks (pair_read g h).sparing old new e
   pair_first old new e r =
-    refuses_map (Then g.reads pair_second_reads) (pair_read g h).reads (pair_read g h).asks (pair_read g h).sparing old new e
+      refuses_map (Then g.reads pair_second_reads) (pair_read g h).reads (pair_read g h).asks (pair_read g h).sparing old new e
       (λ b v t. (v, pair_then g h b v t))
       (then_first g.reads pair_second_reads g.asks (max g.asks h.asks) g.sparing (g.sparing && h.sparing) old new e (le_max_left g.asks h.asks) (both_left g.sparing h.sparing) r)
 
   pub pair_second : IsUnambiguous g.reads → (old mid new : ReaderState) (v : V) (e : ReadError) → Gives g.reads old mid v → Refuses h.reads h.asks h.sparing mid new e → Refuses (pair_read g h).reads (pair_read g h).asks (pair_read g h).sparing old new e
   pair_second one old mid new v e r s =
-    refuses_map (Then g.reads pair_second_reads) (pair_read g h).reads (pair_read g h).asks (pair_read g h).sparing old new e
+      refuses_map (Then g.reads pair_second_reads) (pair_read g h).reads (pair_read g h).asks (pair_read g h).sparing old new e
       (λ b w t. (w, pair_then g h b w t))
       (then_second g.reads pair_second_reads one h.asks (max g.asks h.asks) h.sparing (g.sparing && h.sparing) old mid new v e (le_max_right g.asks h.asks) (both_right g.sparing h.sparing) r
-        (refuses_map h.reads (pair_second_reads v) h.asks h.sparing mid new e (λ b w t. (w.1, t.1)) s))
+      (refuses_map h.reads (pair_second_reads v) h.asks h.sparing mid new e (λ b w t. (w.1, t.1)) s))
 
 -- ---- writing
 
 pair_write_size : {X Y V W : Type 0} (p : X → Type 0) (q : Y → Type 0) (seen : X → V) (seen' : Y → W) (g : WriteGrammar V) (h : WriteGrammar W) (m n : TypeMeta) → IsWriteStatic p seen g.can g.size m → IsWriteStatic q seen' h.can h.size n
-  → IsWriteStatic {X = X × Y} (λ t. p t.0 × q t.1) (λ t. (seen t.0, seen' t.1)) (pair_write g h).can (pair_write g h).size (pair_meta m n)
+    → IsWriteStatic {X = X × Y} (λ t. p t.0 × q t.1) (λ t. (seen t.0, seen' t.1)) (pair_write g h).can (pair_write g h).size (pair_meta m n)
 pair_write_size p q seen seen' g h Dynamic n l m = tt
 pair_write_size p q seen seen' g h (Static a x) Dynamic l m = tt
 pair_write_size {X} {Y} p q seen seen' g h (Static a x) (Static b y) l m =
-  elim (nat_lt (a + b) (2 ^ 64)) as (λ t. IsWriteStatic {X = X × Y} (λ t. p t.0 × q t.1) (λ t. (seen t.0, seen' t.1)) (pair_write g h).can (pair_write g h).size (cond t (Static (a + b) false) Dynamic))
+    elim (nat_lt (a + b) (2 ^ 64)) as (λ t. IsWriteStatic {X = X × Y} (λ t. p t.0 × q t.1) (λ t. (seen t.0, seen' t.1)) (pair_write g h).can (pair_write g h).size (cond t (Static (a + b) false) Dynamic))
     [ true ↦ (λ t c. let f = l t.0 c.0 in let s = m t.1 c.1 in ((f.0, s.0), ap (λ k. k + h.size (seen' t.1)) f.1 ∙ ap (λ k. a + k) s.1)) | false ↦ tt ]
 
 pub pair_write_laws : {X Y V W : Type 0} (p : X → Type 0) (q : Y → Type 0) (seen : X → V) (seen' : Y → W) (g : WriteGrammar V) (h : WriteGrammar W) → WriteLaws p seen g → WriteLaws q seen' h
-  → WriteLaws {X = X × Y} (λ t. p t.0 × q t.1) (λ t. (seen t.0, seen' t.1)) (pair_write g h)
+    → WriteLaws {X = X × Y} (λ t. p t.0 × q t.1) (λ t. (seen t.0, seen' t.1)) (pair_write g h)
 pair_write_laws p q seen seen' g h l m = record {
   has_text = λ v c. let a = l.has_text v.0 c.0 in let b = m.has_text v.1 c.1 in (a.0 ++ b.0, (a.0, b.0, a.1, b.1, refl));
   text_size = λ v b r. ap length r.4 ∙ length-append r.0 r.1 ∙ ap (λ n. n + length r.1) (l.text_size v.0 r.0 r.2) ∙ ap (λ n. g.size v.0 + n) (m.text_size v.1 r.1 r.3);
@@ -89,7 +89,7 @@ pair_write_laws p q seen seen' g h l m = record {
 }
 
 pub pair_reads_back : {X Y V V' W W' : Type 0} (p : X → Type 0) (q : Y → Type 0) (ws : X → V') (w : WriteGrammar V') (rs : X → V) (r : ReadGrammar V) (ws' : Y → W') (w' : WriteGrammar W') (rs' : Y → W) (r' : ReadGrammar W)
-  → ReadsBack p ws w rs r → ReadsBack q ws' w' rs' r' → ReadsBack {X = X × Y} (λ t. p t.0 × q t.1) (λ t. (ws t.0, ws' t.1)) (pair_write w w') (λ t. (rs t.0, rs' t.1)) (pair_read r r')
+    → ReadsBack p ws w rs r → ReadsBack q ws' w' rs' r' → ReadsBack {X = X × Y} (λ t. p t.0 × q t.1) (λ t. (ws t.0, ws' t.1)) (pair_write w w') (λ t. (rs t.0, rs' t.1)) (pair_read r r')
 pair_reads_back p q ws w rs r ws' w' rs' r' a b = record {
   back = λ t text c x f. (x.0, x.1, a.back t.0 x.0 c.0 x.2 f.0, b.back t.1 x.1 c.1 x.3 f.1, x.4);
   within = λ text t x. (a.within x.0 t.0 x.2, b.within x.1 t.1 x.3);

@@ -24,7 +24,10 @@ pub fn serialize<T: SchemaWrite<Src = T>>(alloc: Global, src: &T) -> WriteResult
 }
 
 /// Writes the value, and then ends the piece of writing by `finish`.
-pub fn serialize_into<T: SchemaWrite<Src = T>, W: Writer>(writer: &mut W, src: &T) -> WriteResult<()>
+pub fn serialize_into<T: SchemaWrite<Src = T>, W: Writer>(
+    writer: &mut W,
+    src: &T,
+) -> WriteResult<()>
     ensures ok { OnOk result (Wrote W.put W.room T.writing (W.state writer.old) (W.state writer.new) (T.seen src.now)) }
     ensures value { OnOk result (T.proper src.now) }
     ensures err { IfErr result (Unwritten W.put W.room T.writing (W.state writer.old) (W.state writer.new) (T.seen src.now) (W.steady (W.kept writer.old)) (W.failures writer.new)) }
@@ -45,7 +48,10 @@ pub fn serialized_size<T: SchemaWrite<Src = T>>(src: &T) -> WriteResult<u64>
 }
 
 /// The value at the front of the bytes. What follows it is never looked at.
-pub fn deserialize<I: Input + Reader<I::Lends> + Drop, T: SchemaRead<I::Lends, Dst = T>>(alloc: Global, bytes: I) -> ReadResult<T>
+pub fn deserialize<I: Input + Reader<I::Lends> + Drop, T: SchemaRead<I::Lends, Dst = T>>(
+    alloc: Global,
+    bytes: I,
+) -> ReadResult<T>
     ensures ok { IfOk result (λ v. IsTrue (I.state bytes).told → (rest : List ℕ) × Found T.reading.reads (I.state bytes).rest (T.seen v) rest) }
     ensures err { IfErr result (λ e. Accepts T.reading.reads (I.state bytes) → Excused T.reading.asks T.reading.sparing (I.state bytes) e) }
 {

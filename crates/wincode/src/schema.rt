@@ -73,7 +73,11 @@ pub trait SchemaRead<L: Lending> {
     /// Reads one value into the destination, where a front of what the reader has reads as it, and
     /// leaves exactly the rest. Refused, the destination is as it was, and the reader has an end of
     /// what it had.
-    fn read<R: Reader<L>>(alloc: Global, reader: &mut R, dst: &mut Option<Self::Dst>) -> ReadResult<()>
+    fn read<R: Reader<L>>(
+        alloc: Global,
+        reader: &mut R,
+        dst: &mut Option<Self::Dst>,
+    ) -> ReadResult<()>
         ensures ok { OnOk result (Puts reading.reads seen (R.state reader.old) (R.state reader.new) dst.new) }
         ensures err { IfErr result (Refuses reading.reads reading.asks reading.sparing (R.state reader.old) (R.state reader.new)) }
         ensures same { OnErr result (dst.new ≡ dst.old) };

@@ -81,7 +81,12 @@ fn recode_nested(alloc: Global, bytes: &[u8]) -> Result<Vec<u8>, RelayError>
 /// Reads all input, reads one value of the shape from its front, forms its text again in memory and
 /// writes it. Nothing is written before the whole text is there, and what follows the value is never
 /// looked at.
-pub fn relay<R: Read, W: Write>(alloc: Global, shape: &str, input: &mut R, output: &mut W) -> Result<(), RelayError>
+pub fn relay<R: Read, W: Write>(
+    alloc: Global,
+    shape: &str,
+    input: &mut R,
+    output: &mut W,
+) -> Result<(), RelayError>
     ensures ok { OnOk result (IsRelayed shape.now (R.remaining input.old) (W.contents output.old) (W.contents output.new)) }
     ensures err { IfErr result (IsUnrelayed shape.now (R.remaining input.old) (R.remaining input.new) (W.contents output.old) (W.contents output.new)) }
 {
@@ -90,6 +95,8 @@ pub fn relay<R: Read, W: Write>(alloc: Global, shape: &str, input: &mut R, outpu
     }
     let bytes = gather(alloc, input)?;
     let text = recode_nested(alloc, bytes.as_slice())?;
-    output.write_all(text.as_slice()).map_err(RelayError::Output)?;
+    output
+        .write_all(text.as_slice())
+        .map_err(RelayError::Output)?;
     Ok(())
 }

@@ -64,7 +64,11 @@ struct Copy<'a>(&'a [u8]);
 
 impl Work for Copy<'_> {
     fn run(&self, alloc: Global) -> Result<(), Failure> {
-        if Vec::from_slice(alloc, self.0).is_err() { Err(Failure::OutOfMemory) } else { Ok(()) }
+        if Vec::from_slice(alloc, self.0).is_err() {
+            Err(Failure::OutOfMemory)
+        } else {
+            Ok(())
+        }
     }
 }
 
@@ -97,7 +101,11 @@ struct WriteNumbers<'a>(&'a Vec<u64>);
 
 impl Work for WriteNumbers<'_> {
     fn run(&self, alloc: Global) -> Result<(), Failure> {
-        if serialize(alloc, self.0).is_err() { Err(Failure::Write) } else { Ok(()) }
+        if serialize(alloc, self.0).is_err() {
+            Err(Failure::Write)
+        } else {
+            Ok(())
+        }
     }
 }
 
@@ -106,7 +114,11 @@ struct WriteLists<'a>(&'a Vec<Vec<u64>>);
 
 impl Work for WriteLists<'_> {
     fn run(&self, alloc: Global) -> Result<(), Failure> {
-        if serialize(alloc, self.0).is_err() { Err(Failure::Write) } else { Ok(()) }
+        if serialize(alloc, self.0).is_err() {
+            Err(Failure::Write)
+        } else {
+            Ok(())
+        }
     }
 }
 
@@ -131,7 +143,9 @@ fn least<W: Work>(rt: &impl Clock, alloc: Global, work: &W) -> Result<u128, Fail
 fn print_row(rt: &impl Print, name: &str, taken: u128, copy: u128) -> Result<(), Failure> {
     let tenths = taken.saturating_mul(10) / copy.max(1);
     let microseconds = taken / 1000;
-    println!(rt; "{name}: {microseconds} microseconds, {tenths} tenths of the copy").map_err(|_| Failure::Print)
+    println!(rt; "{name}: {microseconds} microseconds, {tenths} tenths of the copy").map_err(
+        |_| Failure::Print,
+    )
 }
 
 fn time_numbers(rt: &(impl Clock + Print + AllocGlobal)) -> Result<(), Failure> {
@@ -140,8 +154,18 @@ fn time_numbers(rt: &(impl Clock + Print + AllocGlobal)) -> Result<(), Failure> 
     let bytes = serialize(alloc, &list).map_err(|_| Failure::Write)?;
     let copy = least(rt, alloc, &Copy(bytes.as_slice()))?;
     print_row(rt, "copy of the numbers' bytes", copy, copy)?;
-    print_row(rt, "deserialize numbers", least(rt, alloc, &ReadNumbers(bytes.as_slice()))?, copy)?;
-    print_row(rt, "serialize numbers", least(rt, alloc, &WriteNumbers(&list))?, copy)
+    print_row(
+        rt,
+        "deserialize numbers",
+        least(rt, alloc, &ReadNumbers(bytes.as_slice()))?,
+        copy,
+    )?;
+    print_row(
+        rt,
+        "serialize numbers",
+        least(rt, alloc, &WriteNumbers(&list))?,
+        copy,
+    )
 }
 
 fn time_lists(rt: &(impl Clock + Print + AllocGlobal)) -> Result<(), Failure> {
@@ -150,8 +174,18 @@ fn time_lists(rt: &(impl Clock + Print + AllocGlobal)) -> Result<(), Failure> {
     let bytes = serialize(alloc, &lists).map_err(|_| Failure::Write)?;
     let copy = least(rt, alloc, &Copy(bytes.as_slice()))?;
     print_row(rt, "copy of the lists' bytes", copy, copy)?;
-    print_row(rt, "deserialize lists", least(rt, alloc, &ReadLists(bytes.as_slice()))?, copy)?;
-    print_row(rt, "serialize lists", least(rt, alloc, &WriteLists(&lists))?, copy)
+    print_row(
+        rt,
+        "deserialize lists",
+        least(rt, alloc, &ReadLists(bytes.as_slice()))?,
+        copy,
+    )?;
+    print_row(
+        rt,
+        "serialize lists",
+        least(rt, alloc, &WriteLists(&lists))?,
+        copy,
+    )
 }
 
 fn is_timed(rt: &(impl Env + AllocGlobal)) -> bool {

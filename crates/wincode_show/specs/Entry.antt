@@ -1,9 +1,9 @@
 -- The grammar of an entry: its number, and then its tags behind their length.
-use Rattle.std.specs.Prelude.{◌≡◌, ℕ, ◌<◌, ◌^◌, Bool, true, List, ◌++◌, map}
+use Rattle.std.specs.Prelude.{◌≡◌, ℕ, ◌<◌, ◌^◌, true, List, ◌++◌, map}
 use Rattle.wincode_io.specs.Readers.{ReaderState}
-use Rattle.wincode.specs.Grammar.{ReadGrammar, WriteGrammar, ReadLaws, WriteLaws, ReadsBack}
+use Rattle.wincode.specs.Grammar.{ReadGrammar, WriteGrammar, WriteLaws}
 use Rattle.wincode.specs.Leaves.{number_read, number_write}
-use Rattle.wincode.specs.LeafLaws.{number_read_laws, number_write_laws, number_reads_back}
+use Rattle.wincode.specs.LeafLaws.{number_write_laws}
 use Rattle.wincode.specs.Lengths.{bincode}
 use Rattle.wincode.specs.Lists.{list_read, list_write, Each}
 use Rattle.wincode.specs.ListLaws.{list_write_laws}

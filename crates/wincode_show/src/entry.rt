@@ -74,7 +74,11 @@ impl<L: Lending> SchemaRead<L> for Entry {
         32
     }
 
-    fn read<R: Reader<L>>(alloc: Global, reader: &mut R, dst: &mut Option<Entry>) -> ReadResult<()> {
+    fn read<R: Reader<L>>(
+        alloc: Global,
+        reader: &mut R,
+        dst: &mut Option<Entry>,
+    ) -> ReadResult<()> {
         let id = <u64 as SchemaRead<L>>::get(alloc, reader)?;
         let tags = <Vec<u8> as SchemaRead<L>>::get(alloc, reader)?;
         *dst = Some(Entry { id, tags });
@@ -90,7 +94,10 @@ impl<L: Lending> RoundTrip<L> for Entry {
 
 /// Reads a value from the front of what the reader has, and gives a text of it: what is written reads
 /// as what was read.
-pub fn rewrite<L: Lending, R: Reader<L>, T: RoundTrip<L>>(alloc: Global, reader: &mut R) -> ReadResult<Option<Vec<u8>>>
+pub fn rewrite<L: Lending, R: Reader<L>, T: RoundTrip<L>>(
+    alloc: Global,
+    reader: &mut R,
+) -> ReadResult<Option<Vec<u8>>>
 where
     T::Src: Drop,
     ensures { IfOk result (λ text. IfSome text (λ t. IsTrue (R.state reader.old).told → Rewritten T.SchemaRead.seen T.SchemaRead.reading.reads (R.state reader.old) (R.state reader.new) t.items)) }

@@ -5,17 +5,21 @@ mod entry;
 #[cfg(test)]
 mod tests;
 
-use std::env;
-use std::io;
 use std::process::ExitCode;
 use std::rt::Env;
+use std::{env, io};
 use wincode::show::{RelayError, relay};
 
 /// Recodes by the one argument that was given.
 fn run(rt: &(impl Env + Input + Print + AllocGlobal)) -> Result<(), RelayError> {
     let mut words = env::args(rt).map_err(|_| RelayError::OutOfMemory)?.skip(1);
     match (words.next(), words.next()) {
-        (Some(shape), None) => relay(rt.alloc(), shape.as_str(), &mut rt.reader(), &mut io::writer(rt)),
+        (Some(shape), None) => relay(
+            rt.alloc(),
+            shape.as_str(),
+            &mut rt.reader(),
+            &mut io::writer(rt),
+        ),
         _ => Err(RelayError::UnknownShape),
     }
 }

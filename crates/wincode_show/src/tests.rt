@@ -8,13 +8,12 @@ use std::alloc::Global;
 use std::io::ErrorKind;
 use std::test::Fail;
 use vectors::VECTORS;
-use wincode::error;
 use wincode::io::{self, Lifetime, Writer};
 use wincode::len::{BincodeLen, SeqLen};
 use wincode::show::{RelayError, relay};
 use wincode::{
-    Error, ReadError, ReadResult, SchemaRead, SchemaWrite, TypeMeta, WriteError, deserialize, serialize,
-    serialize_into, serialized_size,
+    Error, ReadError, ReadResult, SchemaRead, SchemaWrite, TypeMeta, WriteError, deserialize,
+    error, serialize, serialize_into, serialized_size,
 };
 
 /// The list of the list of 1 and the empty list.
@@ -60,14 +59,20 @@ fn refused(alloc: Global, bytes: &[u8]) -> Result<String, Fail> {
 fn refusals(rt: HostRuntime) -> Result<(), Fail> {
     let alloc = rt.alloc();
     let numbers: ReadResult<Vec<u64>> = deserialize(alloc, [].as_slice());
-    assert!(rt; matches!(&numbers, Err(ReadError::Io(io::ReadError::ReadSizeLimit(8)))));
+    assert!(rt;
+        matches!(
+            &numbers,
+            Err(ReadError::Io(io::ReadError::ReadSizeLimit(8)))
+        )
+    );
     for (bytes, needed) in [
         ([1u8, 0, 8, 0, 0, 0, 0, 0], 4194312usize),
         ([0, 0, 0, 0, 0, 0, 0, 128], usize::MAX),
     ] {
         let numbers: ReadResult<Vec<u64>> = deserialize(alloc, bytes.as_slice());
         let named = match numbers {
-            Err(ReadError::PreallocationSizeLimit { needed: n, limit }) => n == needed && limit == 4194304,
+            Err(ReadError::PreallocationSizeLimit { needed: n, limit }) => n == needed
+                && limit == 4194304,
             _ => false,
         };
         assert!(rt; named, "{needed}");
@@ -75,7 +80,10 @@ fn refusals(rt: HostRuntime) -> Result<(), Fail> {
     let admitted = refused(alloc, [170, 170, 2, 0, 0, 0, 0, 0].as_slice())?;
     assert_eq!(rt; admitted.as_str(), "Io(ReadSizeLimit(8)) 0");
     let over = refused(alloc, [171, 170, 2, 0, 0, 0, 0, 0].as_slice())?;
-    assert_eq!(rt; over.as_str(), "PreallocationSizeLimit { needed: 4194312, limit: 4194304 } 0");
+    assert_eq!(rt;
+        over.as_str(),
+        "PreallocationSizeLimit { needed: 4194312, limit: 4194304 } 0"
+    );
     let cut = refused(alloc, &NESTED[..31])?;
     assert_eq!(rt; cut.as_str(), "Io(ReadSizeLimit(8)) 7");
     Ok(())
@@ -109,9 +117,15 @@ fn relays(rt: HostRuntime) -> Result<(), Fail> {
 #[test]
 fn an_entry(rt: HostRuntime) -> Result<(), Fail> {
     let alloc = rt.alloc();
-    let entry = Entry { id: 258, tags: vec![in alloc; 7u8, 9]? };
+    let entry = Entry {
+        id: 258,
+        tags: vec![in alloc; 7u8, 9]?,
+    };
     let text = serialize(alloc, &entry)?;
-    assert_eq!(rt; text.as_slice(), [2u8, 1, 0, 0, 0, 0, 0, 0, 2, 0, 0, 0, 0, 0, 0, 0, 7, 9].as_slice());
+    assert_eq!(rt;
+        text.as_slice(),
+        [2u8, 1, 0, 0, 0, 0, 0, 0, 2, 0, 0, 0, 0, 0, 0, 0, 7, 9].as_slice()
+    );
     let mut reader = text.as_slice();
     let again = rewrite::<Lifetime, &[u8], Entry>(alloc, &mut reader)?;
     assert!(rt; again == Some(text));
@@ -147,13 +161,70 @@ fn digits_of(alloc: Global, bytes: &[u8]) -> Result<String, Fail> {
     Ok(digits)
 }
 
-/// What reading these bytes as the type of the name answers, as the table has it.
-fn answer(alloc: Global, name: &str, bytes: &[u8]) -> Result<String, Fail> {
+/// What reading answered, as the table has it.
+fn outcome(
+    alloc: Global,
+    text: ReadResult<Option<Vec<u8>>>,
+    left: usize,
+) -> Result<Option<String>, Fail> {
+    match text {
+        Ok(Some(text)) => {
+            let digits = digits_of(alloc, text.as_slice())?;
+            Ok(Some(format!(in alloc; "ok {left} {digits}")?))
+        }
+        Ok(None) => Err(Fail::from("unwritten")),
+        Err(error) => Ok(Some(format!(in alloc; "err {error:?} {left}")?)),
+    }
+}
+
+fn unsigned_answer(alloc: Global, name: &str, bytes: &[u8]) -> Result<Option<String>, Fail> {
     let mut reader = bytes;
     let text = if name == "u8" {
         rewrite::<Lifetime, &[u8], u8>(alloc, &mut reader)
+    } else if name == "u16" {
+        rewrite::<Lifetime, &[u8], u16>(alloc, &mut reader)
+    } else if name == "u32" {
+        rewrite::<Lifetime, &[u8], u32>(alloc, &mut reader)
     } else if name == "u64" {
         rewrite::<Lifetime, &[u8], u64>(alloc, &mut reader)
+    } else if name == "u128" {
+        rewrite::<Lifetime, &[u8], u128>(alloc, &mut reader)
+    } else if name == "usize" {
+        rewrite::<Lifetime, &[u8], usize>(alloc, &mut reader)
+    } else {
+        return Ok(None);
+    };
+    let left = reader.len();
+    outcome(alloc, text, left)
+}
+
+fn signed_answer(alloc: Global, name: &str, bytes: &[u8]) -> Result<Option<String>, Fail> {
+    let mut reader = bytes;
+    let text = if name == "i8" {
+        rewrite::<Lifetime, &[u8], i8>(alloc, &mut reader)
+    } else if name == "i16" {
+        rewrite::<Lifetime, &[u8], i16>(alloc, &mut reader)
+    } else if name == "i32" {
+        rewrite::<Lifetime, &[u8], i32>(alloc, &mut reader)
+    } else if name == "i64" {
+        rewrite::<Lifetime, &[u8], i64>(alloc, &mut reader)
+    } else if name == "i128" {
+        rewrite::<Lifetime, &[u8], i128>(alloc, &mut reader)
+    } else if name == "isize" {
+        rewrite::<Lifetime, &[u8], isize>(alloc, &mut reader)
+    } else {
+        return Ok(None);
+    };
+    let left = reader.len();
+    outcome(alloc, text, left)
+}
+
+fn other_answer(alloc: Global, name: &str, bytes: &[u8]) -> Result<Option<String>, Fail> {
+    let mut reader = bytes;
+    let text = if name == "bool" {
+        rewrite::<Lifetime, &[u8], bool>(alloc, &mut reader)
+    } else if name == "unit" {
+        rewrite::<Lifetime, &[u8], ()>(alloc, &mut reader)
     } else if name == "Vec<u8>" {
         rewrite::<Lifetime, &[u8], Vec<u8>>(alloc, &mut reader)
     } else if name == "Vec<u64>" {
@@ -161,34 +232,46 @@ fn answer(alloc: Global, name: &str, bytes: &[u8]) -> Result<String, Fail> {
     } else if name == "Vec<Vec<u64>>" {
         rewrite::<Lifetime, &[u8], Vec<Vec<u64>>>(alloc, &mut reader)
     } else {
-        return Err(Fail::from("an unknown type"));
+        return Ok(None);
     };
     let left = reader.len();
-    match text {
-        Ok(Some(text)) => {
-            let digits = digits_of(alloc, text.as_slice())?;
-            Ok(format!(in alloc; "ok {left} {digits}")?)
-        }
-        Ok(None) => Err(Fail::from("unwritten")),
-        Err(error) => Ok(format!(in alloc; "err {error:?} {left}")?),
+    outcome(alloc, text, left)
+}
+
+/// What reading these bytes as the type of the name answers.
+fn answer(alloc: Global, name: &str, bytes: &[u8]) -> Result<String, Fail> {
+    if let Some(found) = unsigned_answer(alloc, name, bytes)? {
+        return Ok(found);
     }
+    if let Some(found) = signed_answer(alloc, name, bytes)? {
+        return Ok(found);
+    }
+    let found = other_answer(alloc, name, bytes)?;
+    Ok(found.ok_or("a type")?)
 }
 
 /// Short lists of items of one size. The vectors refuse them for the whole list, without looking at an
 /// item; here a list is read item by item, and is refused for the first item that is missing.
 const SHORT_LISTS: [(&str, &str); 2] = [
     ("Vec<u64>", "02000000000000000100000000000000"),
-    ("Vec<Vec<u64>>", "090000000000000000000000000000000300000000000000ff"),
+    (
+        "Vec<Vec<u64>>",
+        "090000000000000000000000000000000300000000000000ff",
+    ),
 ];
 
-/// The first row that is not answered as it says, if there is one.
-fn first_unlike<'r>(alloc: Global, rows: &'r [(&'r str, &'r str, &'r str)]) -> Result<Option<String>, Fail> {
-    for (name, digits, outcome) in rows {
+/// The first row of the table that is not answered as it says, if there is one.
+fn first_unlike(alloc: Global, table: &str) -> Result<Option<String>, Fail> {
+    for row in table.lines() {
+        let (name, rest) = row.split_once('|').ok_or("a name")?;
+        let (digits, outcome) = rest.split_once('|').ok_or("an outcome")?;
         let bytes = bytes_of(alloc, digits)?;
         let found = answer(alloc, name, bytes.as_slice())?;
-        let is_short = SHORT_LISTS.iter().any(|(list, short)| list == name && short == digits);
-        if (found.as_str() == *outcome) == is_short {
-            return Ok(Some(format!(in alloc; "{name} {digits}: {found}")?));
+        let is_short = SHORT_LISTS
+            .iter()
+            .any(|(list, short)| *list == name && *short == digits);
+        if (found.as_str() == outcome) == is_short {
+            return Ok(Some(format!(in alloc; "{row}: {found}")?));
         }
     }
     Ok(None)
@@ -196,7 +279,9 @@ fn first_unlike<'r>(alloc: Global, rows: &'r [(&'r str, &'r str, &'r str)]) -> R
 
 #[test]
 fn answers_the_vectors(rt: HostRuntime) -> Result<(), Fail> {
-    let unlike = first_unlike(rt.alloc(), VECTORS.as_slice())?;
+    let rows = VECTORS.lines().count();
+    assert_eq!(rt; rows, 238);
+    let unlike = first_unlike(rt.alloc(), VECTORS)?;
     assert!(rt; unlike == None, "{unlike:?}");
     Ok(())
 }
@@ -214,16 +299,25 @@ fn read_errors_print(rt: HostRuntime) -> Result<(), Fail> {
     let device = || std::io::Error::from(ErrorKind::Other);
     let device_text = printed(alloc, device())?;
     let rows = [
-        (ReadError::from(io::ReadError::ReadSizeLimit(3)), "Attempting to read 3 bytes"),
+        (
+            ReadError::from(io::ReadError::ReadSizeLimit(3)),
+            "Attempting to read 3 bytes",
+        ),
         (
             ReadError::Io(io::ReadError::UnsupportedZeroCopy),
             "Unsupported zero-copy operation: reader does not support deserializing zero-copy types",
         ),
-        (ReadError::Io(io::ReadError::from(device())), device_text.as_str()),
+        (
+            ReadError::Io(io::ReadError::from(device())),
+            device_text.as_str(),
+        ),
         (ReadError::Io(io::ReadError::OutOfMemory), "Out of memory"),
         (ReadError::from(text), utf8.as_str()),
         (error::invalid_utf8_encoding(text), utf8.as_str()),
-        (error::pointer_sized_decode_error(), "Could not cast integer type to pointer sized type"),
+        (
+            error::pointer_sized_decode_error(),
+            "Could not cast integer type to pointer sized type",
+        ),
         (
             error::preallocation_size_limit(5, 4),
             "Encoded sequence length exceeded preallocation limit of 4 bytes (needed 5 bytes)",
@@ -236,7 +330,10 @@ fn read_errors_print(rt: HostRuntime) -> Result<(), Fail> {
         ),
         (error::invalid_char_lead(128), "Invalid char lead: 128"),
         (ReadError::Custom("no"), "Custom error: no"),
-        (error::unaligned_pointer_read(), "Zero-copy read would be unaligned"),
+        (
+            error::unaligned_pointer_read(),
+            "Zero-copy read would be unaligned",
+        ),
         (ReadError::OutOfMemory, "Out of memory"),
     ];
     for (error, text) in rows {
@@ -254,8 +351,14 @@ fn write_errors_print(rt: HostRuntime) -> Result<(), Fail> {
     let device = || std::io::Error::from(ErrorKind::Other);
     let device_text = printed(alloc, device())?;
     let rows = [
-        (WriteError::from(io::WriteError::WriteSizeLimit(3)), "Attempting to write 3 bytes"),
-        (WriteError::Io(io::WriteError::from(device())), device_text.as_str()),
+        (
+            WriteError::from(io::WriteError::WriteSizeLimit(3)),
+            "Attempting to write 3 bytes",
+        ),
+        (
+            WriteError::Io(io::WriteError::from(device())),
+            device_text.as_str(),
+        ),
         (WriteError::Io(io::WriteError::OutOfMemory), "Out of memory"),
         (WriteError::from(text), utf8.as_str()),
         (
@@ -268,7 +371,10 @@ fn write_errors_print(rt: HostRuntime) -> Result<(), Fail> {
     for (error, text) in rows {
         assert_eq!(rt; printed(alloc, error)?.as_str(), text);
     }
-    let either = [Error::from(ReadError::OutOfMemory), Error::from(WriteError::OutOfMemory)];
+    let either = [
+        Error::from(ReadError::OutOfMemory),
+        Error::from(WriteError::OutOfMemory),
+    ];
     for error in either {
         assert_eq!(rt; printed(alloc, error)?.as_str(), "Out of memory");
     }
@@ -278,7 +384,10 @@ fn write_errors_print(rt: HostRuntime) -> Result<(), Fail> {
 #[test]
 fn small_calls(rt: HostRuntime) -> Result<(), Fail> {
     let alloc = rt.alloc();
-    let size = TypeMeta::Static { size: 8, zero_copy: true };
+    let size = TypeMeta::Static {
+        size: 8,
+        zero_copy: true,
+    };
     assert!(rt; <u64 as SchemaRead<Lifetime>>::type_meta() == size);
     assert!(rt; <u64 as SchemaWrite>::type_meta() == size);
     assert!(rt; <Vec<u8> as SchemaWrite>::type_meta() == TypeMeta::Dynamic);
@@ -291,7 +400,15 @@ fn small_calls(rt: HostRuntime) -> Result<(), Fail> {
     assert_eq!(rt; out.as_slice(), [2u8, 1, 0, 0, 0, 0, 0, 0].as_slice());
     let mut reader = out.as_slice();
     let long = BincodeLen::<3>::read::<Lifetime, &[u8]>(&mut reader, 1);
-    assert!(rt; matches!(&long, Err(ReadError::PreallocationSizeLimit { needed: 258, limit: 3 })));
+    assert!(rt;
+        matches!(
+            &long,
+            Err(ReadError::PreallocationSizeLimit {
+                needed: 258,
+                limit: 3
+            })
+        )
+    );
     assert_eq!(rt; reader.len(), 0);
     let mut dst = Some(5u8);
     let mut none = [].as_slice();

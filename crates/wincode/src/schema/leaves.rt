@@ -10,9 +10,9 @@ use crate::error::{ReadResult, WriteResult, invalid_bool_encoding};
 use crate::io::{Lending, Reader, Writer};
 use crate::meta::TypeMeta;
 use crate::schema::numbers::{
-    put_i128, put_nothing, put_i16, put_i32, put_i64, put_i8, put_isize, put_u128, put_u16, put_u32, put_u64,
-    put_u8, put_usize, take_i128, take_i16, take_i32, take_i64, take_i8, take_u128, take_u16,
-    take_u32, take_u64, take_u8,
+    put_i8, put_i16, put_i32, put_i64, put_i128, put_isize, put_nothing, put_u8, put_u16, put_u32,
+    put_u64, put_u128, put_usize, take_i8, take_i16, take_i32, take_i64, take_i128, take_u8,
+    take_u16, take_u32, take_u64, take_u128,
 };
 use crate::schema::{RoundTrip, SchemaRead, SchemaWrite};
 use std::alloc::Global;
@@ -30,7 +30,10 @@ impl SchemaWrite for u8 {
     ghost writing = { number_write 1 true };
 
     fn type_meta() -> TypeMeta {
-        TypeMeta::Static { size: 1, zero_copy: true }
+        TypeMeta::Static {
+            size: 1,
+            zero_copy: true,
+        }
     }
 
     fn size_of(_src: &u8) -> WriteResult<usize> {
@@ -57,7 +60,10 @@ impl<L: Lending> SchemaRead<L> for u8 {
     ghost reading = { number_read 1 true };
 
     fn type_meta() -> TypeMeta {
-        TypeMeta::Static { size: 1, zero_copy: true }
+        TypeMeta::Static {
+            size: 1,
+            zero_copy: true,
+        }
     }
 
     fn prealloc_size() -> usize {
@@ -93,7 +99,10 @@ impl SchemaWrite for u16 {
     ghost writing = { number_write 2 true };
 
     fn type_meta() -> TypeMeta {
-        TypeMeta::Static { size: 2, zero_copy: true }
+        TypeMeta::Static {
+            size: 2,
+            zero_copy: true,
+        }
     }
 
     fn size_of(_src: &u16) -> WriteResult<usize> {
@@ -120,7 +129,10 @@ impl<L: Lending> SchemaRead<L> for u16 {
     ghost reading = { number_read 2 true };
 
     fn type_meta() -> TypeMeta {
-        TypeMeta::Static { size: 2, zero_copy: true }
+        TypeMeta::Static {
+            size: 2,
+            zero_copy: true,
+        }
     }
 
     fn prealloc_size() -> usize {
@@ -156,7 +168,10 @@ impl SchemaWrite for u32 {
     ghost writing = { number_write 4 true };
 
     fn type_meta() -> TypeMeta {
-        TypeMeta::Static { size: 4, zero_copy: true }
+        TypeMeta::Static {
+            size: 4,
+            zero_copy: true,
+        }
     }
 
     fn size_of(_src: &u32) -> WriteResult<usize> {
@@ -183,7 +198,10 @@ impl<L: Lending> SchemaRead<L> for u32 {
     ghost reading = { number_read 4 true };
 
     fn type_meta() -> TypeMeta {
-        TypeMeta::Static { size: 4, zero_copy: true }
+        TypeMeta::Static {
+            size: 4,
+            zero_copy: true,
+        }
     }
 
     fn prealloc_size() -> usize {
@@ -219,7 +237,10 @@ impl SchemaWrite for u64 {
     ghost writing = { number_write 8 true };
 
     fn type_meta() -> TypeMeta {
-        TypeMeta::Static { size: 8, zero_copy: true }
+        TypeMeta::Static {
+            size: 8,
+            zero_copy: true,
+        }
     }
 
     fn size_of(_src: &u64) -> WriteResult<usize> {
@@ -246,7 +267,10 @@ impl<L: Lending> SchemaRead<L> for u64 {
     ghost reading = { number_read 8 true };
 
     fn type_meta() -> TypeMeta {
-        TypeMeta::Static { size: 8, zero_copy: true }
+        TypeMeta::Static {
+            size: 8,
+            zero_copy: true,
+        }
     }
 
     fn prealloc_size() -> usize {
@@ -282,7 +306,10 @@ impl SchemaWrite for u128 {
     ghost writing = { number_write 16 true };
 
     fn type_meta() -> TypeMeta {
-        TypeMeta::Static { size: 16, zero_copy: true }
+        TypeMeta::Static {
+            size: 16,
+            zero_copy: true,
+        }
     }
 
     fn size_of(_src: &u128) -> WriteResult<usize> {
@@ -309,7 +336,10 @@ impl<L: Lending> SchemaRead<L> for u128 {
     ghost reading = { number_read 16 true };
 
     fn type_meta() -> TypeMeta {
-        TypeMeta::Static { size: 16, zero_copy: true }
+        TypeMeta::Static {
+            size: 16,
+            zero_copy: true,
+        }
     }
 
     fn prealloc_size() -> usize {
@@ -345,7 +375,10 @@ impl SchemaWrite for usize {
     ghost writing = { number_write 8 false };
 
     fn type_meta() -> TypeMeta {
-        TypeMeta::Static { size: 8, zero_copy: false }
+        TypeMeta::Static {
+            size: 8,
+            zero_copy: false,
+        }
     }
 
     fn size_of(_src: &usize) -> WriteResult<usize> {
@@ -372,7 +405,10 @@ impl<L: Lending> SchemaRead<L> for usize {
     ghost reading = { number_read 8 false };
 
     fn type_meta() -> TypeMeta {
-        TypeMeta::Static { size: 8, zero_copy: false }
+        TypeMeta::Static {
+            size: 8,
+            zero_copy: false,
+        }
     }
 
     fn prealloc_size() -> usize {
@@ -408,7 +444,10 @@ impl SchemaWrite for i8 {
     ghost writing = { signed_write w8 true };
 
     fn type_meta() -> TypeMeta {
-        TypeMeta::Static { size: 1, zero_copy: true }
+        TypeMeta::Static {
+            size: 1,
+            zero_copy: true,
+        }
     }
 
     fn size_of(_src: &i8) -> WriteResult<usize> {
@@ -435,7 +474,10 @@ impl<L: Lending> SchemaRead<L> for i8 {
     ghost reading = { signed_read w8 true };
 
     fn type_meta() -> TypeMeta {
-        TypeMeta::Static { size: 1, zero_copy: true }
+        TypeMeta::Static {
+            size: 1,
+            zero_copy: true,
+        }
     }
 
     fn prealloc_size() -> usize {
@@ -471,7 +513,10 @@ impl SchemaWrite for i16 {
     ghost writing = { signed_write w16 true };
 
     fn type_meta() -> TypeMeta {
-        TypeMeta::Static { size: 2, zero_copy: true }
+        TypeMeta::Static {
+            size: 2,
+            zero_copy: true,
+        }
     }
 
     fn size_of(_src: &i16) -> WriteResult<usize> {
@@ -498,7 +543,10 @@ impl<L: Lending> SchemaRead<L> for i16 {
     ghost reading = { signed_read w16 true };
 
     fn type_meta() -> TypeMeta {
-        TypeMeta::Static { size: 2, zero_copy: true }
+        TypeMeta::Static {
+            size: 2,
+            zero_copy: true,
+        }
     }
 
     fn prealloc_size() -> usize {
@@ -534,7 +582,10 @@ impl SchemaWrite for i32 {
     ghost writing = { signed_write w32 true };
 
     fn type_meta() -> TypeMeta {
-        TypeMeta::Static { size: 4, zero_copy: true }
+        TypeMeta::Static {
+            size: 4,
+            zero_copy: true,
+        }
     }
 
     fn size_of(_src: &i32) -> WriteResult<usize> {
@@ -561,7 +612,10 @@ impl<L: Lending> SchemaRead<L> for i32 {
     ghost reading = { signed_read w32 true };
 
     fn type_meta() -> TypeMeta {
-        TypeMeta::Static { size: 4, zero_copy: true }
+        TypeMeta::Static {
+            size: 4,
+            zero_copy: true,
+        }
     }
 
     fn prealloc_size() -> usize {
@@ -597,7 +651,10 @@ impl SchemaWrite for i64 {
     ghost writing = { signed_write w64 true };
 
     fn type_meta() -> TypeMeta {
-        TypeMeta::Static { size: 8, zero_copy: true }
+        TypeMeta::Static {
+            size: 8,
+            zero_copy: true,
+        }
     }
 
     fn size_of(_src: &i64) -> WriteResult<usize> {
@@ -624,7 +681,10 @@ impl<L: Lending> SchemaRead<L> for i64 {
     ghost reading = { signed_read w64 true };
 
     fn type_meta() -> TypeMeta {
-        TypeMeta::Static { size: 8, zero_copy: true }
+        TypeMeta::Static {
+            size: 8,
+            zero_copy: true,
+        }
     }
 
     fn prealloc_size() -> usize {
@@ -660,7 +720,10 @@ impl SchemaWrite for i128 {
     ghost writing = { signed_write w128 true };
 
     fn type_meta() -> TypeMeta {
-        TypeMeta::Static { size: 16, zero_copy: true }
+        TypeMeta::Static {
+            size: 16,
+            zero_copy: true,
+        }
     }
 
     fn size_of(_src: &i128) -> WriteResult<usize> {
@@ -687,7 +750,10 @@ impl<L: Lending> SchemaRead<L> for i128 {
     ghost reading = { signed_read w128 true };
 
     fn type_meta() -> TypeMeta {
-        TypeMeta::Static { size: 16, zero_copy: true }
+        TypeMeta::Static {
+            size: 16,
+            zero_copy: true,
+        }
     }
 
     fn prealloc_size() -> usize {
@@ -723,7 +789,10 @@ impl SchemaWrite for isize {
     ghost writing = { signed_write w64 false };
 
     fn type_meta() -> TypeMeta {
-        TypeMeta::Static { size: 8, zero_copy: false }
+        TypeMeta::Static {
+            size: 8,
+            zero_copy: false,
+        }
     }
 
     fn size_of(_src: &isize) -> WriteResult<usize> {
@@ -750,7 +819,10 @@ impl<L: Lending> SchemaRead<L> for isize {
     ghost reading = { signed_read w64 false };
 
     fn type_meta() -> TypeMeta {
-        TypeMeta::Static { size: 8, zero_copy: false }
+        TypeMeta::Static {
+            size: 8,
+            zero_copy: false,
+        }
     }
 
     fn prealloc_size() -> usize {
@@ -786,7 +858,10 @@ impl SchemaWrite for bool {
     ghost writing = { bool_write };
 
     fn type_meta() -> TypeMeta {
-        TypeMeta::Static { size: 1, zero_copy: false }
+        TypeMeta::Static {
+            size: 1,
+            zero_copy: false,
+        }
     }
 
     fn size_of(_src: &bool) -> WriteResult<usize> {
@@ -814,7 +889,10 @@ impl<L: Lending> SchemaRead<L> for bool {
     ghost reading = { bool_read };
 
     fn type_meta() -> TypeMeta {
-        TypeMeta::Static { size: 1, zero_copy: false }
+        TypeMeta::Static {
+            size: 1,
+            zero_copy: false,
+        }
     }
 
     fn prealloc_size() -> usize {
@@ -855,7 +933,10 @@ impl SchemaWrite for () {
     ghost writing = { unit_write };
 
     fn type_meta() -> TypeMeta {
-        TypeMeta::Static { size: 0, zero_copy: true }
+        TypeMeta::Static {
+            size: 0,
+            zero_copy: true,
+        }
     }
 
     fn size_of(_src: &()) -> WriteResult<usize> {
@@ -882,7 +963,10 @@ impl<L: Lending> SchemaRead<L> for () {
     ghost reading = { unit_read };
 
     fn type_meta() -> TypeMeta {
-        TypeMeta::Static { size: 0, zero_copy: true }
+        TypeMeta::Static {
+            size: 0,
+            zero_copy: true,
+        }
     }
 
     fn prealloc_size() -> usize {
@@ -913,7 +997,10 @@ impl<T> SchemaWrite for PhantomData<T> {
     ghost writing = { unit_write };
 
     fn type_meta() -> TypeMeta {
-        TypeMeta::Static { size: 0, zero_copy: true }
+        TypeMeta::Static {
+            size: 0,
+            zero_copy: true,
+        }
     }
 
     fn size_of(_src: &PhantomData<T>) -> WriteResult<usize> {
@@ -940,14 +1027,21 @@ impl<L: Lending, T> SchemaRead<L> for PhantomData<T> {
     ghost reading = { unit_read };
 
     fn type_meta() -> TypeMeta {
-        TypeMeta::Static { size: 0, zero_copy: true }
+        TypeMeta::Static {
+            size: 0,
+            zero_copy: true,
+        }
     }
 
     fn prealloc_size() -> usize {
         1
     }
 
-    fn read<R: Reader<L>>(_alloc: Global, _reader: &mut R, dst: &mut Option<PhantomData<T>>) -> ReadResult<()> {
+    fn read<R: Reader<L>>(
+        _alloc: Global,
+        _reader: &mut R,
+        dst: &mut Option<PhantomData<T>>,
+    ) -> ReadResult<()> {
         *dst = Some(PhantomData);
         Ok(())
     }

@@ -14,7 +14,11 @@ use crate::schema::{RoundTrip, SchemaRead, SchemaWrite};
 use std::alloc::Global;
 
 /// Reads `n` items, one after another, into memory for them.
-fn get_items<L: Lending, T: SchemaRead<L>, R: Reader<L>>(alloc: Global, reader: &mut R, n: usize) -> ReadResult<Vec<T::Dst>>
+fn get_items<L: Lending, T: SchemaRead<L>, R: Reader<L>>(
+    alloc: Global,
+    reader: &mut R,
+    n: usize,
+) -> ReadResult<Vec<T::Dst>>
     ensures ok { IfOk result (λ v. Gives (AreItems n T.reading.reads) (R.state reader.old) (R.state reader.new) (map T.seen v.items)) }
     ensures err { IfErr result (Refuses (AreItems n T.reading.reads) T.reading.asks false (R.state reader.old) (R.state reader.new)) }
 {
@@ -32,7 +36,10 @@ fn get_items<L: Lending, T: SchemaRead<L>, R: Reader<L>>(alloc: Global, reader: 
 }
 
 /// Reads a list behind its length.
-fn get_list<Len: SeqLen, L: Lending, T: SchemaRead<L>, R: Reader<L>>(alloc: Global, reader: &mut R) -> ReadResult<Vec<T::Dst>>
+fn get_list<Len: SeqLen, L: Lending, T: SchemaRead<L>, R: Reader<L>>(
+    alloc: Global,
+    reader: &mut R,
+) -> ReadResult<Vec<T::Dst>>
     ensures ok { IfOk result (λ v. Gives (list_read Len.scheme T.reading).reads (R.state reader.old) (R.state reader.new) (map T.seen v.items)) }
     ensures err { IfErr result (Refuses (list_read Len.scheme T.reading).reads T.reading.asks false (R.state reader.old) (R.state reader.new)) }
 {
@@ -70,7 +77,10 @@ fn write_items<T: SchemaWrite, W: Writer>(writer: &mut W, items: &[T::Src]) -> W
 }
 
 /// Writes the length of a list, and then its items.
-fn write_list<Len: SeqLen, T: SchemaWrite, W: Writer>(writer: &mut W, items: &[T::Src]) -> WriteResult<()>
+fn write_list<Len: SeqLen, T: SchemaWrite, W: Writer>(
+    writer: &mut W,
+    items: &[T::Src],
+) -> WriteResult<()>
     ensures ok { OnOk result (Wrote W.put W.room (list_write Len.scheme T.writing) (W.state writer.old) (W.state writer.new) (map T.seen items.now)) }
     ensures value { OnOk result (Each T.proper items.now) }
     ensures err { IfErr result (Unwritten W.put W.room (list_write Len.scheme T.writing) (W.state writer.old) (W.state writer.new) (map T.seen items.now) (W.steady (W.kept writer.old)) (W.failures writer.new)) }
@@ -125,7 +135,11 @@ impl<L: Lending, T: SchemaRead<L>> SchemaRead<L> for Vec<T> {
         24
     }
 
-    fn read<R: Reader<L>>(alloc: Global, reader: &mut R, dst: &mut Option<Vec<T::Dst>>) -> ReadResult<()> {
+    fn read<R: Reader<L>>(
+        alloc: Global,
+        reader: &mut R,
+        dst: &mut Option<Vec<T::Dst>>,
+    ) -> ReadResult<()> {
         *dst = Some(get_list::<BincodeLen<4194304>, L, T, R>(alloc, reader)?);
         Ok(())
     }

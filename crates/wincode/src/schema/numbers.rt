@@ -9,7 +9,9 @@ use crate::error::{ReadResult, WriteResult};
 use crate::io::{Lending, Reader, Writer, fill_array};
 
 /// The first `N` bytes, which are then gone; `ReadSizeLimit(N)` where fewer are left, and they stay.
-pub(crate) fn take_array<L: Lending, R: Reader<L>, const N: usize>(reader: &mut R) -> ReadResult<[u8; N]>
+pub(crate) fn take_array<L: Lending, R: Reader<L>, const N: usize>(
+    reader: &mut R,
+) -> ReadResult<[u8; N]>
     ensures ok { IfOk result (Takes N (R.state reader.old) (R.state reader.new)) }
     ensures err { IfErr result (IsDenied N (R.state reader.old) (R.state reader.new)) }
 {

@@ -1,4 +1,4 @@
-use Rattle.std.proofs.Common.{◌≡◌, ℕ, List, length, map}
+use Rattle.std.proofs.Common.{map}
 use Rattle.wincode.specs.Outcomes.{Gives}
 use Rattle.wincode.specs.Lists.{AreItems}
 use Rattle.wincode.proofs.schema.lists.get_items.Given as goal

@@ -5,7 +5,7 @@ use Rattle.wincode.proofs.schema.lists.get_list.Goals as goal
 
 pub returns-in_err-n-clause-err : goal.returns-in_err-n-clause-err
 returns-in_err-n-clause-err g c =
-  let h = list_first g.Len.SeqLen.scheme g.T.SchemaRead.reading _ _ _ (rw c.prealloc_size.ensures at c.in_err-n.ensures.err) in search (rules, h)
+    let h = list_first g.Len.SeqLen.scheme g.T.SchemaRead.reading _ _ _ (rw c.prealloc_size.ensures at c.in_err-n.ensures.err) in search (rules, h)
 
 pub returns-clause-ok : goal.returns-clause-ok
 returns-clause-ok g c = IfOk-weaker c.get_items.result _ _ (λ v p. list_gives g.Len.SeqLen.scheme g.T.SchemaRead.reading _ _ _ _ _ (rw c.prealloc_size.ensures at c.in_ok-n.ensures.ok) p) c.get_items.ensures.ok

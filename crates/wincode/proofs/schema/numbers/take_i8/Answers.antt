@@ -9,5 +9,5 @@ returns-in_err-number-clause-err g c = let h = signed_refuses w8 refl true _ _ _
 
 pub returns-clause-gives : goal.returns-clause-gives
 returns-clause-gives g c =
-  let fits : FitsSigned w8 c.cast_signed.result = search rules in
-  rw (to_z-of_z w8 c.cast_signed.result fits, c.cast_signed.ensures) (signed_gives w8 refl true _ _ _ c.in_ok-number.ensures.gives)
+    let fits : FitsSigned w8 c.cast_signed.result = search rules in
+    rw (to_z-of_z w8 c.cast_signed.result fits, c.cast_signed.ensures) (signed_gives w8 refl true _ _ _ c.in_ok-number.ensures.gives)

@@ -8,10 +8,10 @@ returns-in_err-bytes-clause-err g c = let h = number_refuses 16 true _ _ _ c.in_
 
 pub returns-clause-ok : goal.returns-clause-ok
 returns-clause-ok g c =
-  let small : AreSmall c.in_ok-bytes.bytes = search rules in
-  number_taken w128 (lit< tt) _ _ _ _ c.in_ok-bytes.ensures.ok small c.from_le_bytes.ensures
+    let small : AreSmall c.in_ok-bytes.bytes = search rules in
+    number_taken w128 (lit< tt) _ _ _ _ c.in_ok-bytes.ensures.ok small c.from_le_bytes.ensures
 
 pub returns-clause-gives : goal.returns-clause-gives
 returns-clause-gives g c =
-  let small : AreSmall c.in_ok-bytes.bytes = search rules in
-  number_gives 16 true _ _ _ (number_taken w128 (lit< tt) _ _ _ _ c.in_ok-bytes.ensures.ok small c.from_le_bytes.ensures)
+    let small : AreSmall c.in_ok-bytes.bytes = search rules in
+    number_gives 16 true _ _ _ (number_taken w128 (lit< tt) _ _ _ _ c.in_ok-bytes.ensures.ok small c.from_le_bytes.ensures)
