@@ -139,12 +139,6 @@ abbrev pub IsOverflow : WriteError → Type 0
 IsOverflow (writing.LengthEncodingOverflow s) = ⊤
 IsOverflow _ = ⊥
 
--- why memory was wanted in writing: the value's own growth or that of the writer
-abbrev pub IsWriteMemory : WriteError → Type 0
-IsWriteMemory writing.OutOfMemory = ⊤
-IsWriteMemory (writing.Io writer.OutOfMemory) = ⊤
-IsWriteMemory _ = ⊥
-
 -- The size of v was refused: v can't be written or its size is past `usize::MAX`.
 abbrev pub IsSizeRefused : {V : Type 0} → WriteGrammar V → V → WriteError → Type 0
 IsSizeRefused g v e = (g.can v → g.size v < 2 ^ 64 → ⊥) × (IsTrue g.own → IsOverflow e)
@@ -159,6 +153,6 @@ pub record IsSerialized {V : Type 0} (g : WriteGrammar V) (v : V) (bytes : List 
   pub is_text : g.writes v bytes
   pub size : length bytes ≡ g.size v
 
--- Where v can be written in at most `usize::MAX` bytes, only memory was wanted.
+-- Where v can be written in at most `usize::MAX` bytes, only memory for them was wanted.
 abbrev pub IsUnserialized : {V : Type 0} → WriteGrammar V → V → WriteError → Type 0
-IsUnserialized g v e = g.can v → g.size v < 2 ^ 64 → IsWriteMemory e
+IsUnserialized g v e = g.can v → g.size v < 2 ^ 64 → e ≡ writing.OutOfMemory

@@ -5,7 +5,8 @@ use Rattle.wincode.specs.Grammar.{ReadGrammar, WriteGrammar}
 use Rattle.wincode.specs.Leaves.{number_read, number_write}
 use Rattle.wincode.specs.Lengths.{bincode}
 use Rattle.wincode.specs.Lists.{list_read, list_write}
-use Rattle.wincode.specs.Outcomes.{Found, IsWriteMemory}
+use Rattle.wincode.specs.Outcomes.{Found}
+use Rattle.wincode.specs.declared.error.WriteError.TheVariants as writing
 use Rattle.wincode.specs.declared.error.ReadError.{ReadError}
 use Rattle.wincode.specs.declared.error.ReadError.TheVariants as reading
 use Rattle.wincode.specs.declared.show.RelayError.{RelayError}
@@ -45,7 +46,7 @@ abbrev pub IsUnrelayed : List ℕ → Option (List ℕ) → Option (List ℕ) �
 IsUnrelayed shape input left old new relay.UnknownShape = (shape ≢ nested_word) × Keeps input left × Keeps old new
 IsUnrelayed shape input left old new (relay.Input e) = (shape ≡ nested_word) × Keeps old new
 IsUnrelayed shape input left old new (relay.Read e) = (shape ≡ nested_word) × Keeps old new × IfSome input (λ bytes. (text : List ℕ) → IsRecoded shape bytes text → IsReadMemory e)
-IsUnrelayed shape input left old new (relay.Write e) = (shape ≡ nested_word) × Keeps old new × IsWriteMemory e
+IsUnrelayed shape input left old new (relay.Write e) = (shape ≡ nested_word) × Keeps old new × e ≡ writing.OutOfMemory
 IsUnrelayed shape input left old new (relay.Output e) = shape ≡ nested_word
 IsUnrelayed shape input left old new relay.OutOfMemory = (shape ≡ nested_word) × Keeps old new
 
@@ -62,5 +63,5 @@ status_of _ = 1
 -- Why the front of the bytes was not recoded: none reads, or memory was wanted.
 abbrev pub IsUnrecoded : List ℕ → RelayError → Type 0
 IsUnrecoded bytes (relay.Read e) = (text : List ℕ) → Recoded nested_read nested_write bytes text → IsReadMemory e
-IsUnrecoded bytes (relay.Write e) = IsWriteMemory e
+IsUnrecoded bytes (relay.Write e) = e ≡ writing.OutOfMemory
 IsUnrecoded bytes _ = ⊥

@@ -3,7 +3,7 @@ ghost use Rattle.std.specs.Prelude.{◌≡◌, ℕ, List, IfOk, IfErr, OnOk, IsT
 ghost use Rattle.wincode.specs.Outcomes.{Found, Accepts, Excused, Wrote, Unwritten, IsSizeRefused, IsSerialized, IsUnserialized};
 
 use crate::error::{ReadResult, WriteError, WriteResult};
-use crate::io::{Input, Reader, Writer};
+use crate::io::{Input, Reader, WriteWindow, Writer};
 use crate::schema::{SchemaRead, SchemaWrite};
 use std::alloc::Global;
 
@@ -19,7 +19,8 @@ pub fn serialize<T: SchemaWrite<Src = T>>(alloc: Global, src: &T) -> WriteResult
         Ok(bytes) => bytes,
         Err(_) => return Err(WriteError::OutOfMemory),
     };
-    T::write(&mut bytes, src)?;
+    let mut window = WriteWindow::new(&mut bytes, size);
+    T::write(&mut window, src)?;
     Ok(bytes)
 }
 
