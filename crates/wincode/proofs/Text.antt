@@ -1,15 +1,30 @@
 -- What characters and texts read and write.
-use Rattle.std.proofs.Common.{◌≡◌, ◌∙◌, sym, ap, subst, ℕ, ◌+◌, ◌*◌, ◌<◌, ◌≤◌, ◌⊎◌, inl, inr, Bool, true, false, cond, nat_lt, ◌/◌, ◌&&◌, List, [], ◌∷◌, ◌++◌, length, take, refl, arith, append_assoc, append-nil, length-append, length-take, IsTrue}
+use Rattle.std.proofs.Common.{◌≡◌, ◌∙◌, sym, ap, subst, ℕ, ◌+◌, ◌*◌, ◌<◌, ◌≤◌, ◌⊎◌, inl, inr, Bool, true, false, cond, nat_lt, ◌/◌, ◌^◌, ◌&&◌, Some, List, [], ◌∷◌, ◌++◌, length, take, refl, arith, append_assoc, append-nil, length-append, length-take, IsTrue}
 use Rattle.std.specs.Prelude.{IsUtf8, encode_utf8}
 use Rattle.std.specs.Char.{IsScalar}
 use Rattle.std.proofs.Math.Seq.{take-append_seam}
 use Rattle.std.proofs.Math.Utf8.{scalar, scalars, scalar_cases, encode, next}
 use Rattle.std.proofs.lemmas.Bool.{lt-ltb, le-ltb, ltb-true, ltb-false}
 use Rattle.std.proofs.lemmas.Str.{encode_ascii, IsUtf8-encode, cons_from_encodes}
-use Rattle.wincode_io.specs.Readers.{ReaderState, Stays, Loses, IsShort, IsShown, IsPeeked, IsRefusal}
-use Rattle.wincode.specs.Text.{char_read, announced, IsCharRefusal, IsCharRefused}
-use Rattle.wincode.specs.Sequences.{kept_trans, told_kept}
-use Rattle.wincode.specs.Outcomes.{Gives, Refuses, Accepts, Due, ReaderDue, IsDenied}
+use Rattle.wincode_io.specs.Readers.{ReaderState, Stays, Loses, Takes, IsShort, IsShown, IsPeeked, IsRefusal}
+use Rattle.wincode_io.specs.Writers.{WriterLaws, IsWriteRefused}
+use Rattle.wincode.specs.Grammar.{WriteGrammar, WriteLaws}
+use Rattle.wincode.specs.Lengths.{IsLength, HasText, bincode, length_write, text_len}
+use Rattle.wincode.specs.LengthLaws.{bincode_text, bincode_text_is, bincode_laws, length_one, length_write_laws}
+use Rattle.wincode.specs.LeafLaws.{same_front}
+use Rattle.wincode.specs.Numbers.{le}
+use Rattle.wincode.specs.NumberLaws.{length-le}
+use Rattle.wincode.specs.Pairs.{pair_write}
+use Rattle.wincode.specs.Text.{char_read, announced, IsCharRefusal, IsCharRefused, text_read, text_write, IsTextBody, IsTextBodyRefused}
+use Rattle.wincode.specs.TextLaws.{text_then, then_text}
+use Rattle.wincode.specs.Sequences.{Then, kept_trans, told_kept, gives_map, refuses_map, then_gives, then_first, then_second}
+use Rattle.wincode.specs.WriteSequences as sequence
+use Rattle.wincode.specs.Outcomes.{Gives, Refuses, Accepts, Due, ReaderDue, IsDenied, Wrote, Unwritten}
+use Rattle.wincode.specs.declared.error.WriteError.{WriteError}
+use Rattle.wincode.specs.declared.error.WriteError.TheVariants as writing
+use Rattle.wincode_io.specs.declared.error.WriteError.{WriteError as IoWriteError}
+use Rattle.wincode.specs.declared.meta.TypeMeta.TheVariants.{Dynamic}
+use Rattle.wincode.proofs.Sized.{takes_joins}
 use Rattle.std.specs.declared.str.Utf8Error.{Utf8Error}
 use Rattle.wincode.specs.declared.error.ReadError.{ReadError}
 use Rattle.wincode.specs.declared.error.ReadError.TheVariants as reading
@@ -198,3 +213,117 @@ char_gives old mid shown_by new lead n c bytes more is s p t size shown u e l =
           let only : bytes ≡ encode_utf8 c = e ∙ none_more (encode_utf8 c) more (ap length (sym e) ∙ size ∙ is ∙ count) in
           record { text = bytes; is_read = (sc, only); joins = split };
     }
+
+-- ---- texts
+
+none_spared : (a : Bool) → (a && false) ≡ false
+none_spared false = refl
+none_spared true = refl
+
+body_short : (n : ℕ) (old : ReaderState) → IsShort n old → Accepts (IsTextBody n) old → ⊥
+body_short n old short a =
+  let f = a.front.found in
+  absurd (omega (arith, short a.told, ap length f.is_read.2, f.is_read.0, ap length f.joins, length-append f.text a.front.rest))
+
+body_due : (unlent : Type 0) (n asks : ℕ) (old new : ReaderState) (e : IoReadError) → (unlent → new.lends < asks) → IsRefusal (IsShort n old) unlent n new e → ReaderDue (Accepts (IsTextBody n) old) asks new e
+body_due unlent n asks old new (reader.ReadSizeLimit m) lent d = λ a. body_short n old d.0 a
+body_due unlent n asks old new reader.UnsupportedZeroCopy lent d = λ a. lent d
+body_due unlent n asks old new reader.OutOfMemory lent d = d
+body_due unlent n asks old new (reader.Io e) lent d = d
+
+body_not : (n : ℕ) (old new : ReaderState) (bytes : List ℕ) → Takes n old new bytes → (IsUtf8 bytes → ⊥) → Accepts (IsTextBody n) old → ⊥
+body_not n old new bytes t not a =
+  let f = a.front.found in
+  let same = same_front bytes f.text new.rest a.front.rest (t.size ∙ sym (ap length f.is_read.2 ∙ f.is_read.0)) (sym (takes_joins t a.told) ∙ f.joins) in
+  not (subst IsUtf8 (sym (same ∙ f.is_read.2)) f.is_read.1)
+
+-- the bytes of a text were refused for their reason
+pub body_refuses : (unlent owned : Type 0) (n asks : ℕ) (sparing : Bool) (old new : ReaderState) (e : ReadError) → (unlent → new.lends < asks) → (owned → sparing ≡ false)
+  → IsTextBodyRefused unlent owned n old new e → Refuses (IsTextBody n) asks sparing old new e
+body_refuses unlent owned n asks sparing old new (reading.Io e) lent own d = record {
+  kept = d.0.kept;
+  left = λ t. record { front = []; joins = sym (d.0.rest t) };
+  due = body_due unlent n asks old new e lent d.1;
+}
+body_refuses unlent owned n asks sparing old new reading.OutOfMemory lent own d = record {
+  kept = d.1.kept;
+  left = λ t. record { front = []; joins = sym (d.1.rest t) };
+  due = subst (λ s. (new.steady && s) ≡ false) (sym (own d.0)) (none_spared new.steady);
+}
+body_refuses unlent owned n asks sparing old new (reading.InvalidUtf8Encoding e) lent own d = record {
+  kept = d.1.loses.kept;
+  left = λ t. record { front = d.0; joins = takes_joins d.1 t };
+  due = body_not n old new d.0 d.1 d.2;
+}
+body_refuses unlent owned n asks sparing old new _ lent own d = absurd d
+
+-- the bytes of a text were taken
+pub body_gives : (n : ℕ) (old new : ReaderState) (bytes v : List ℕ) → Takes n old new bytes → v ≡ bytes → IsUtf8 v → Gives (IsTextBody n) old new v
+body_gives n old new bytes v t e u = record { kept = t.loses.kept; found = λ told. record { text = bytes; is_read = (ap length e ∙ t.size, u, sym e); joins = takes_joins t told } }
+
+module _ (prealloc asks : ℕ) (sparing : Bool) where
+  pub text_gives : (old mid new : ReaderState) (n : ℕ) (v : List ℕ) → Gives (IsLength (bincode 4194304) 1) old mid n → Gives (IsTextBody n) mid new v → Gives (text_read prealloc asks sparing).reads old new v
+  text_gives old mid new n v r t = gives_map (Then (IsLength (bincode 4194304) 1) IsTextBody) (text_read prealloc asks sparing).reads old new v v (λ b p. then_text prealloc asks sparing b v p) (then_gives (IsLength (bincode 4194304) 1) IsTextBody old mid new n v r t)
+
+  pub text_first : (old new : ReaderState) (e : ReadError) → Refuses (IsLength (bincode 4194304) 1) 0 true old new e → Refuses (text_read prealloc asks sparing).reads asks sparing old new e
+  text_first old new e r = refuses_map (Then (IsLength (bincode 4194304) 1) IsTextBody) (text_read prealloc asks sparing).reads asks sparing old new e (λ b v p. (v, text_then prealloc asks sparing b v p)) (then_first (IsLength (bincode 4194304) 1) IsTextBody 0 asks true sparing old new e (omega arith) (λ x. absurd (cc x)) r)
+
+  pub text_second : (old mid new : ReaderState) (n : ℕ) (e : ReadError) → Gives (IsLength (bincode 4194304) 1) old mid n → Refuses (IsTextBody n) asks sparing mid new e → Refuses (text_read prealloc asks sparing).reads asks sparing old new e
+  text_second old mid new n e r t = refuses_map (Then (IsLength (bincode 4194304) 1) IsTextBody) (text_read prealloc asks sparing).reads asks sparing old new e (λ b v p. (v, text_then prealloc asks sparing b v p)) (then_second (IsLength (bincode 4194304) 1) IsTextBody (length_one (bincode 4194304) (bincode_laws 4194304) 1) asks asks sparing sparing old mid new n e (omega arith) (λ x. x) r t)
+
+-- bytes alone, as something to write
+abbrev bytes_write : WriteGrammar (List ℕ)
+bytes_write = record {
+  writes = λ v b. b ≡ v;
+  can = λ v. Unit {0};
+  size = λ v. length v;
+  fits = λ v. Unit {0};
+  meta = Dynamic;
+  prealloc = 1;
+  own = true;
+}
+
+bytes_laws : WriteLaws (λ v. Unit {0}) (λ v. v) bytes_write
+bytes_laws = record { has_text = λ v c. (v, refl); text_size = λ v b t. ap length t; can_fit = λ v f. f; statics = tt }
+
+text_can : (v : List ℕ) → length v < 2 ^ 64 → HasText (bincode 4194304) (length v)
+text_can v small = (le 8 (length v), bincode_text 4194304 (length v) small)
+
+length_size : (n : ℕ) → n < 2 ^ 64 → 8 ≡ text_len ((bincode 4194304).text n)
+length_size n small = sym (ap text_len (bincode_text 4194304 n small) ∙ length-le 8 n)
+
+abbrev in_two : WriteGrammar (ℕ × List ℕ)
+in_two = pair_write (length_write (bincode 4194304)) bytes_write
+
+two_texts : (prealloc : ℕ) (v b : List ℕ) → in_two.writes (length v, v) b → (text_write prealloc).writes v b
+two_texts prealloc v b w = w.4 ∙ ap (λ x. x ++ w.1) (bincode_text_is 4194304 (length v) w.0 w.2).1 ∙ ap (λ y. le 8 (length v) ++ y) w.3
+
+two_size : (prealloc : ℕ) (v : List ℕ) → length v < 2 ^ 64 → (text_write prealloc).size v ≡ in_two.size (length v, v)
+two_size prealloc v small = ap (λ n. n + length v) (length_size (length v) small)
+
+module _ {S : Type 0} (put : S → List ℕ → S) (room : S → ℕ) (laws : WriterLaws put room) (prealloc : ℕ) where
+  pub text_wrote : (old mid new : S) (v : List ℕ) (n : ℕ) (bytes : List ℕ) → n < 2 ^ 64 → n ≡ length v → bytes ≡ v → Wrote put room (length_write (bincode 4194304)) old mid n → (length bytes ≤ room mid) × (new ≡ put mid bytes)
+    → Wrote put room (text_write prealloc) old new v
+  text_wrote old mid new v n bytes small e f r d =
+    let fits : length v < 2 ^ 64 = subst (λ k. k < 2 ^ 64) e small in
+    sequence.wrote_map put room in_two (text_write prealloc) old new (length v, v) v (λ c. fits) (two_size prealloc v fits) (two_texts prealloc v)
+      (sequence.pair_wrote put room (length_write (bincode 4194304)) bytes_write (λ n. Unit {0}) (λ v. Unit {0}) (λ n. n) (λ v. v) (length_write_laws (bincode 4194304)) bytes_laws laws old mid new (length v) v
+        (subst (λ k. Wrote put room (length_write (bincode 4194304)) old mid k) e r)
+        (sequence.text_wrote put room bytes_write v bytes mid new tt f (ap length f) d))
+
+  pub text_unwritten_first : (old new : S) (v : List ℕ) (n : ℕ) (steady : Bool) (failures : ℕ) (e : WriteError) → n < 2 ^ 64 → n ≡ length v → Unwritten put room (length_write (bincode 4194304)) old new n steady failures e
+    → Unwritten put room (text_write prealloc) old new v steady failures e
+  text_unwritten_first old new v n steady failures e small is u =
+    let fits : length v < 2 ^ 64 = subst (λ k. k < 2 ^ 64) is small in
+    sequence.unwritten_map put room in_two (text_write prealloc) old new (length v, v) v steady failures e (λ c. (text_can v fits, tt)) (two_size prealloc v fits) (two_texts prealloc v)
+      (sequence.pair_unwritten_first put room (length_write (bincode 4194304)) bytes_write (λ n. Unit {0}) (λ v. Unit {0}) (λ n. n) (λ v. v) (length_write_laws (bincode 4194304)) bytes_laws old new (length v) v steady failures e
+        (subst (λ k. Unwritten put room (length_write (bincode 4194304)) old new k steady failures e) is u))
+
+  pub text_unwritten_second : (old mid new : S) (v : List ℕ) (n : ℕ) (bytes : List ℕ) (steady : Bool) (failures : ℕ) (e : IoWriteError) → n < 2 ^ 64 → n ≡ length v → bytes ≡ v → Wrote put room (length_write (bincode 4194304)) old mid n
+    → IsWriteRefused mid new (room mid < length bytes) (length bytes) steady failures e → Unwritten put room (text_write prealloc) old new v steady failures (writing.Io e)
+  text_unwritten_second old mid new v n bytes steady failures e small is f r d =
+    let fits : length v < 2 ^ 64 = subst (λ k. k < 2 ^ 64) is small in
+    sequence.unwritten_map put room in_two (text_write prealloc) old new (length v, v) v steady failures (writing.Io e) (λ c. (text_can v fits, tt)) (two_size prealloc v fits) (two_texts prealloc v)
+      (sequence.pair_unwritten_second put room (length_write (bincode 4194304)) bytes_write (λ n. Unit {0}) (λ v. Unit {0}) (λ n. n) (λ v. v) (length_write_laws (bincode 4194304)) bytes_laws laws old mid new (length v) v steady failures (writing.Io e)
+        (subst (λ k. Wrote put room (length_write (bincode 4194304)) old mid k) is r)
+        (sequence.text_unwritten put room bytes_write v bytes mid new steady failures e laws f (ap length f) d))

@@ -1,8 +1,11 @@
 -- The grammars of characters, of texts and of references.
-use Rattle.std.specs.Prelude.{◌≡◌, ◌⊎◌, ℕ, ◌≤◌, cond, true, length, take, IsUtf8, encode_utf8, nat_lt, IsTrue}
+use Rattle.std.specs.Prelude.{◌≡◌, ◌⊎◌, ℕ, ◌+◌, ◌<◌, ◌≤◌, ◌^◌, cond, true, Bool, List, ◌++◌, length, take, IsUtf8, encode_utf8, nat_lt, IsTrue}
 use Rattle.std.specs.Char.{IsScalar, len_utf8}
-use Rattle.wincode_io.specs.Readers.{ReaderState, Stays, IsShort, IsPeeked, IsRefusal}
+use Rattle.wincode_io.specs.Readers.{ReaderState, Stays, Takes, IsShort, IsPeeked, IsRefusal, IsRefused}
+use Rattle.wincode.specs.Numbers.{le}
 use Rattle.wincode.specs.Grammar.{ReadGrammar, WriteGrammar}
+use Rattle.wincode.specs.Lengths.{IsLength, bincode}
+use Rattle.wincode.specs.Outcomes.{Gives, IsLengthRefused}
 use Rattle.wincode.specs.declared.meta.TypeMeta.TheVariants.{Dynamic}
 use Rattle.wincode.specs.declared.error.ReadError.{ReadError}
 use Rattle.wincode.specs.declared.error.ReadError.TheVariants as reading
@@ -45,3 +48,42 @@ IsCharRefusal old new _ = ⊥
 -- a character was refused, and the reader has the bytes that it had
 abbrev pub IsCharRefused : ReaderState → ReaderState → ReadError → Type 0
 IsCharRefused old new e = Stays old new × IsCharRefusal old new e
+
+-- A text is how many bytes it has in UTF-8, as eight bytes, and then those bytes, which are its value.
+abbrev pub text_read : ℕ → ℕ → Bool → ReadGrammar (List ℕ)
+text_read prealloc asks sparing = record {
+  reads = λ b v. (length v ≤ 4194304) × IsUtf8 v × (b ≡ le 8 (length v) ++ v);
+  meta = Dynamic;
+  prealloc = prealloc;
+  asks = asks;
+  sparing = sparing;
+}
+
+abbrev pub text_write : ℕ → WriteGrammar (List ℕ)
+text_write prealloc = record {
+  writes = λ v b. b ≡ le 8 (length v) ++ v;
+  can = λ v. length v < 2 ^ 64;
+  size = λ v. 8 + length v;
+  fits = λ v. length v ≤ 4194304;
+  meta = Dynamic;
+  prealloc = prealloc;
+  own = true;
+}
+
+-- the n bytes of a text, without its length
+abbrev pub IsTextBody : ℕ → List ℕ → List ℕ → Type 0
+IsTextBody n b v = (length v ≡ n) × IsUtf8 v × (b ≡ v)
+
+-- Why the n bytes of a text are refused: too few are left, or the borrow is not lent; there is no memory for those that
+-- are left; or, once they are gone, they are not UTF-8.
+abbrev pub IsTextBodyRefused : Type 0 → Type 0 → ℕ → ReaderState → ReaderState → ReadError → Type 0
+IsTextBodyRefused unlent owned n old new (reading.Io e) = IsRefused (IsShort n old) unlent n old new e
+IsTextBodyRefused unlent owned n old new reading.OutOfMemory = owned × Stays old new × (IsTrue old.told → n ≤ length old.rest)
+IsTextBodyRefused unlent owned n old new (reading.InvalidUtf8Encoding e) = (bytes : List ℕ) × Takes n old new bytes × (IsUtf8 bytes → ⊥)
+IsTextBodyRefused unlent owned n old new _ = ⊥
+
+-- A text was refused: its length; or, once its length is gone, its bytes. `unlent` and `owned` say whether its borrow may
+-- be refused, and whether it takes memory.
+abbrev pub IsTextRefused : Type 0 → Type 0 → ReaderState → ReaderState → ReadError → Type 0
+IsTextRefused unlent owned old new e = IsLengthRefused 4194304 1 old new e
+  ⊎ ((n : ℕ) × (mid : ReaderState) × Gives (IsLength (bincode 4194304) 1) old mid n × IsTextBodyRefused unlent owned n mid new e)

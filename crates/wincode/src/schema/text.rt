@@ -1,13 +1,15 @@
 //! Schemas of characters, of texts and of references.
-ghost use Rattle.std.specs.Prelude.{◌≡◌, ℕ, true, IfOk, IfErr, OnOk, OnErr};
+ghost use Rattle.std.specs.Prelude.{⊤, ◌≡◌, ℕ, ◌<◌, true, false, List, IsUtf8, string_bytes, IfOk, IfErr, OnOk, OnErr};
 ghost use Rattle.std.specs.Char.{IsScalar};
-ghost use Rattle.wincode_io.specs.Readers.{Stays, IsPeeked};
-ghost use Rattle.wincode.specs.Text.{char_read, char_write, announced, IsCharRefused};
-ghost use Rattle.wincode.specs.TextLaws.{char_read_laws, char_write_laws, char_reads_back};
-ghost use Rattle.wincode.specs.Outcomes.{Gives, Puts, Refuses, IsDenied};
+ghost use Rattle.std.proofs.Common.{lit≤};
+ghost use Rattle.wincode_io.specs.Readers.{Stays, Arrays, IsPeeked};
+ghost use Rattle.wincode.specs.Text.{char_read, char_write, announced, IsCharRefused, text_read, text_write, IsTextBody, IsTextBodyRefused, IsTextRefused};
+ghost use Rattle.wincode.specs.TextLaws.{char_read_laws, char_write_laws, char_reads_back, text_read_laws, text_write_laws, text_reads_back};
+ghost use Rattle.wincode.specs.Outcomes.{Gives, Puts, Refuses, IsDenied, Wrote, Unwritten, IsSizeRefused};
 
-use crate::error::{ReadResult, WriteResult, invalid_char_lead};
+use crate::error::{ReadError, ReadResult, WriteResult, invalid_char_lead, invalid_utf8_encoding, write_length_encoding_overflow};
 use crate::io::{Lending, Reader, Writer};
+use crate::len::{BincodeLen, SeqLen};
 use crate::meta::TypeMeta;
 use crate::schema::{RoundTrip, SchemaRead, SchemaWrite};
 use std::alloc::Global;
@@ -126,4 +128,129 @@ impl<L: Lending> SchemaRead<L> for char {
 
 impl<L: Lending> RoundTrip<L> for char {
     ghost reads_back = { char_reads_back };
+}
+
+/// A copy of the next `n` bytes, which stay and are at hand. Too few are refused before memory is
+/// asked for.
+fn copy_bytes<L: Lending, R: Reader<L>>(alloc: Global, reader: &mut R, n: usize) -> ReadResult<Vec<u8>>
+    ensures ok { IfOk result (λ v. Arrays n (R.state reader.old) (R.state reader.new) v.items) }
+    ensures err { IfErr result (IsTextBodyRefused ⊥ ⊤ n (R.state reader.old) (R.state reader.new)) }
+{
+    let bytes = reader.fill_exact(n)?;
+    match Vec::from_slice(alloc, bytes) {
+        Ok(copy) => Ok(copy),
+        Err(_) => Err(ReadError::OutOfMemory),
+    }
+}
+
+/// The text of the next `n` bytes, which are then gone.
+fn take_text<L: Lending, R: Reader<L>>(alloc: Global, reader: &mut R, n: usize) -> ReadResult<String>
+    ensures ok { IfOk result (λ s. Gives (IsTextBody n) (R.state reader.old) (R.state reader.new) (string_bytes s)) }
+    ensures err { IfErr result (Refuses (IsTextBody n) 0 false (R.state reader.old) (R.state reader.new)) }
+    ensures refused { IfErr result (IsTextBodyRefused ⊥ ⊤ n (R.state reader.old) (R.state reader.new)) }
+{
+    let bytes = copy_bytes::<L, R>(alloc, reader, n)?;
+    reader.consume_unchecked(n);
+    match String::from_utf8(bytes) {
+        Ok(text) => Ok(text),
+        Err(error) => Err(invalid_utf8_encoding(error.utf8_error())),
+    }
+}
+
+/// A text behind its length.
+fn get_text<L: Lending, R: Reader<L>>(alloc: Global, reader: &mut R) -> ReadResult<String>
+    ensures ok { IfOk result (λ s. Gives (text_read 24 0 false).reads (R.state reader.old) (R.state reader.new) (string_bytes s)) }
+    ensures err { IfErr result (Refuses (text_read 24 0 false).reads 0 false (R.state reader.old) (R.state reader.new)) }
+    ensures refused { IfErr result (IsTextRefused ⊥ ⊤ (R.state reader.old) (R.state reader.new)) }
+{
+    let n = BincodeLen::<4194304>::read::<L, R>(reader, 1)?;
+    take_text::<L, R>(alloc, reader, n)
+}
+
+/// The size of a text with its length.
+fn size_of_text(text: &str) -> WriteResult<usize>
+    ensures ok { IfOk result (λ n. (text_write 24).can text.now × (n ≡ (text_write 24).size text.now)) }
+    ensures err { IfErr result (IsSizeRefused (text_write 24) text.now) }
+{
+    match text.len().checked_add(8) {
+        Some(size) => Ok(size),
+        None => Err(write_length_encoding_overflow("usize::MAX")),
+    }
+}
+
+/// Writes the length of a text, and then its bytes.
+fn write_text<W: Writer>(writer: &mut W, text: &str) -> WriteResult<()>
+    ensures ok { OnOk result (Wrote W.put W.room (text_write 24) (W.state writer.old) (W.state writer.new) text.now) }
+    ensures err { IfErr result (Unwritten W.put W.room (text_write 24) (W.state writer.old) (W.state writer.new) text.now (W.steady (W.kept writer.old)) (W.failures writer.new)) }
+    ensures kept { W.kept writer.new ≡ W.kept writer.old }
+{
+    BincodeLen::<4194304>::write::<W>(writer, text.len())?;
+    writer.write(text.as_bytes())?;
+    Ok(())
+}
+
+/// A `String` is how many bytes it has, and then its bytes.
+impl SchemaWrite for String {
+    type Src = String;
+
+    ghost Value = { List ℕ };
+
+    ghost seen = { λ s. string_bytes s };
+
+    ghost proper = { λ s. IsUtf8 (string_bytes s) };
+
+    ghost writing = { text_write 24 };
+
+    fn type_meta() -> TypeMeta {
+        TypeMeta::Dynamic
+    }
+
+    fn size_of(src: &String) -> WriteResult<usize> {
+        size_of_text(src.as_str())
+    }
+
+    fn write<W: Writer>(writer: &mut W, src: &String) -> WriteResult<()> {
+        write_text::<W>(writer, src.as_str())
+    }
+
+    ghost write_laws = { text_write_laws 24 (λ s. IsUtf8 (string_bytes s)) (λ s. string_bytes s) };
+}
+
+impl<L: Lending> SchemaRead<L> for String {
+    type Dst = String;
+
+    ghost Value = { List ℕ };
+
+    ghost seen = { λ s. string_bytes s };
+
+    ghost proper = { IsUtf8 };
+
+    ghost reading = { text_read 24 0 false };
+
+    fn type_meta() -> TypeMeta {
+        TypeMeta::Dynamic
+    }
+
+    fn prealloc_size() -> usize {
+        24
+    }
+
+    /// Its length is read and held against the limit, its bytes are brought to hand, memory is asked
+    /// for, the bytes are consumed, and then they are looked at. Too few bytes or no memory leave the
+    /// reader behind the length, bytes that are not UTF-8 behind them.
+    fn read<R: Reader<L>>(alloc: Global, reader: &mut R, dst: &mut Option<String>) -> ReadResult<()>
+        ensures ok { OnOk result (Puts (text_read 24 0 false).reads (λ s. string_bytes s) (R.state reader.old) (R.state reader.new) dst.new) }
+        ensures err { IfErr result (Refuses (text_read 24 0 false).reads 0 false (R.state reader.old) (R.state reader.new)) }
+        ensures same { OnErr result (dst.new ≡ dst.old) }
+        ensures refused { IfErr result (IsTextRefused ⊥ ⊤ (R.state reader.old) (R.state reader.new)) }
+    {
+        *dst = Some(get_text::<L, R>(alloc, reader)?);
+        Ok(())
+    }
+
+    ghost read_laws = { text_read_laws 24 0 false (lit≤ tt) };
+}
+
+impl<L: Lending> RoundTrip<L> for String {
+    ghost reads_back = { text_reads_back 24 0 false (λ s. string_bytes s) };
 }
