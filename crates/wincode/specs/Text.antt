@@ -1,12 +1,13 @@
 -- The grammars of characters, of texts and of references.
-use Rattle.std.specs.Prelude.{◌≡◌, ◌⊎◌, ℕ, ◌+◌, ◌<◌, ◌≤◌, ◌^◌, cond, true, Bool, List, ◌++◌, length, take, IsUtf8, encode_utf8, nat_lt, IsTrue}
+use Rattle.std.specs.Prelude.{◌≡◌, ◌⊎◌, ℕ, ◌+◌, ◌<◌, ◌≤◌, ◌^◌, cond, true, false, Bool, List, ◌++◌, length, take, IsUtf8, encode_utf8, nat_lt, IsTrue}
 use Rattle.std.specs.Char.{IsScalar, len_utf8}
 use Rattle.wincode_io.specs.Readers.{ReaderState, Stays, Takes, IsShort, IsPeeked, IsRefusal, IsRefused}
 use Rattle.wincode.specs.Numbers.{le}
 use Rattle.wincode.specs.Grammar.{ReadGrammar, WriteGrammar}
 use Rattle.wincode.specs.Lengths.{IsLength, bincode}
 use Rattle.wincode.specs.Outcomes.{Gives, IsLengthRefused}
-use Rattle.wincode.specs.declared.meta.TypeMeta.TheVariants.{Dynamic}
+use Rattle.wincode.specs.declared.meta.TypeMeta.{TypeMeta}
+use Rattle.wincode.specs.declared.meta.TypeMeta.TheVariants.{Static, Dynamic}
 use Rattle.wincode.specs.declared.error.ReadError.{ReadError}
 use Rattle.wincode.specs.declared.error.ReadError.TheVariants as reading
 
@@ -87,3 +88,20 @@ IsTextBodyRefused unlent owned n old new _ = ⊥
 abbrev pub IsTextRefused : Type 0 → Type 0 → ReaderState → ReaderState → ReadError → Type 0
 IsTextRefused unlent owned old new e = IsLengthRefused 4194304 1 old new e
   ⊎ ((n : ℕ) × (mid : ReaderState) × Gives (IsLength (bincode 4194304) 1) old mid n × IsTextBodyRefused unlent owned n mid new e)
+
+-- the size of what is written for a reference, which is not a list of bytes
+abbrev pub reference_meta : TypeMeta → TypeMeta
+reference_meta (Static size zero_copy) = Static size false
+reference_meta Dynamic = Dynamic
+
+-- what is written for a reference is what is written for its value
+abbrev pub reference_write : {V : Type 0} → WriteGrammar V → WriteGrammar V
+reference_write g = record {
+  writes = g.writes;
+  can = g.can;
+  size = g.size;
+  fits = g.fits;
+  meta = reference_meta g.meta;
+  prealloc = g.prealloc;
+  own = g.own;
+}

@@ -6,11 +6,13 @@ use Rattle.std.proofs.lemmas.Str.{encode_same, length-encode}
 use Rattle.wincode.specs.Numbers.{le}
 use Rattle.wincode.specs.NumberLaws.{length-le}
 use Rattle.wincode.specs.LeafLaws.{same_front}
-use Rattle.wincode.specs.Grammar.{ReadLaws, WriteLaws, ReadsBack, IsUnambiguous}
+use Rattle.wincode.specs.Grammar.{WriteGrammar, ReadLaws, WriteLaws, ReadsBack, IsUnambiguous, IsWriteStatic}
 use Rattle.wincode.specs.Lengths.{IsLength, bincode}
 use Rattle.wincode.specs.LengthLaws.{bincode_text, bincode_text_is, bincode_laws, length_one}
 use Rattle.wincode.specs.Sequences.{Then, then_unambiguous}
-use Rattle.wincode.specs.Text.{char_read, char_write, text_read, text_write, IsTextBody}
+use Rattle.wincode.specs.Text.{char_read, char_write, text_read, text_write, IsTextBody, reference_meta, reference_write}
+use Rattle.wincode.specs.declared.meta.TypeMeta.{TypeMeta}
+use Rattle.wincode.specs.declared.meta.TypeMeta.TheVariants.{Static, Dynamic}
 
 char_one : IsUnambiguous char_read.reads
 char_one a b x y c d p q e =
@@ -85,4 +87,19 @@ text_reads_back prealloc asks sparing bytes = record {
   within = λ b x r. r.0;
   same_prealloc = refl;
   same_meta = refl;
+}
+
+-- ---- references
+
+reference_static : {X Y V : Type 0} (proper : X → Type 0) (seen : X → V) (value : Y → X) (can : V → Type 0) (size : V → ℕ) (m : TypeMeta) → IsWriteStatic proper seen can size m → IsWriteStatic (λ y. proper (value y)) (λ y. seen (value y)) can size (reference_meta m)
+reference_static proper seen value can size Dynamic h = tt
+reference_static proper seen value can size (Static s z) h = λ y p. h (value y) p
+
+-- `value` is what a reference refers to
+pub reference_write_laws : {X Y V : Type 0} (proper : X → Type 0) (seen : X → V) (value : Y → X) (g : WriteGrammar V) → WriteLaws proper seen g → WriteLaws (λ y. proper (value y)) (λ y. seen (value y)) (reference_write g)
+reference_write_laws proper seen value g laws = record {
+  has_text = laws.has_text;
+  text_size = laws.text_size;
+  can_fit = laws.can_fit;
+  statics = reference_static proper seen value g.can g.size g.meta laws.statics;
 }

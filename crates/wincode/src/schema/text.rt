@@ -3,8 +3,8 @@ ghost use Rattle.std.specs.Prelude.{⊤, ◌≡◌, ℕ, ◌<◌, true, false, L
 ghost use Rattle.std.specs.Char.{IsScalar};
 ghost use Rattle.std.proofs.Common.{lit≤};
 ghost use Rattle.wincode_io.specs.Readers.{Stays, Arrays, IsPeeked};
-ghost use Rattle.wincode.specs.Text.{char_read, char_write, announced, IsCharRefused, text_read, text_write, IsTextBody, IsTextBodyRefused, IsTextRefused};
-ghost use Rattle.wincode.specs.TextLaws.{char_read_laws, char_write_laws, char_reads_back, text_read_laws, text_write_laws, text_reads_back};
+ghost use Rattle.wincode.specs.Text.{char_read, char_write, announced, IsCharRefused, text_read, text_write, IsTextBody, IsTextBodyRefused, IsTextRefused, reference_write};
+ghost use Rattle.wincode.specs.TextLaws.{char_read_laws, char_write_laws, char_reads_back, text_read_laws, text_write_laws, text_reads_back, reference_write_laws};
 ghost use Rattle.wincode.specs.Outcomes.{Gives, Puts, Refuses, IsDenied, Wrote, Unwritten, IsSizeRefused};
 
 use crate::error::{ReadError, ReadResult, WriteResult, invalid_char_lead, invalid_utf8_encoding, write_length_encoding_overflow};
@@ -253,4 +253,63 @@ impl<L: Lending> SchemaRead<L> for String {
 
 impl<L: Lending> RoundTrip<L> for String {
     ghost reads_back = { text_reads_back 24 0 false (λ s. string_bytes s) };
+}
+
+/// A `&str` is written as a `String`.
+impl<'a> SchemaWrite for &'a str {
+    type Src = &'a str;
+
+    ghost Value = { List ℕ };
+
+    ghost seen = { λ s. s.now };
+
+    ghost proper = { λ s. IsUtf8 s.now };
+
+    ghost writing = { text_write 16 };
+
+    fn type_meta() -> TypeMeta
+        ensures { result ≡ (text_write 16).meta }
+    {
+        TypeMeta::Dynamic
+    }
+
+    fn size_of(src: &&'a str) -> WriteResult<usize> {
+        size_of_text(*src)
+    }
+
+    fn write<W: Writer>(writer: &mut W, src: &&'a str) -> WriteResult<()> {
+        write_text::<W>(writer, *src)
+    }
+
+    ghost write_laws = { text_write_laws 16 (λ s. IsUtf8 s.now) (λ s. s.now) };
+}
+
+/// A reference is written as its value. It is no list of bytes, whatever its value is.
+impl<'a, U: 'a, T: SchemaWrite<Src = U>> SchemaWrite for &'a T {
+    type Src = &'a U;
+
+    ghost Value = { T.Value };
+
+    ghost seen = { λ r. T.seen r.now };
+
+    ghost proper = { λ r. T.proper r.now };
+
+    ghost writing = { reference_write T.writing };
+
+    fn type_meta() -> TypeMeta {
+        match T::type_meta() {
+            TypeMeta::Static { size, .. } => TypeMeta::Static { size, zero_copy: false },
+            TypeMeta::Dynamic => TypeMeta::Dynamic,
+        }
+    }
+
+    fn size_of(src: &&'a U) -> WriteResult<usize> {
+        T::size_of(*src)
+    }
+
+    fn write<W: Writer>(writer: &mut W, src: &&'a U) -> WriteResult<()> {
+        T::write::<W>(writer, *src)
+    }
+
+    ghost write_laws = { reference_write_laws T.proper T.seen (λ r. r.now) T.writing T.write_laws };
 }
