@@ -6,7 +6,7 @@ use Rattle.std.proofs.Math.Seq.{take-append_seam}
 use Rattle.std.proofs.Math.Utf8.{scalar, scalars, scalar_cases, encode, next}
 use Rattle.std.proofs.lemmas.Bool.{lt-ltb, le-ltb, ltb-true, ltb-false}
 use Rattle.std.proofs.lemmas.Str.{encode_ascii, IsUtf8-encode, cons_from_encodes}
-use Rattle.wincode_io.specs.Readers.{ReaderState, Stays, Loses, Takes, IsShort, IsShown, IsPeeked, IsRefusal}
+use Rattle.wincode_io.specs.Readers.{ReaderState, Stays, Loses, Takes, IsShort, IsShown, IsPeeked, IsRefusal, IsRefused}
 use Rattle.wincode_io.specs.Writers.{WriterLaws, IsWriteRefused}
 use Rattle.wincode.specs.Grammar.{WriteGrammar, WriteLaws}
 use Rattle.wincode.specs.Lengths.{IsLength, HasText, bincode, length_write, text_len}
@@ -256,6 +256,10 @@ body_refuses unlent owned n asks sparing old new (reading.InvalidUtf8Encoding e)
   due = body_not n old new d.0 d.1 d.2;
 }
 body_refuses unlent owned n asks sparing old new _ lent own d = absurd d
+
+-- the bytes of a lent text were refused for their reason
+pub borrow_refuses : (n : ℕ) (old new : ReaderState) (e : IoReadError) → IsRefused (IsShort n old) (old.lends < 1) n old new e → Refuses (IsTextBody n) 1 true old new (reading.Io e)
+borrow_refuses n old new e d = body_refuses (old.lends < 1) ⊥ n 1 true old new (reading.Io e) (λ x. subst (λ k. k < 1) (sym d.0.kept.lends) x) (λ x. absurd x) d
 
 -- the bytes of a text were taken
 pub body_gives : (n : ℕ) (old new : ReaderState) (bytes v : List ℕ) → Takes n old new bytes → v ≡ bytes → IsUtf8 v → Gives (IsTextBody n) old new v

@@ -1,7 +1,7 @@
 -- The grammars of characters, of texts and of references.
 use Rattle.std.specs.Prelude.{◌≡◌, ◌⊎◌, ℕ, ◌+◌, ◌<◌, ◌≤◌, ◌^◌, cond, true, false, Bool, List, ◌++◌, length, take, IsUtf8, encode_utf8, nat_lt, IsTrue}
 use Rattle.std.specs.Char.{IsScalar, len_utf8}
-use Rattle.wincode_io.specs.Readers.{ReaderState, Stays, Takes, IsShort, IsPeeked, IsRefusal, IsRefused}
+use Rattle.wincode_io.specs.Readers.{ReaderState, Stays, Takes, IsShort, IsPeeked, IsRefusal, IsRefused, shared}
 use Rattle.wincode.specs.Numbers.{le}
 use Rattle.wincode.specs.Grammar.{ReadGrammar, WriteGrammar}
 use Rattle.wincode.specs.Lengths.{IsLength, bincode}
@@ -83,11 +83,11 @@ IsTextBodyRefused unlent owned n old new reading.OutOfMemory = owned × Stays ol
 IsTextBodyRefused unlent owned n old new (reading.InvalidUtf8Encoding e) = (bytes : List ℕ) × Takes n old new bytes × (IsUtf8 bytes → ⊥)
 IsTextBodyRefused unlent owned n old new _ = ⊥
 
--- A text was refused: its length; or, once its length is gone, its bytes. `unlent` and `owned` say whether its borrow may
--- be refused, and whether it takes memory.
-abbrev pub IsTextRefused : Type 0 → Type 0 → ReaderState → ReaderState → ReadError → Type 0
+-- A text was refused: its length; or, once its length is gone, its bytes. `unlent` says of a reader whether the borrow may
+-- be refused, and `owned` whether the text takes memory.
+abbrev pub IsTextRefused : (ReaderState → Type 0) → Type 0 → ReaderState → ReaderState → ReadError → Type 0
 IsTextRefused unlent owned old new e = IsLengthRefused 4194304 1 old new e
-  ⊎ ((n : ℕ) × (mid : ReaderState) × Gives (IsLength (bincode 4194304) 1) old mid n × IsTextBodyRefused unlent owned n mid new e)
+  ⊎ ((n : ℕ) × (mid : ReaderState) × Gives (IsLength (bincode 4194304) 1) old mid n × IsTextBodyRefused (unlent mid) owned n mid new e)
 
 -- the size of what is written for a reference, which is not a list of bytes
 abbrev pub reference_meta : TypeMeta → TypeMeta
@@ -105,3 +105,7 @@ reference_write g = record {
   prealloc = g.prealloc;
   own = g.own;
 }
+
+-- the reader lends no bytes
+abbrev pub IsUnlending : ReaderState → Type 0
+IsUnlending s = s.lends < shared

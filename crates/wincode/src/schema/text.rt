@@ -3,12 +3,12 @@ ghost use Rattle.std.specs.Prelude.{⊤, ◌≡◌, ℕ, ◌<◌, true, false, L
 ghost use Rattle.std.specs.Char.{IsScalar};
 ghost use Rattle.std.proofs.Common.{lit≤};
 ghost use Rattle.wincode_io.specs.Readers.{Stays, Arrays, IsPeeked};
-ghost use Rattle.wincode.specs.Text.{char_read, char_write, announced, IsCharRefused, text_read, text_write, IsTextBody, IsTextBodyRefused, IsTextRefused, reference_write};
+ghost use Rattle.wincode.specs.Text.{char_read, char_write, announced, IsCharRefused, text_read, text_write, IsTextBody, IsTextBodyRefused, IsTextRefused, IsUnlending, reference_write};
 ghost use Rattle.wincode.specs.TextLaws.{char_read_laws, char_write_laws, char_reads_back, text_read_laws, text_write_laws, text_reads_back, reference_write_laws};
 ghost use Rattle.wincode.specs.Outcomes.{Gives, Puts, Refuses, IsDenied, Wrote, Unwritten, IsSizeRefused};
 
 use crate::error::{ReadError, ReadResult, WriteResult, invalid_char_lead, invalid_utf8_encoding, write_length_encoding_overflow};
-use crate::io::{Lending, Reader, Writer};
+use crate::io::{Lending, Lifetime, Reader, Writer};
 use crate::len::{BincodeLen, SeqLen};
 use crate::meta::TypeMeta;
 use crate::schema::{RoundTrip, SchemaRead, SchemaWrite};
@@ -161,7 +161,7 @@ fn take_text<L: Lending, R: Reader<L>>(alloc: Global, reader: &mut R, n: usize) 
 fn get_text<L: Lending, R: Reader<L>>(alloc: Global, reader: &mut R) -> ReadResult<String>
     ensures ok { IfOk result (λ s. Gives (text_read 24 0 false).reads (R.state reader.old) (R.state reader.new) (string_bytes s)) }
     ensures err { IfErr result (Refuses (text_read 24 0 false).reads 0 false (R.state reader.old) (R.state reader.new)) }
-    ensures refused { IfErr result (IsTextRefused ⊥ ⊤ (R.state reader.old) (R.state reader.new)) }
+    ensures refused { IfErr result (IsTextRefused (λ _. ⊥) ⊤ (R.state reader.old) (R.state reader.new)) }
 {
     let n = BincodeLen::<4194304>::read::<L, R>(reader, 1)?;
     take_text::<L, R>(alloc, reader, n)
@@ -242,7 +242,7 @@ impl<L: Lending> SchemaRead<L> for String {
         ensures ok { OnOk result (Puts (text_read 24 0 false).reads (λ s. string_bytes s) (R.state reader.old) (R.state reader.new) dst.new) }
         ensures err { IfErr result (Refuses (text_read 24 0 false).reads 0 false (R.state reader.old) (R.state reader.new)) }
         ensures same { OnErr result (dst.new ≡ dst.old) }
-        ensures refused { IfErr result (IsTextRefused ⊥ ⊤ (R.state reader.old) (R.state reader.new)) }
+        ensures refused { IfErr result (IsTextRefused (λ _. ⊥) ⊤ (R.state reader.old) (R.state reader.new)) }
     {
         *dst = Some(get_text::<L, R>(alloc, reader)?);
         Ok(())
@@ -282,6 +282,73 @@ impl<'a> SchemaWrite for &'a str {
     }
 
     ghost write_laws = { text_write_laws 16 (λ s. IsUtf8 s.now) (λ s. s.now) };
+}
+
+/// The text of the next `n` bytes, lent; they are then gone.
+fn borrow_text<L: Lending, R: Reader<L>>(reader: &mut R, n: usize) -> ReadResult<L::Text>
+    ensures ok { IfOk result (λ s. Gives (IsTextBody n) (R.state reader.old) (R.state reader.new) (L.held_text s)) }
+    ensures err { IfErr result (Refuses (IsTextBody n) 1 true (R.state reader.old) (R.state reader.new)) }
+    ensures refused { IfErr result (IsTextBodyRefused (IsUnlending (R.state reader.old)) ⊥ n (R.state reader.old) (R.state reader.new)) }
+{
+    let bytes = reader.borrow_exact(n)?;
+    match L::text(bytes) {
+        Ok(text) => Ok(text),
+        Err(error) => Err(invalid_utf8_encoding(error)),
+    }
+}
+
+/// A lent text behind its length.
+fn lend_text<L: Lending, R: Reader<L>>(reader: &mut R) -> ReadResult<L::Text>
+    ensures ok { IfOk result (λ s. Gives (text_read 16 1 true).reads (R.state reader.old) (R.state reader.new) (L.held_text s)) }
+    ensures err { IfErr result (Refuses (text_read 16 1 true).reads 1 true (R.state reader.old) (R.state reader.new)) }
+    ensures refused { IfErr result (IsTextRefused IsUnlending ⊥ (R.state reader.old) (R.state reader.new)) }
+{
+    let n = BincodeLen::<4194304>::read::<L, R>(reader, 1)?;
+    borrow_text::<L, R>(reader, n)
+}
+
+/// A `&str` is lent by the reader, for as long as the reader's bytes live.
+impl<'s, L: Lending> SchemaRead<L> for &'s str {
+    type Dst = L::Text;
+
+    ghost Value = { List ℕ };
+
+    ghost seen = { λ s. L.held_text s };
+
+    ghost proper = { IsUtf8 };
+
+    ghost reading = { text_read 16 1 true };
+
+    fn type_meta() -> TypeMeta
+        ensures { result ≡ (text_read 16 1 true).meta }
+    {
+        TypeMeta::Dynamic
+    }
+
+    fn prealloc_size() -> usize
+        ensures { result ≡ 16 }
+    {
+        16
+    }
+
+    /// Its length is read and held against the limit, its bytes are borrowed, and then they are
+    /// looked at. A refused borrow leaves the reader behind the length, bytes that are not UTF-8
+    /// behind them.
+    fn read<R: Reader<L>>(_alloc: Global, reader: &mut R, dst: &mut Option<L::Text>) -> ReadResult<()>
+        ensures ok { OnOk result (Puts (text_read 16 1 true).reads (λ s. L.held_text s) (R.state reader.old) (R.state reader.new) dst.new) }
+        ensures err { IfErr result (Refuses (text_read 16 1 true).reads 1 true (R.state reader.old) (R.state reader.new)) }
+        ensures same { OnErr result (dst.new ≡ dst.old) }
+        ensures refused { IfErr result (IsTextRefused IsUnlending ⊥ (R.state reader.old) (R.state reader.new)) }
+    {
+        *dst = Some(lend_text::<L, R>(reader)?);
+        Ok(())
+    }
+
+    ghost read_laws = { text_read_laws 16 1 true (lit≤ tt) };
+}
+
+impl<'a> RoundTrip<Lifetime<'a>> for &'a str {
+    ghost reads_back = { text_reads_back 16 1 true (λ s. s.now) };
 }
 
 /// A reference is written as its value. It is no list of bytes, whatever its value is.
