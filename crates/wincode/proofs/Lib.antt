@@ -4,3 +4,4 @@ pub mod Numerals
 pub mod Lengths
 pub mod Lists
 pub mod Recoding
+pub mod Text

@@ -13,3 +13,5 @@ pub mod Pairs
 pub mod PairLaws
 pub mod WriteSequences
 pub mod Show
+pub mod Text
+pub mod TextLaws

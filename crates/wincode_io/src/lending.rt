@@ -1,7 +1,8 @@
 //! What a reader may lend: a lifetime, as a type.
-ghost use Rattle.std.specs.Prelude.{◌≡◌, ℕ, ◌≤◌, List, length, take, drop};
+ghost use Rattle.std.specs.Prelude.{◌≡◌, ℕ, ◌≤◌, List, length, take, drop, IsUtf8, MatchResult};
 
 use std::mem;
+use std::str::{self, Utf8Error};
 
 /// The bytes that a reader may lend, shared or for writing.
 ///
@@ -12,10 +13,15 @@ pub trait Lending {
 
     type BytesMut: Drop;
 
+    type Text: Drop;
+
     // The bytes that lent bytes hold.
     ghost held: { Self.Bytes → List ℕ };
 
     ghost held_mut: { Self.BytesMut → List ℕ };
+
+    // The bytes of a lent text.
+    ghost held_text: { Self.Text → List ℕ };
 
     /// The lent bytes, as a slice.
     fn bytes_of(bytes: &Self::Bytes) -> &[u8]
@@ -40,6 +46,10 @@ pub trait Lending {
     /// Bytes that were lent for writing, shared from now on.
     fn share(bytes: Self::BytesMut) -> Self::Bytes
         ensures { held result ≡ held_mut bytes };
+
+    /// The lent bytes as a text, where they are UTF-8.
+    fn text(bytes: Self::Bytes) -> Result<Self::Text, Utf8Error>
+        ensures { MatchResult result (λ t. (held_text t ≡ held bytes) × IsUtf8 (held bytes)) (λ e. IsUtf8 (held bytes) → ⊥) };
 }
 
 /// The lifetime `'a`, as a type: what is lent are slices that live for it.
@@ -50,9 +60,13 @@ impl<'a> Lending for Lifetime<'a> {
 
     type BytesMut = &'a mut [u8];
 
+    type Text = &'a str;
+
     ghost held = { λ s. s.now };
 
     ghost held_mut = { λ s. s.now };
+
+    ghost held_text = { λ s. s.now };
 
     fn bytes_of<'s>(bytes: &'s &'a [u8]) -> &'s [u8] {
         *bytes
@@ -78,6 +92,10 @@ impl<'a> Lending for Lifetime<'a> {
 
     fn share(bytes: &'a mut [u8]) -> &'a [u8] {
         bytes
+    }
+
+    fn text(bytes: &'a [u8]) -> Result<&'a str, Utf8Error> {
+        str::from_utf8(bytes)
     }
 }
 
