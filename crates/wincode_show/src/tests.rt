@@ -416,3 +416,103 @@ fn small_calls(rt: HostRuntime) -> Result<(), Fail> {
     assert!(rt; dst == Some(5));
     Ok(())
 }
+
+/// What a `char` reads as, or its refusal, and how many bytes are left.
+fn read_char(alloc: Global, bytes: &[u8]) -> Result<String, Fail> {
+    let mut reader = bytes;
+    let answer = <char as SchemaRead<Lifetime>>::get(alloc, &mut reader);
+    let left = reader.len();
+    match answer {
+        Ok(found) => Ok(format!(in alloc; "{found:?} {left}")?),
+        Err(ReadError::InvalidUtf8Encoding(_)) => Ok(format!(in alloc; "utf8 {left}")?),
+        Err(error) => Ok(format!(in alloc; "{error:?} {left}")?),
+    }
+}
+
+fn chars_read(alloc: Global, rows: &[(&[u8], &'static str)]) -> Result<(), Fail> {
+    for (bytes, answer) in rows {
+        if read_char(alloc, *bytes)?.as_str() != *answer {
+            return Err(Fail::from(*answer));
+        }
+    }
+    Ok(())
+}
+
+#[test]
+fn characters(rt: HostRuntime) -> Result<(), Fail> {
+    let rows: [(&[u8], &'static str); 12] = [
+        (&[], "Io(ReadSizeLimit(1)) 0"),
+        (&[128], "InvalidCharLead(128) 1"),
+        (&[192, 128], "InvalidCharLead(192) 2"),
+        (&[245], "InvalidCharLead(245) 1"),
+        (&[194], "Io(ReadSizeLimit(2)) 1"),
+        (&[226, 130], "Io(ReadSizeLimit(3)) 2"),
+        (&[194, 65], "utf8 2"),
+        (&[237, 160, 128], "utf8 3"),
+        (&[244, 144, 128, 128], "utf8 4"),
+        (&[65, 66], "'A' 1"),
+        (&[226, 130, 172], "'€' 0"),
+        (&[240, 144, 128], "Io(ReadSizeLimit(4)) 3"),
+    ];
+    chars_read(rt.alloc(), rows.as_slice())?;
+    let mut last: &[u8] = &[244, 143, 191, 191];
+    assert_eq!(rt; <char as SchemaRead<Lifetime>>::get(rt.alloc(), &mut last)? as u32, 0x10_FFFF);
+    Ok(())
+}
+
+/// What a `String` and a `&str` read as, or their one refusal, and how many bytes are left.
+fn read_text(alloc: Global, bytes: &[u8]) -> Result<String, Fail> {
+    let mut reader = bytes;
+    let answer = <String as SchemaRead<Lifetime>>::get(alloc, &mut reader);
+    let left = reader.len();
+    match answer {
+        Ok(found) => Ok(format!(in alloc; "{found} {left}")?),
+        Err(ReadError::InvalidUtf8Encoding(_)) => Ok(format!(in alloc; "utf8 {left}")?),
+        Err(error) => Ok(format!(in alloc; "{error:?} {left}")?),
+    }
+}
+
+fn read_lent(alloc: Global, bytes: &[u8]) -> Result<String, Fail> {
+    let mut reader = bytes;
+    let answer = <&str as SchemaRead<Lifetime>>::get(alloc, &mut reader);
+    let left = reader.len();
+    match answer {
+        Ok(found) => Ok(format!(in alloc; "{found} {left}")?),
+        Err(ReadError::InvalidUtf8Encoding(_)) => Ok(format!(in alloc; "utf8 {left}")?),
+        Err(error) => Ok(format!(in alloc; "{error:?} {left}")?),
+    }
+}
+
+fn texts_read(alloc: Global, rows: &[(&[u8], &'static str)]) -> Result<(), Fail> {
+    for (bytes, answer) in rows {
+        if read_text(alloc, *bytes)?.as_str() != *answer || read_lent(alloc, *bytes)?.as_str() != *answer {
+            return Err(Fail::from(*answer));
+        }
+    }
+    Ok(())
+}
+
+#[test]
+fn texts(rt: HostRuntime) -> Result<(), Fail> {
+    let rows: [(&[u8], &'static str); 5] = [
+        (&[1, 0, 64, 0, 0, 0, 0, 0], "PreallocationSizeLimit { needed: 4194305, limit: 4194304 } 0"),
+        (&[0, 0, 64, 0, 0, 0, 0, 0], "Io(ReadSizeLimit(4194304)) 0"),
+        (&[2, 0, 0, 0, 0, 0, 0, 0, 195, 40, 9], "utf8 1"),
+        (&[2, 0, 0, 0, 0, 0, 0, 0, 195, 169], "é 0"),
+        (&[2, 0, 0], "Io(ReadSizeLimit(8)) 3"),
+    ];
+    texts_read(rt.alloc(), rows.as_slice())
+}
+
+#[test]
+fn texts_written(rt: HostRuntime) -> Result<(), Fail> {
+    let alloc = rt.alloc();
+    let mut out = Vec::new(alloc);
+    let text = String::from_str(alloc, "abc")?;
+    <String as SchemaWrite>::write(&mut out, &text)?;
+    assert_eq!(rt; out.as_slice(), [3u8, 0, 0, 0, 0, 0, 0, 0, 97, 98, 99].as_slice());
+    let seven = vec![in alloc; &7u8]?;
+    let list = serialize(alloc, &seven)?;
+    assert_eq!(rt; list.as_slice(), [1u8, 0, 0, 0, 0, 0, 0, 0, 7].as_slice());
+    Ok(())
+}
