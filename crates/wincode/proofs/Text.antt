@@ -222,8 +222,8 @@ none_spared true = refl
 
 body_short : (n : ℕ) (old : ReaderState) → IsShort n old → Accepts (IsTextBody n) old → ⊥
 body_short n old short a =
-  let f = a.front.found in
-  absurd (omega (arith, short a.told, ap length f.is_read.2, f.is_read.0, ap length f.joins, length-append f.text a.front.rest))
+    let f = a.front.found in
+    absurd (omega (arith, short a.told, ap length f.is_read.2, f.is_read.0, ap length f.joins, length-append f.text a.front.rest))
 
 body_due : (unlent : Type 0) (n asks : ℕ) (old new : ReaderState) (e : IoReadError) → (unlent → new.lends < asks) → IsRefusal (IsShort n old) unlent n new e → ReaderDue (Accepts (IsTextBody n) old) asks new e
 body_due unlent n asks old new (reader.ReadSizeLimit m) lent d = λ a. body_short n old d.0 a
@@ -233,13 +233,13 @@ body_due unlent n asks old new (reader.Io e) lent d = d
 
 body_not : (n : ℕ) (old new : ReaderState) (bytes : List ℕ) → Takes n old new bytes → (IsUtf8 bytes → ⊥) → Accepts (IsTextBody n) old → ⊥
 body_not n old new bytes t not a =
-  let f = a.front.found in
-  let same = same_front bytes f.text new.rest a.front.rest (t.size ∙ sym (ap length f.is_read.2 ∙ f.is_read.0)) (sym (takes_joins t a.told) ∙ f.joins) in
-  not (subst IsUtf8 (sym (same ∙ f.is_read.2)) f.is_read.1)
+    let f = a.front.found in
+    let same = same_front bytes f.text new.rest a.front.rest (t.size ∙ sym (ap length f.is_read.2 ∙ f.is_read.0)) (sym (takes_joins t a.told) ∙ f.joins) in
+    not (subst IsUtf8 (sym (same ∙ f.is_read.2)) f.is_read.1)
 
 -- the bytes of a text were refused for their reason
 pub body_refuses : (unlent owned : Type 0) (n asks : ℕ) (sparing : Bool) (old new : ReaderState) (e : ReadError) → (unlent → new.lends < asks) → (owned → sparing ≡ false)
-  → IsTextBodyRefused unlent owned n old new e → Refuses (IsTextBody n) asks sparing old new e
+    → IsTextBodyRefused unlent owned n old new e → Refuses (IsTextBody n) asks sparing old new e
 body_refuses unlent owned n asks sparing old new (reading.Io e) lent own d = record {
   kept = d.0.kept;
   left = λ t. record { front = []; joins = sym (d.0.rest t) };
@@ -307,27 +307,27 @@ two_size prealloc v small = ap (λ n. n + length v) (length_size (length v) smal
 
 module _ {S : Type 0} (put : S → List ℕ → S) (room : S → ℕ) (laws : WriterLaws put room) (prealloc : ℕ) where
   pub text_wrote : (old mid new : S) (v : List ℕ) (n : ℕ) (bytes : List ℕ) → n < 2 ^ 64 → n ≡ length v → bytes ≡ v → Wrote put room (length_write (bincode 4194304)) old mid n → (length bytes ≤ room mid) × (new ≡ put mid bytes)
-    → Wrote put room (text_write prealloc) old new v
+      → Wrote put room (text_write prealloc) old new v
   text_wrote old mid new v n bytes small e f r d =
-    let fits : length v < 2 ^ 64 = subst (λ k. k < 2 ^ 64) e small in
-    sequence.wrote_map put room in_two (text_write prealloc) old new (length v, v) v (λ c. fits) (two_size prealloc v fits) (two_texts prealloc v)
+      let fits : length v < 2 ^ 64 = subst (λ k. k < 2 ^ 64) e small in
+      sequence.wrote_map put room in_two (text_write prealloc) old new (length v, v) v (λ c. fits) (two_size prealloc v fits) (two_texts prealloc v)
       (sequence.pair_wrote put room (length_write (bincode 4194304)) bytes_write (λ n. Unit {0}) (λ v. Unit {0}) (λ n. n) (λ v. v) (length_write_laws (bincode 4194304)) bytes_laws laws old mid new (length v) v
-        (subst (λ k. Wrote put room (length_write (bincode 4194304)) old mid k) e r)
-        (sequence.text_wrote put room bytes_write v bytes mid new tt f (ap length f) d))
+      (subst (λ k. Wrote put room (length_write (bincode 4194304)) old mid k) e r)
+      (sequence.text_wrote put room bytes_write v bytes mid new tt f (ap length f) d))
 
   pub text_unwritten_first : (old new : S) (v : List ℕ) (n : ℕ) (steady : Bool) (failures : ℕ) (e : WriteError) → n < 2 ^ 64 → n ≡ length v → Unwritten put room (length_write (bincode 4194304)) old new n steady failures e
-    → Unwritten put room (text_write prealloc) old new v steady failures e
+      → Unwritten put room (text_write prealloc) old new v steady failures e
   text_unwritten_first old new v n steady failures e small is u =
-    let fits : length v < 2 ^ 64 = subst (λ k. k < 2 ^ 64) is small in
-    sequence.unwritten_map put room in_two (text_write prealloc) old new (length v, v) v steady failures e (λ c. (text_can v fits, tt)) (two_size prealloc v fits) (two_texts prealloc v)
+      let fits : length v < 2 ^ 64 = subst (λ k. k < 2 ^ 64) is small in
+      sequence.unwritten_map put room in_two (text_write prealloc) old new (length v, v) v steady failures e (λ c. (text_can v fits, tt)) (two_size prealloc v fits) (two_texts prealloc v)
       (sequence.pair_unwritten_first put room (length_write (bincode 4194304)) bytes_write (λ n. Unit {0}) (λ v. Unit {0}) (λ n. n) (λ v. v) (length_write_laws (bincode 4194304)) bytes_laws old new (length v) v steady failures e
-        (subst (λ k. Unwritten put room (length_write (bincode 4194304)) old new k steady failures e) is u))
+      (subst (λ k. Unwritten put room (length_write (bincode 4194304)) old new k steady failures e) is u))
 
   pub text_unwritten_second : (old mid new : S) (v : List ℕ) (n : ℕ) (bytes : List ℕ) (steady : Bool) (failures : ℕ) (e : IoWriteError) → n < 2 ^ 64 → n ≡ length v → bytes ≡ v → Wrote put room (length_write (bincode 4194304)) old mid n
-    → IsWriteRefused mid new (room mid < length bytes) (length bytes) steady failures e → Unwritten put room (text_write prealloc) old new v steady failures (writing.Io e)
+      → IsWriteRefused mid new (room mid < length bytes) (length bytes) steady failures e → Unwritten put room (text_write prealloc) old new v steady failures (writing.Io e)
   text_unwritten_second old mid new v n bytes steady failures e small is f r d =
-    let fits : length v < 2 ^ 64 = subst (λ k. k < 2 ^ 64) is small in
-    sequence.unwritten_map put room in_two (text_write prealloc) old new (length v, v) v steady failures (writing.Io e) (λ c. (text_can v fits, tt)) (two_size prealloc v fits) (two_texts prealloc v)
+      let fits : length v < 2 ^ 64 = subst (λ k. k < 2 ^ 64) is small in
+      sequence.unwritten_map put room in_two (text_write prealloc) old new (length v, v) v steady failures (writing.Io e) (λ c. (text_can v fits, tt)) (two_size prealloc v fits) (two_texts prealloc v)
       (sequence.pair_unwritten_second put room (length_write (bincode 4194304)) bytes_write (λ n. Unit {0}) (λ v. Unit {0}) (λ n. n) (λ v. v) (length_write_laws (bincode 4194304)) bytes_laws laws old mid new (length v) v steady failures (writing.Io e)
-        (subst (λ k. Wrote put room (length_write (bincode 4194304)) old mid k) is r)
-        (sequence.text_unwritten put room bytes_write v bytes mid new steady failures e laws f (ap length f) d))
+      (subst (λ k. Wrote put room (length_write (bincode 4194304)) old mid k) is r)
+      (sequence.text_unwritten put room bytes_write v bytes mid new steady failures e laws f (ap length f) d))

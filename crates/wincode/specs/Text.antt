@@ -87,7 +87,7 @@ IsTextBodyRefused unlent owned n old new _ = ⊥
 -- be refused, and `owned` whether the text takes memory.
 abbrev pub IsTextRefused : (ReaderState → Type 0) → Type 0 → ReaderState → ReaderState → ReadError → Type 0
 IsTextRefused unlent owned old new e = IsLengthRefused 4194304 1 old new e
-  ⊎ ((n : ℕ) × (mid : ReaderState) × Gives (IsLength (bincode 4194304) 1) old mid n × IsTextBodyRefused (unlent mid) owned n mid new e)
+    ⊎ ((n : ℕ) × (mid : ReaderState) × Gives (IsLength (bincode 4194304) 1) old mid n × IsTextBodyRefused (unlent mid) owned n mid new e)
 
 -- the size of what is written for a reference, which is not a list of bytes
 abbrev pub reference_meta : TypeMeta → TypeMeta

@@ -51,16 +51,16 @@ body_one n a b x y v w p q e = let same = same_front a b x y (ap length p.2 ∙ 
 -- a text is its length, and then its bytes
 pub text_then : (prealloc asks : ℕ) (sparing : Bool) (b v : List ℕ) → (text_read prealloc asks sparing).reads b v → Then (IsLength (bincode 4194304) 1) IsTextBody b v
 text_then prealloc asks sparing b v r =
-  let within = r.0 in
-  let small : length v < 2 ^ 64 = omega arith in
-  record { before = length v; x = le 8 (length v); y = v; one = ((small, omega arith), bincode_text 4194304 (length v) small); two = (refl, r.1, refl); joins = r.2 }
+    let within = r.0 in
+    let small : length v < 2 ^ 64 = omega arith in
+    record { before = length v; x = le 8 (length v); y = v; one = ((small, omega arith), bincode_text 4194304 (length v) small); two = (refl, r.1, refl); joins = r.2 }
 
 pub then_text : (prealloc asks : ℕ) (sparing : Bool) (b v : List ℕ) → Then (IsLength (bincode 4194304) 1) IsTextBody b v → (text_read prealloc asks sparing).reads b v
 then_text prealloc asks sparing b v t =
-  let within = t.one.0.1 in
-  let size = t.two.0 in
-  let is = (bincode_text_is 4194304 t.before t.x t.one.1).1 in
-  (omega arith, t.two.1, t.joins ∙ ap (λ x. x ++ t.y) (is ∙ ap (le 8) (sym size)) ∙ ap (λ y. le 8 (length v) ++ y) t.two.2)
+    let within = t.one.0.1 in
+    let size = t.two.0 in
+    let is = (bincode_text_is 4194304 t.before t.x t.one.1).1 in
+    (omega arith, t.two.1, t.joins ∙ ap (λ x. x ++ t.y) (is ∙ ap (le 8) (sym size)) ∙ ap (λ y. le 8 (length v) ++ y) t.two.2)
 
 pub text_read_laws : (prealloc asks : ℕ) (sparing : Bool) → 1 ≤ prealloc → ReadLaws IsUtf8 (text_read prealloc asks sparing)
 text_read_laws prealloc asks sparing some = record {

@@ -456,7 +456,10 @@ fn characters(rt: HostRuntime) -> Result<(), Fail> {
     ];
     chars_read(rt.alloc(), rows.as_slice())?;
     let mut last: &[u8] = &[244, 143, 191, 191];
-    assert_eq!(rt; <char as SchemaRead<Lifetime>>::get(rt.alloc(), &mut last)? as u32, 0x10_FFFF);
+    assert_eq!(rt;
+        <char as SchemaRead<Lifetime>>::get(rt.alloc(), &mut last)? as u32,
+        0x10_FFFF
+    );
     Ok(())
 }
 
@@ -485,7 +488,9 @@ fn read_lent(alloc: Global, bytes: &[u8]) -> Result<String, Fail> {
 
 fn texts_read(alloc: Global, rows: &[(&[u8], &'static str)]) -> Result<(), Fail> {
     for (bytes, answer) in rows {
-        if read_text(alloc, *bytes)?.as_str() != *answer || read_lent(alloc, *bytes)?.as_str() != *answer {
+        if read_text(alloc, *bytes)?.as_str() != *answer
+            || read_lent(alloc, *bytes)?.as_str() != *answer
+        {
             return Err(Fail::from(*answer));
         }
     }
@@ -495,7 +500,10 @@ fn texts_read(alloc: Global, rows: &[(&[u8], &'static str)]) -> Result<(), Fail>
 #[test]
 fn texts(rt: HostRuntime) -> Result<(), Fail> {
     let rows: [(&[u8], &'static str); 5] = [
-        (&[1, 0, 64, 0, 0, 0, 0, 0], "PreallocationSizeLimit { needed: 4194305, limit: 4194304 } 0"),
+        (
+            &[1, 0, 64, 0, 0, 0, 0, 0],
+            "PreallocationSizeLimit { needed: 4194305, limit: 4194304 } 0",
+        ),
         (&[0, 0, 64, 0, 0, 0, 0, 0], "Io(ReadSizeLimit(4194304)) 0"),
         (&[2, 0, 0, 0, 0, 0, 0, 0, 195, 40, 9], "utf8 1"),
         (&[2, 0, 0, 0, 0, 0, 0, 0, 195, 169], "é 0"),
@@ -510,7 +518,10 @@ fn texts_written(rt: HostRuntime) -> Result<(), Fail> {
     let mut out = Vec::new(alloc);
     let text = String::from_str(alloc, "abc")?;
     <String as SchemaWrite>::write(&mut out, &text)?;
-    assert_eq!(rt; out.as_slice(), [3u8, 0, 0, 0, 0, 0, 0, 0, 97, 98, 99].as_slice());
+    assert_eq!(rt;
+        out.as_slice(),
+        [3u8, 0, 0, 0, 0, 0, 0, 0, 97, 98, 99].as_slice()
+    );
     let seven = vec![in alloc; &7u8]?;
     let list = serialize(alloc, &seven)?;
     assert_eq!(rt; list.as_slice(), [1u8, 0, 0, 0, 0, 0, 0, 0, 7].as_slice());

@@ -7,7 +7,10 @@ ghost use Rattle.wincode.specs.Text.{char_read, char_write, announced, IsCharRef
 ghost use Rattle.wincode.specs.TextLaws.{char_read_laws, char_write_laws, char_reads_back, text_read_laws, text_write_laws, text_reads_back, reference_write_laws};
 ghost use Rattle.wincode.specs.Outcomes.{Gives, Puts, Refuses, IsDenied, Wrote, Unwritten, IsSizeRefused};
 
-use crate::error::{ReadError, ReadResult, WriteResult, invalid_char_lead, invalid_utf8_encoding, write_length_encoding_overflow};
+use crate::error::{
+    ReadError, ReadResult, WriteResult, invalid_char_lead, invalid_utf8_encoding,
+    write_length_encoding_overflow,
+};
 use crate::io::{Lending, Lifetime, Reader, Writer};
 use crate::len::{BincodeLen, SeqLen};
 use crate::meta::TypeMeta;
@@ -132,7 +135,11 @@ impl<L: Lending> RoundTrip<L> for char {
 
 /// A copy of the next `n` bytes, which stay and are at hand. Too few are refused before memory is
 /// asked for.
-fn copy_bytes<L: Lending, R: Reader<L>>(alloc: Global, reader: &mut R, n: usize) -> ReadResult<Vec<u8>>
+fn copy_bytes<L: Lending, R: Reader<L>>(
+    alloc: Global,
+    reader: &mut R,
+    n: usize,
+) -> ReadResult<Vec<u8>>
     ensures ok { IfOk result (λ v. Arrays n (R.state reader.old) (R.state reader.new) v.items) }
     ensures err { IfErr result (IsTextBodyRefused ⊥ ⊤ n (R.state reader.old) (R.state reader.new)) }
 {
@@ -144,7 +151,11 @@ fn copy_bytes<L: Lending, R: Reader<L>>(alloc: Global, reader: &mut R, n: usize)
 }
 
 /// The text of the next `n` bytes, which are then gone.
-fn take_text<L: Lending, R: Reader<L>>(alloc: Global, reader: &mut R, n: usize) -> ReadResult<String>
+fn take_text<L: Lending, R: Reader<L>>(
+    alloc: Global,
+    reader: &mut R,
+    n: usize,
+) -> ReadResult<String>
     ensures ok { IfOk result (λ s. Gives (IsTextBody n) (R.state reader.old) (R.state reader.new) (string_bytes s)) }
     ensures err { IfErr result (Refuses (IsTextBody n) 0 false (R.state reader.old) (R.state reader.new)) }
     ensures refused { IfErr result (IsTextBodyRefused ⊥ ⊤ n (R.state reader.old) (R.state reader.new)) }
@@ -334,7 +345,11 @@ impl<'s, L: Lending> SchemaRead<L> for &'s str {
     /// Its length is read and held against the limit, its bytes are borrowed, and then they are
     /// looked at. A refused borrow leaves the reader behind the length, bytes that are not UTF-8
     /// behind them.
-    fn read<R: Reader<L>>(_alloc: Global, reader: &mut R, dst: &mut Option<L::Text>) -> ReadResult<()>
+    fn read<R: Reader<L>>(
+        _alloc: Global,
+        reader: &mut R,
+        dst: &mut Option<L::Text>,
+    ) -> ReadResult<()>
         ensures ok { OnOk result (Puts (text_read 16 1 true).reads (λ s. L.held_text s) (R.state reader.old) (R.state reader.new) dst.new) }
         ensures err { IfErr result (Refuses (text_read 16 1 true).reads 1 true (R.state reader.old) (R.state reader.new)) }
         ensures same { OnErr result (dst.new ≡ dst.old) }
@@ -365,7 +380,10 @@ impl<'a, U: 'a, T: SchemaWrite<Src = U>> SchemaWrite for &'a T {
 
     fn type_meta() -> TypeMeta {
         match T::type_meta() {
-            TypeMeta::Static { size, .. } => TypeMeta::Static { size, zero_copy: false },
+            TypeMeta::Static { size, .. } => TypeMeta::Static {
+                size,
+                zero_copy: false,
+            },
             TypeMeta::Dynamic => TypeMeta::Dynamic,
         }
     }

@@ -9,13 +9,13 @@ returns-in_err-bytes-clause-err g c = let h = borrow_refuses c.args.n _ _ c.in_e
 
 pub returns-in-Ok-clause-ok : goal.returns-in-Ok-clause-ok
 returns-in-Ok-clause-ok g c =
-  let text = c.in-Ok.ensures in
-  body_gives _ _ _ _ _ c.in_ok-bytes.ensures.ok.takes text.0 (subst IsUtf8 (sym text.0) text.1)
+    let text = c.in-Ok.ensures in
+    body_gives _ _ _ _ _ c.in_ok-bytes.ensures.ok.takes text.0 (subst IsUtf8 (sym text.0) text.1)
 
 pub returns-in-Err-clause-refused : goal.returns-in-Err-clause-refused
 returns-in-Err-clause-refused g c =
-  rw c.invalid_utf8_encoding.ensures (_, c.in_ok-bytes.ensures.ok.takes, c.in-Err.ensures)
+    rw c.invalid_utf8_encoding.ensures (_, c.in_ok-bytes.ensures.ok.takes, c.in-Err.ensures)
 
 pub returns-in-Err-clause-err : goal.returns-in-Err-clause-err
 returns-in-Err-clause-err g c =
-  rw c.invalid_utf8_encoding.ensures (body_refuses ⊥ ⊥ c.args.n 1 true _ _ (reading.InvalidUtf8Encoding _) (λ x. absurd x) (λ x. absurd x) (_, c.in_ok-bytes.ensures.ok.takes, c.in-Err.ensures))
+    rw c.invalid_utf8_encoding.ensures (body_refuses ⊥ ⊥ c.args.n 1 true _ _ (reading.InvalidUtf8Encoding _) (λ x. absurd x) (λ x. absurd x) (_, c.in_ok-bytes.ensures.ok.takes, c.in-Err.ensures))
