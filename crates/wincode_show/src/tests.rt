@@ -1,6 +1,7 @@
 //! Worked rows and vectors, as tables, and each public call once.
 ghost use Rattle.std.specs.Prelude.{◌<◌, IfOk};
 
+mod leaves;
 mod vectors;
 
 use super::entry::{Entry, rewrite};
@@ -238,12 +239,32 @@ fn other_answer(alloc: Global, name: &str, bytes: &[u8]) -> Result<Option<String
     outcome(alloc, text, left)
 }
 
+fn text_answer(alloc: Global, name: &str, bytes: &[u8]) -> Result<Option<String>, Fail> {
+    let mut reader = bytes;
+    let text = if name == "char" {
+        rewrite::<Lifetime, &[u8], char>(alloc, &mut reader)
+    } else if name == "String" {
+        rewrite::<Lifetime, &[u8], String>(alloc, &mut reader)
+    } else if name == "str" {
+        rewrite::<Lifetime, &[u8], &str>(alloc, &mut reader)
+    } else if name == "Vec<String>" {
+        rewrite::<Lifetime, &[u8], Vec<String>>(alloc, &mut reader)
+    } else {
+        return Ok(None);
+    };
+    let left = reader.len();
+    outcome(alloc, text, left)
+}
+
 /// What reading these bytes as the type of the name answers.
 fn answer(alloc: Global, name: &str, bytes: &[u8]) -> Result<String, Fail> {
     if let Some(found) = unsigned_answer(alloc, name, bytes)? {
         return Ok(found);
     }
     if let Some(found) = signed_answer(alloc, name, bytes)? {
+        return Ok(found);
+    }
+    if let Some(found) = text_answer(alloc, name, bytes)? {
         return Ok(found);
     }
     let found = other_answer(alloc, name, bytes)?;
@@ -280,7 +301,7 @@ fn first_unlike(alloc: Global, table: &str) -> Result<Option<String>, Fail> {
 #[test]
 fn answers_the_vectors(rt: HostRuntime) -> Result<(), Fail> {
     let rows = VECTORS.lines().count();
-    assert_eq!(rt; rows, 238);
+    assert_eq!(rt; rows, 294);
     let unlike = first_unlike(rt.alloc(), VECTORS)?;
     assert!(rt; unlike == None, "{unlike:?}");
     Ok(())
