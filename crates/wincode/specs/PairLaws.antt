@@ -77,7 +77,7 @@ pair_write_size p q seen seen' g h Dynamic n l m = tt
 pair_write_size p q seen seen' g h (Static a x) Dynamic l m = tt
 pair_write_size {X} {Y} p q seen seen' g h (Static a x) (Static b y) l m =
     elim (nat_lt (a + b) (2 ^ 64)) as (λ t. IsWriteStatic {X = X × Y} (λ t. p t.0 × q t.1) (λ t. (seen t.0, seen' t.1)) (pair_write g h).can (pair_write g h).size (cond t (Static (a + b) false) Dynamic))
-    [ true ↦ (λ t c. let f = l t.0 c.0 in let s = m t.1 c.1 in ((f.0, s.0), ap (λ k. k + h.size (seen' t.1)) f.1 ∙ ap (λ k. a + k) s.1)) | false ↦ tt ]
+    [ true ↦ (λ t c. (l.0 t.0 c.0, m.0 t.1 c.1), λ v c. ap (λ k. k + h.size v.1) (l.1 v.0 c.0) ∙ ap (λ k. a + k) (m.1 v.1 c.1)) | false ↦ tt ]
 
 pub pair_write_laws : {X Y V W : Type 0} (p : X → Type 0) (q : Y → Type 0) (seen : X → V) (seen' : Y → W) (g : WriteGrammar V) (h : WriteGrammar W) → WriteLaws p seen g → WriteLaws q seen' h
     → WriteLaws {X = X × Y} (λ t. p t.0 × q t.1) (λ t. (seen t.0, seen' t.1)) (pair_write g h)
@@ -101,7 +101,7 @@ pair_reads_back p q ws w rs r ws' w' rs' r' a b = record {
 
 statics_by : {X Y V : Type 0} (fields : X → Y) (p : Y → Type 0) (seen : Y → V) (can : V → Type 0) (size : V → ℕ) (m : TypeMeta) → IsWriteStatic p seen can size m → IsWriteStatic (λ x. p (fields x)) (λ x. seen (fields x)) can size m
 statics_by fields p seen can size Dynamic l = tt
-statics_by fields p seen can size (Static s z) l = λ x c. l (fields x) c
+statics_by fields p seen can size (Static s z) l = (λ x c. l.0 (fields x) c, l.1)
 
 pub write_laws_by : {X Y V : Type 0} (fields : X → Y) (p : Y → Type 0) (seen : Y → V) (g : WriteGrammar V) → WriteLaws p seen g → WriteLaws (λ x. p (fields x)) (λ x. seen (fields x)) g
 write_laws_by {X} {Y} {V} fields p seen g l = record {

@@ -1,7 +1,7 @@
 //! Schemas: how values of a type are read and written.
-ghost use Rattle.std.specs.Prelude.{◌≡◌, true, IfOk, IfErr, OnOk, OnErr};
+ghost use Rattle.std.specs.Prelude.{◌≡◌, Bool, true, IfOk, IfErr, OnOk, OnErr};
 ghost use Rattle.wincode.specs.Grammar.{ReadGrammar, WriteGrammar, ReadLaws, WriteLaws, ReadsBack};
-ghost use Rattle.wincode.specs.Outcomes.{Gives, Puts, Refuses, Wrote, Unwritten, IsSizeRefused};
+ghost use Rattle.wincode.specs.Outcomes.{Gives, Puts, Refuses, Refusal, Wrote, Unwritten, IsSizeRefused, IsWholeRefused};
 
 pub mod leaves;
 pub mod lists;
@@ -27,6 +27,9 @@ pub trait SchemaWrite {
 
     ghost writing: { WriteGrammar Value };
 
+    // Whether it is written in one piece: a refused write of a value that can be written adds nothing.
+    ghost whole: { Bool };
+
     /// The size that every text has, or none.
     fn type_meta() -> TypeMeta
         ensures { result ≡ writing.meta };
@@ -44,6 +47,7 @@ pub trait SchemaWrite {
         ensures ok { OnOk result (Wrote W.put W.room writing (W.state writer.old) (W.state writer.new) (seen src.now)) }
         ensures value { OnOk result (proper src.now) }
         ensures err { IfErr result (Unwritten W.put W.room writing (W.state writer.old) (W.state writer.new) (seen src.now) (W.steady (W.kept writer.old)) (W.failures writer.new)) }
+        ensures whole { IfErr result (IsWholeRefused whole W.room writing (W.state writer.old) (W.state writer.new) (seen src.now) (W.steady (W.kept writer.old)) (W.failures writer.new)) }
         ensures kept { W.kept writer.new ≡ W.kept writer.old };
 
     ghost write_laws: { WriteLaws proper seen writing };
@@ -63,6 +67,9 @@ pub trait SchemaRead<L: Lending> {
 
     ghost reading: { ReadGrammar Value };
 
+    // What it says of each refusal beyond that: the error, and where the reader then stands.
+    ghost refusal: { Refusal };
+
     /// The size that every text has, or none.
     fn type_meta() -> TypeMeta
         ensures { result ≡ reading.meta };
@@ -81,12 +88,14 @@ pub trait SchemaRead<L: Lending> {
     ) -> ReadResult<()>
         ensures ok { OnOk result (Puts reading.reads seen (R.state reader.old) (R.state reader.new) dst.new) }
         ensures err { IfErr result (Refuses reading.reads reading.asks reading.sparing (R.state reader.old) (R.state reader.new)) }
+        ensures refused { IfErr result (refusal (R.state reader.old) (R.state reader.new)) }
         ensures same { OnErr result (dst.new ≡ dst.old) };
 
     /// As `read`, and gives the value.
     fn get<R: Reader<L>>(alloc: Global, reader: &mut R) -> ReadResult<Self::Dst>
         ensures ok { IfOk result (λ v. Gives reading.reads (R.state reader.old) (R.state reader.new) (seen v)) }
         ensures err { IfErr result (Refuses reading.reads reading.asks reading.sparing (R.state reader.old) (R.state reader.new)) }
+        ensures refused { IfErr result (refusal (R.state reader.old) (R.state reader.new)) }
     {
         let mut dst = None;
         Self::read(alloc, reader, &mut dst)?;

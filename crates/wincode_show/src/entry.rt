@@ -9,6 +9,7 @@ ghost use Rattle.wincode.specs.LeafLaws.{number_read_laws, number_write_laws, nu
 ghost use Rattle.wincode.specs.Lists.{Each};
 ghost use Rattle.wincode.specs.ListLaws.{list_read_laws, list_write_laws, list_reads_back};
 ghost use Rattle.wincode.specs.PairLaws.{pair_read_laws, pair_write_laws, pair_reads_back, write_laws_by, reads_back_by};
+ghost use Rattle.wincode.specs.Outcomes.{unsaid};
 ghost use Rattle.wincode_show.specs.Entry.{tags_read, tags_write, entry_read, entry_write, Rewritten};
 
 use std::alloc::Global;
@@ -33,6 +34,8 @@ impl SchemaWrite for Entry {
     ghost proper = { λ e. (e.id < 256 ^ 8) × Each (λ n. n < 256 ^ 1) e.tags.items };
 
     ghost writing = { entry_write };
+
+    ghost whole = { false };
 
     fn type_meta() -> TypeMeta {
         TypeMeta::Dynamic
@@ -65,6 +68,8 @@ impl<L: Lending> SchemaRead<L> for Entry {
     ghost proper = { λ v. (v.0 < 256 ^ 8) × Each (λ n. n < 256 ^ 1) v.1 };
 
     ghost reading = { entry_read };
+
+    ghost refusal = { unsaid };
 
     fn type_meta() -> TypeMeta {
         TypeMeta::Dynamic

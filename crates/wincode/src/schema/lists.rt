@@ -4,7 +4,7 @@ ghost use Rattle.wincode.specs.Lengths.{bincode};
 ghost use Rattle.wincode.specs.LengthLaws.{bincode_laws};
 ghost use Rattle.wincode.specs.Lists.{AreItems, Each, items_write, list_read, list_write};
 ghost use Rattle.wincode.specs.ListLaws.{list_read_laws, list_write_laws, list_reads_back};
-ghost use Rattle.wincode.specs.Outcomes.{Gives, Refuses, Wrote, Unwritten, IsSizeRefused};
+ghost use Rattle.wincode.specs.Outcomes.{Gives, Refuses, unsaid, Wrote, Unwritten, IsSizeRefused};
 
 use crate::error::{ReadError, ReadResult, WriteResult, write_length_encoding_overflow};
 use crate::io::{Lending, Reader, Writer};
@@ -101,6 +101,8 @@ impl<T: SchemaWrite> SchemaWrite for Vec<T> {
 
     ghost writing = { list_write (bincode 4194304) T.writing };
 
+    ghost whole = { false };
+
     fn type_meta() -> TypeMeta {
         TypeMeta::Dynamic
     }
@@ -126,6 +128,8 @@ impl<L: Lending, T: SchemaRead<L>> SchemaRead<L> for Vec<T> {
     ghost proper = { Each T.proper };
 
     ghost reading = { list_read (bincode 4194304) T.reading };
+
+    ghost refusal = { unsaid };
 
     fn type_meta() -> TypeMeta {
         TypeMeta::Dynamic
