@@ -7,6 +7,7 @@ pub mod leaves;
 pub mod lists;
 pub(crate) mod numbers;
 pub mod text;
+pub(crate) mod whole;
 
 use crate::error::{ReadError, ReadResult, WriteResult};
 use crate::io::{Lending, Reader, Writer};
