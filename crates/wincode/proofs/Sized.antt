@@ -1,8 +1,8 @@
 -- Reading texts that all have one size.
-use Rattle.std.proofs.Common.{◌≡◌, ◌∙◌, sym, ap, subst, ℕ, ◌≤◌, Bool, List, [], ◌++◌, length, take, arith, length-append, IsTrue}
+use Rattle.std.proofs.Common.{◌≡◌, ◌∙◌, sym, ap, subst, ℕ, ◌≤◌, Bool, List, [], ◌++◌, length, take, arith, length-append, IsTrue, Some, refl}
 use Rattle.wincode_io.specs.Readers.{ReaderState, Loses, Takes, IsShort, IsRefusal, Arrays}
 use Rattle.wincode.specs.Sequences.{kept_trans, told_kept}
-use Rattle.wincode.specs.Outcomes.{Gives, Accepts, Refuses, ReaderDue, IsDenied}
+use Rattle.wincode.specs.Outcomes.{Gives, Puts, Accepts, Refuses, ReaderDue, IsDenied}
 use Rattle.wincode.specs.declared.error.ReadError.{ReadError}
 use Rattle.wincode.specs.declared.error.ReadError.TheVariants as reading
 use Rattle.wincode_io.specs.declared.error.ReadError.{ReadError as IoReadError}
@@ -47,3 +47,7 @@ takes_joins {n} {old} {new} {bytes} t told = (t.loses.rest told).1 ∙ ap (λ b.
 -- the bytes that were taken read as v
 pub takes_gives : {V : Type 0} (reads : List ℕ → V → Type 0) (n : ℕ) (old new : ReaderState) (bytes : List ℕ) (v : V) → Takes n old new bytes → reads bytes v → Gives reads old new v
 takes_gives reads n old new bytes v t r = record { kept = t.loses.kept; found = λ told. record { text = bytes; is_read = r; joins = takes_joins t told } }
+
+-- the destination has a value that reading gave
+pub puts : {D V : Type 0} (reads : List ℕ → V → Type 0) (seen : D → V) (old new : ReaderState) (v : D) → Gives reads old new (seen v) → Puts reads seen old new (Some v)
+puts reads seen old new v g = record { value = v; is = refl; gives = g }

@@ -7,6 +7,7 @@ pub mod leaves;
 pub mod lists;
 pub(crate) mod numbers;
 pub mod text;
+pub mod tuples;
 pub(crate) mod whole;
 
 use crate::error::{ReadError, ReadResult, WriteResult};
