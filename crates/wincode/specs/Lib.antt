@@ -15,3 +15,5 @@ pub mod WriteSequences
 pub mod Show
 pub mod Text
 pub mod TextLaws
+pub mod Parts
+pub mod PartLaws
