@@ -327,8 +327,8 @@ impl<L: Lending, T: SchemaRead<L>> SchemaRead<L> for Box<T> {
         ensures same { OnErr result (dst.new ≡ dst.old) }
         ensures refused { IfErr result (IsHeldRefused T.reading (R.state reader.old) (R.state reader.new)) }
     {
-        let value = T::get(alloc, reader)?;
-        match Box::new(alloc, value) {
+        let content = T::get(alloc, reader)?;
+        match Box::new(alloc, content) {
             Ok(held) => {
                 *dst = Some(held);
                 Ok(())
@@ -405,8 +405,8 @@ impl<L: Lending, T: SchemaRead<L>> SchemaRead<L> for Rc<T> {
         ensures same { OnErr result (dst.new ≡ dst.old) }
         ensures refused { IfErr result (IsHeldRefused T.reading (R.state reader.old) (R.state reader.new)) }
     {
-        let value = T::get(alloc, reader)?;
-        match Rc::new(alloc, value) {
+        let shared = T::get(alloc, reader)?;
+        match Rc::new(alloc, shared) {
             Ok(held) => {
                 *dst = Some(held);
                 Ok(())
