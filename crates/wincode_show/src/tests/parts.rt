@@ -101,6 +101,19 @@ fn parts_written(rt: HostRuntime) -> Result<(), Fail> {
 }
 
 #[test]
+fn a_lent_part(rt: HostRuntime) -> Result<(), Fail> {
+    let alloc = rt.alloc();
+    let text = serialize(alloc, &Some("ab"))?;
+    assert_eq!(rt;
+        text.as_slice(),
+        [1u8, 2, 0, 0, 0, 0, 0, 0, 0, 97, 98].as_slice()
+    );
+    let mut bytes = text.as_slice();
+    assert!(rt; <Option<&str> as SchemaRead<Lifetime>>::get(alloc, &mut bytes)? == Some("ab"));
+    Ok(())
+}
+
+#[test]
 fn sizes_of_parts(rt: HostRuntime) {
     let dynamic = TypeMeta::Dynamic;
     let six = TypeMeta::Static {
