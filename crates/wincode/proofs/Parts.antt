@@ -1,11 +1,12 @@
 -- Reading and writing a tag and then what it names.
-use Rattle.std.proofs.Common.{◌≡◌, ◌∙◌, sym, ap, subst, ℕ, ◌<◌, ◌≤◌, ◌^◌, ◌&&◌, Bool, true, false, List, ◌++◌, max, refl, arith, Option, Some, None, Result, Ok, Err}
+use Rattle.std.proofs.Common.{◌≡◌, ◌∙◌, sym, ap, subst, ℕ, ◌<◌, ◌≤◌, ◌^◌, ◌&&◌, Bool, true, List, ◌++◌, max, refl, arith, Option, Some, None, Result, Ok, Err}
 use Rattle.wincode_io.specs.Readers.{ReaderState}
 use Rattle.wincode_io.specs.Writers.{WriterLaws}
 use Rattle.wincode.specs.Grammar.{ReadGrammar, WriteGrammar, WriteLaws}
 use Rattle.wincode.specs.Leaves.{number_read, number_write}
 use Rattle.wincode.specs.LeafLaws.{number_write_laws}
 use Rattle.wincode.specs.Pairs.{pair_write}
+use Rattle.wincode.specs.PairLaws.{le_max_left, le_max_right, both_left, both_right}
 use Rattle.wincode.specs.Sequences.{gives_map, refuses_map}
 use Rattle.wincode.specs.WriteSequences.{wrote_map, unwritten_map, pair_wrote, pair_unwritten_first, pair_unwritten_second}
 use Rattle.wincode.specs.Outcomes.{Gives, Refuses, Wrote, Unwritten}
@@ -36,19 +37,6 @@ module _ {V : Type 0} (g : ReadGrammar V) where
 
   pub option_bad : (old new : ReaderState) (t n : ℕ) → 2 ≤ t → Gives (number_read 1 true).reads old new t → Refuses (option_read g).reads g.asks g.sparing old new (reading.InvalidTagEncoding n)
   option_bad old new t n l r = bad_tag 1 option_tag option_small (option_part_read g) old new t n (no_option t l) r
-
-le_max_left : (m n : ℕ) → m ≤ max m n
-le_max_left m n = omega arith
-
-le_max_right : (m n : ℕ) → n ≤ max m n
-le_max_right m n = omega arith
-
-both_left : (a b : Bool) → a ≡ false → (a && b) ≡ false
-both_left a b e = rw e
-
-both_right : (a b : Bool) → b ≡ false → (a && b) ≡ false
-both_right false b e = refl
-both_right true b e = e
 
 module _ {V W : Type 0} (g : ReadGrammar V) (h : ReadGrammar W) where
   abbrev Side : ℕ → List ℕ → Result V W → Type 0

@@ -30,16 +30,16 @@ pair_read_laws p q g h' l m = record {
   prealloc = let a = l.prealloc in omega arith;
 }
 
-le_max_left : (m n : ℕ) → m ≤ max m n
+pub le_max_left : (m n : ℕ) → m ≤ max m n
 le_max_left m n = omega arith
 
-le_max_right : (m n : ℕ) → n ≤ max m n
+pub le_max_right : (m n : ℕ) → n ≤ max m n
 le_max_right m n = omega arith
 
-both_left : (a b : Bool) → a ≡ false → (a && b) ≡ false
+pub both_left : (a b : Bool) → a ≡ false → (a && b) ≡ false
 both_left a b e = rw e
 
-both_right : (a b : Bool) → b ≡ false → (a && b) ≡ false
+pub both_right : (a b : Bool) → b ≡ false → (a && b) ≡ false
 both_right false b e = refl
 both_right true b e = e
 
