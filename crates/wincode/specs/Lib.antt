@@ -16,3 +16,5 @@ pub mod Show
 pub mod Wholes
 pub mod Text
 pub mod TextLaws
+pub mod Parts
+pub mod PartLaws

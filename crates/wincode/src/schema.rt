@@ -6,6 +6,7 @@ ghost use Rattle.wincode.specs.Outcomes.{Gives, Puts, Refuses, Refusal, Wrote, U
 pub mod leaves;
 pub mod lists;
 pub(crate) mod numbers;
+pub mod parts;
 pub mod text;
 pub mod tuples;
 pub(crate) mod whole;

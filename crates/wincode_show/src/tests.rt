@@ -2,9 +2,11 @@
 ghost use Rattle.std.specs.Prelude.{◌<◌, IfOk};
 
 mod leaves;
+mod parts;
 mod vectors;
 
 use super::entry::{Entry, rewrite};
+use parts::part_answer;
 use std::alloc::Global;
 use std::io::ErrorKind;
 use std::test::Fail;
@@ -267,17 +269,29 @@ fn answer(alloc: Global, name: &str, bytes: &[u8]) -> Result<String, Fail> {
     if let Some(found) = text_answer(alloc, name, bytes)? {
         return Ok(found);
     }
+    if let Some(found) = part_answer(alloc, name, bytes)? {
+        return Ok(found);
+    }
     let found = other_answer(alloc, name, bytes)?;
     Ok(found.ok_or("a type")?)
 }
 
-/// Short lists of items of one size. The vectors refuse them for the whole list, without looking at an
-/// item; here a list is read item by item, and is refused for the first item that is missing.
-const SHORT_LISTS: [(&str, &str); 2] = [
+/// Lists of items of one size that are refused. The vectors take the bytes of the whole list at once: they
+/// refuse a short list without looking at an item, and a bad item behind them all; here a list is read
+/// item by item, and is refused for the first item that is missing, and behind the bad part of an item.
+const UNLIKE_LISTS: [(&str, &str); 4] = [
     ("Vec<u64>", "02000000000000000100000000000000"),
     (
         "Vec<Vec<u64>>",
         "090000000000000000000000000000000300000000000000ff",
+    ),
+    (
+        "Vec<Result<u8,u8>>",
+        "0300000000000000010100000401000000ac00000000013a9e274ffbc5",
+    ),
+    (
+        "Vec<Result<u8,u8>>",
+        "0300000000000000ff000000ff00000000040100000000",
     ),
 ];
 
@@ -288,10 +302,10 @@ fn first_unlike(alloc: Global, table: &str) -> Result<Option<String>, Fail> {
         let (digits, outcome) = rest.split_once('|').ok_or("an outcome")?;
         let bytes = bytes_of(alloc, digits)?;
         let found = answer(alloc, name, bytes.as_slice())?;
-        let is_short = SHORT_LISTS
+        let is_unlike = UNLIKE_LISTS
             .iter()
-            .any(|(list, short)| *list == name && *short == digits);
-        if (found.as_str() == outcome) == is_short {
+            .any(|(list, unlike)| *list == name && *unlike == digits);
+        if (found.as_str() == outcome) == is_unlike {
             return Ok(Some(format!(in alloc; "{row}: {found}")?));
         }
     }
