@@ -5,3 +5,4 @@ pub mod Lengths
 pub mod Lists
 pub mod Recoding
 pub mod Text
+pub mod Arrays

@@ -3,6 +3,7 @@ ghost use Rattle.std.specs.Prelude.{◌≡◌, true, IfOk, IfErr, OnOk, OnErr};
 ghost use Rattle.wincode.specs.Grammar.{ReadGrammar, WriteGrammar, ReadLaws, WriteLaws, ReadsBack};
 ghost use Rattle.wincode.specs.Outcomes.{Gives, Puts, Refuses, Wrote, Unwritten, IsSizeRefused};
 
+pub mod arrays;
 pub mod leaves;
 pub mod lists;
 pub(crate) mod numbers;

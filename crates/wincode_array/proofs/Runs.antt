@@ -1,27 +1,29 @@
--- Runs of steps.
+-- Runs of calls, one call at a time.
 use mathlib.Core.Path.{◌≡◌, refl, sym, subst, ap, ◌∙◌}
 use mathlib.Core.List.{List, [], ◌∷◌, ◌++◌}
-use Prim.Native.Nat.{ℕ, suc, ◌-◌, ◌<◌}
+use Prim.Native.Nat.{ℕ, suc, ◌+◌, ◌-◌, ◌<◌}
 use native.Mathlib.Omega.{arith}
 use native.Mathlib.Nat.{not-suc-le-zero}
-use lib.ListN.{length}
-use Rattle.std.specs.Prelude.{Option, Some, None, Result, Ok, Err, IfErr}
+use native.Mathlib.Numerals.{add-one}
+use lib.ListN.{length, take, set}
+use lib.Seq.{take-suc-set}
+use Rattle.std.specs.Prelude.{Option, Some, None, Result, Ok, Err}
 use Rattle.wincode_array.specs.Runs.{Runs, Stops, Gave, Failed, Attempts}
 
--- a run and one step more
-pub runs-more : {S A : Type 0} (R : S → Option A → S → Type 0) (s : S) (xs : List A) (j t : S) (x : A) → Runs R s xs j → R j (Some x) t → Runs R s (xs ++ x ∷ []) t
-runs-more R s [] j t x run step = (t, subst (λ u. R u (Some x) t) (sym run) step, refl)
-runs-more R s (y ∷ xs) j t x run step = (run.0, run.1, runs-more R run.0 xs j t x run.2 step)
+-- a run and one call more
+pub runs_more : {S A : Type 0} (R : S → Option A → S → Type 0) (s : S) (xs : List A) (j t : S) (x : A) → Runs R s xs j → R j (Some x) t → Runs R s (xs ++ x ∷ []) t
+runs_more R s [] j t x run step = (t, subst (λ u. R u (Some x) t) (sym run) step, refl)
+runs_more R s (y ∷ xs) j t x run step = (run.0, run.1, runs_more R run.0 xs j t x run.2 step)
 
-value-or : {A : Type 0} → A → Option A → A
-value-or d None = d
-value-or d (Some x) = x
+value_or : {A : Type 0} → A → Option A → A
+value_or d None = d
+value_or d (Some x) = x
 
 Full : {A : Type 0} → Option A → Type 0
 Full None = ⊥
 Full (Some x) = Unit {0}
 
--- a source with an item ahead, of which a step keeps the name
+-- a source with an item at hand, of which a call keeps the name
 module _ {S F A E Name : Type 0} (R : F → Result A E → F → Type 0) (ahead : S → Option A) (now : S → F) (error : S → Option E) (name : S → Name) where
   abbrev pub Step : S → Option A → S → Type 0
   Step s r t = (name t ≡ name s) × Attempts R (ahead s) (now s) r (ahead t) (now t) (error t)
@@ -39,12 +41,12 @@ module _ {S F A E Name : Type 0} (R : F → Result A E → F → Type 0) (ahead 
     pub gave : Gave R (now s) more (now t)
 
   pub ran : (s : S) (x : A) (ys : List A) (t : S) → ahead s ≡ Some x → 0 < length ys → Runs Step s ys t → Ran s x ys t
-  unfolding value-or
+  unfolding value_or
   ran s x [] t e some run = absurd (not-suc-le-zero some)
   ran s x (y ∷ ys) t e some run =
       let j = run.0 in let at = subst (λ a. Attempts R a (now s) (Some y) (ahead j) (now j) (error j)) e run.1.1 in
       let more = plain j ys t at.1 run.2 in
-      record { same = more.0 ∙ run.1.0; more = ys; are = ap (λ r. value-or y r ∷ ys) at.0; gave = subst (λ u. Gave R u ys (now t)) at.2 more.2 }
+      record { same = more.0 ∙ run.1.0; more = ys; are = ap (λ r. value_or y r ∷ ys) at.0; gave = subst (λ u. Gave R u ys (now t)) at.2 more.2 }
 
   pub record Broke (s : S) (n : ℕ) (t : S) : Type 0 where
     pub same : name t ≡ name s
@@ -52,12 +54,12 @@ module _ {S F A E Name : Type 0} (R : F → Result A E → F → Type 0) (ahead 
     pub is : error t ≡ Some of
     pub failed : Failed R (now s) (n - 1) of (now t)
 
-  broke-at : (s : S) (x : A) (n : ℕ) (xs : List A) (u t : S) → ahead s ≡ Some x → length xs < n → Runs Step s xs u → Step u None t → Broke s n t
+  broke_at : (s : S) (x : A) (n : ℕ) (xs : List A) (u t : S) → ahead s ≡ Some x → length xs < n → Runs Step s xs u → Step u None t → Broke s n t
   unfolding Full
-  broke-at s x n [] u t e fewer run step =
+  broke_at s x n [] u t e fewer run step =
       let at = subst (λ a. Attempts R a (now u) None (ahead t) (now t) (error t)) (ap ahead (sym run) ∙ e) step.1 in
       absurd (subst Full (sym at.0) tt)
-  broke-at s x n (y ∷ ys) u t e fewer run step =
+  broke_at s x n (y ∷ ys) u t e fewer run step =
       let j = run.0 in let at = subst (λ a. Attempts R a (now s) (Some y) (ahead j) (now j) (error j)) e run.1.1 in
       let more = plain j ys u at.1 run.2 in
       let last = subst (λ a. Attempts R a (now u) None (ahead t) (now t) (error t)) more.1 step.1 in
@@ -68,12 +70,12 @@ module _ {S F A E Name : Type 0} (R : F → Result A E → F → Type 0) (ahead 
       }
 
   pub broke : (s : S) (x : A) (n : ℕ) (t : S) → ahead s ≡ Some x → Stops Step s n t → Broke s n t
-  broke s x n t e stops = broke-at s x n stops.items stops.at t e stops.fewer stops.run stops.stop
+  broke s x n t e stops = broke_at s x n stops.items stops.at t e stops.fewer stops.run stops.stop
 
--- a call that gave an item, and then a failure
-pub failed-more : {S A E : Type 0} (R : S → Result A E → S → Type 0) (s : S) (x : A) (j : S) (n : ℕ) (e : E) (t : S) → R s (Ok x) j → Failed R j (n - 1) e t → Failed R s n e t
-failed-more R s x j n e t step failed = record { items = x ∷ failed.items; at = failed.at; fewer = omega (arith, failed.fewer); run = (j, step, failed.run); stop = failed.stop }
+-- a call that gave an item, and then a refusal
+pub failed_more : {S A E : Type 0} (R : S → Result A E → S → Type 0) (s : S) (x : A) (j : S) (n : ℕ) (e : E) (t : S) → R s (Ok x) j → Failed R j (n - 1) e t → Failed R s n e t
+failed_more R s x j n e t step failed = record { items = x ∷ failed.items; at = failed.at; fewer = omega (arith, failed.fewer); run = (j, step, failed.run); stop = failed.stop }
 
-pub err-then : {X Y : Type 0} (r : Result X Y) (P Q : Y → Type 0) → ((y : Y) → P y → Q y) → IfErr r P → IfErr r Q
-err-then (Ok x) P Q f p = tt
-err-then (Err y) P Q f p = f y p
+-- the first i items, and one more that was put after them
+pub placed : {A : Type 0} (xs ys : List A) (i : ℕ) (x : A) → ys ≡ set xs i x → i < length xs → take (i + 1) ys ≡ take i xs ++ x ∷ []
+placed xs ys i x put l = (λ k. take (add-one i k) (put k)) ∙ take-suc-set xs i x l

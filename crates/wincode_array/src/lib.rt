@@ -1,7 +1,7 @@
 //! Arrays of any length, made item by item from a source that may fail.
 #![tactic(auto)]
 ghost use Rattle.std.specs.Prelude.{◌≡◌, ℕ, ◌<◌, ◌-◌, ◌∷◌, List, length, MatchResult, Option, Result, Ok, IfOk, IfErr};
-ghost use Rattle.wincode_array.specs.Sources.{inner_of};
+ghost use Rattle.wincode_array.specs.Sources.{inner_of, items_of};
 ghost use Rattle.wincode_array.specs.Runs.{Runs, Stops, Gave, Failed, Attempts};
 
 mod in_place;
@@ -47,19 +47,35 @@ impl<F> Sourced<F> {
     }
 
     /// As `array_of`.
-    pub fn array<T: Drop, E: Drop, const N: usize>(&mut self) -> Result<[T; N], E>
+    pub fn array<T: Drop, E: Drop, const N: usize>(&mut self) -> Result<Array<T, N>, E>
     where
         F: Source<T, E>,
-        ensures ok { IfOk result (λ ys. (length ys ≡ N) × Gave F.gives (inner_of self.old) ys (inner_of self.new)) }
+        ensures ok { IfOk result (λ made. (length (items_of made) ≡ N) × Gave F.gives (inner_of self.old) (items_of made) (inner_of self.new)) }
         ensures err { IfErr result (λ e. Failed F.gives (inner_of self.old) N e (inner_of self.new)) }
     {
-        array_of(&mut self.source)
+        let items = array_of(&mut self.source)?;
+        Ok(Array { items })
     }
 
     pub fn into_inner(self) -> F
         ensures { result ≡ inner_of self }
     {
         self.source
+    }
+}
+
+/// An array by value. A result holds one beside an error that names a lifetime, where the borrow
+/// checker takes no array whose length is a parameter.
+#[derive(Drop)]
+pub struct Array<T, const N: usize> {
+    items: [T; N],
+}
+
+impl<T, const N: usize> Array<T, N> {
+    pub fn into_inner(self) -> [T; N]
+        ensures { result ≡ items_of self }
+    {
+        self.items
     }
 }
 
