@@ -6,3 +6,4 @@ pub mod Lists
 pub mod Recoding
 pub mod Text
 pub mod Arrays
+pub mod Windows

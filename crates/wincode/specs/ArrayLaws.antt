@@ -48,12 +48,13 @@ array_read_laws n proper g laws = record {
 
 -- ---- writing
 
-each_static : {X V : Type 0} (proper : X → Type 0) (seen : X → V) (can : V → Type 0) (size : V → ℕ) (s : ℕ) → ((x : X) → proper x → can (seen x) × (size (seen x) ≡ s)) → (xs : List X) → Each proper xs → Each can (map seen xs) × (total size (map seen xs) ≡ length xs * s)
-each_static proper seen can size s h [] p = (tt, omega arith)
-each_static proper seen can size s h (x ∷ xs) p =
-    let one = h x p.0 in
-    let more = each_static proper seen can size s h xs p.1 in
-    ((one.0, more.0), omega (arith, one.1, more.1))
+each_can : {X V : Type 0} (proper : X → Type 0) (seen : X → V) (can : V → Type 0) → ((x : X) → proper x → can (seen x)) → (xs : List X) → Each proper xs → Each can (map seen xs)
+each_can proper seen can h [] p = tt
+each_can proper seen can h (x ∷ xs) p = (h x p.0, each_can proper seen can h xs p.1)
+
+each_size : {V : Type 0} (can : V → Type 0) (size : V → ℕ) (s : ℕ) → ((v : V) → can v → size v ≡ s) → (vs : List V) → Each can vs → total size vs ≡ length vs * s
+each_size can size s h [] c = omega arith
+each_size can size s h (v ∷ vs) c = omega (arith, h v c.0, each_size can size s h vs c.1)
 
 write_static_if : {X V : Type 0} (proper : X → Type 0) (seen : X → V) (can : V → Type 0) (size : V → ℕ) (b : Bool) (m : TypeMeta) → IsWriteStatic proper seen can size m → IsWriteStatic proper seen can size (cond b m Dynamic)
 write_static_if proper seen can size true m h = h
@@ -62,7 +63,7 @@ write_static_if proper seen can size false m h = tt
 write_statics : {X V : Type 0} (n : ℕ) (proper : X → Type 0) (seen : X → V) (can : V → Type 0) (size : V → ℕ) (m : TypeMeta) → IsWriteStatic proper seen can size m → IsWriteStatic {X = List X} (IsArray n proper) (map seen) (IsArray n can) (total size) (times_meta n m)
 write_statics n proper seen can size Dynamic h = tt
 write_statics n proper seen can size (Static s z) h = write_static_if (IsArray n proper) (map seen) (IsArray n can) (total size) (nat_lt (n * s) (2 ^ 64)) (Static (n * s) z)
-    (λ xs p. let r = each_static proper seen can size s h xs p.1 in ((length-map xs seen ∙ p.0, r.0), r.1 ∙ ap (λ k. k * s) p.0))
+    ((λ xs p. (length-map xs seen ∙ p.0, each_can proper seen can h.0 xs p.1)), (λ vs c. each_size can size s h.1 vs c.1 ∙ ap (λ k. k * s) c.0))
 
 pub array_write_laws : {X V : Type 0} (n : ℕ) (proper : X → Type 0) (seen : X → V) (g : WriteGrammar V) → WriteLaws proper seen g → WriteLaws {X = List X} (IsArray n proper) (map seen) (array_write n g)
 array_write_laws n proper seen g laws =

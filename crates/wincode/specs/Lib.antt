@@ -15,5 +15,6 @@ pub mod Pairs
 pub mod PairLaws
 pub mod WriteSequences
 pub mod Show
+pub mod Wholes
 pub mod Text
 pub mod TextLaws

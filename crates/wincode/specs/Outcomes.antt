@@ -2,7 +2,7 @@
 use Rattle.std.specs.Prelude.{⊤, ◌≡◌, ℕ, ◌+◌, ◌*◌, ◌^◌, ◌<◌, ◌≤◌, min, Bool, false, ◌&&◌, List, [], ◌∷◌, ◌++◌, length, IsTrue, Option, Some}
 use Rattle.wincode_io.specs.Readers.{ReaderState, Kept, Takes, IsShort, IsRefused}
 use Rattle.wincode.specs.Numbers.{le}
-use Rattle.wincode_io.specs.Writers.{byte_limit}
+use Rattle.wincode_io.specs.Writers.{byte_limit, IsWriteRefused}
 use Rattle.wincode.specs.Grammar.{WriteGrammar}
 use Rattle.wincode.specs.Lengths.{Scheme, HasText}
 use Rattle.wincode.specs.Lists.{Each, total}
@@ -78,6 +78,18 @@ Excused asks sparing s (reading.Io (reader.Io e)) = s.steady ≡ false
 Excused asks sparing s reading.OutOfMemory = (s.steady && sparing) ≡ false
 Excused asks sparing s _ = ⊥
 
+-- what a schema says of its refusals: of the reader before and after, and the error
+abbrev pub Refusal : Type 1
+Refusal = ReaderState → ReaderState → ReadError → Type 0
+
+-- it is never refused
+abbrev pub never : Refusal
+never old new e = ⊥
+
+-- it says no more than that it is due
+abbrev pub unsaid : Refusal
+unsaid old new e = Unit {0}
+
 -- the k bytes of the number n were taken from the front
 abbrev pub TakesNumber : ℕ → ReaderState → ReaderState → ℕ → Type 0
 TakesNumber k old new n = (n < 256 ^ k) × Takes k old new (le k n)
@@ -134,6 +146,15 @@ WriteDue able steady failures _ = able → ⊥
 pub record Unwritten {S V : Type 0} (put : S → List ℕ → S) (room : S → ℕ) (g : WriteGrammar V) (old new : S) (v : V) (steady : Bool) (failures : ℕ) (e : WriteError) : Type 0 where
   pub began : g.can v → Began put room g old new v
   pub due : WriteDue (g.can v × (g.size v ≤ room old)) steady failures e
+
+-- A piece of n bytes was refused, and the writer has the state that it had.
+abbrev pub IsWriteDenied : {S : Type 0} → ℕ → ℕ → S → S → Bool → ℕ → WriteError → Type 0
+IsWriteDenied n room old new steady failures (writing.Io e) = IsWriteRefused old new (room < n) n steady failures e
+IsWriteDenied n room old new steady failures _ = ⊥
+
+-- What is written in one piece is refused as one piece of its size, where it can be written.
+abbrev pub IsWholeRefused : {S V : Type 0} → Bool → (S → ℕ) → WriteGrammar V → S → S → V → Bool → ℕ → WriteError → Type 0
+IsWholeRefused whole room g old new v steady failures e = IsTrue whole → g.can v → IsWriteDenied (g.size v) (room old) old new steady failures e
 
 -- a length or a size that overflows
 abbrev pub IsOverflow : WriteError → Type 0

@@ -93,7 +93,7 @@ text_reads_back prealloc asks sparing bytes = record {
 
 reference_static : {X Y V : Type 0} (proper : X → Type 0) (seen : X → V) (value : Y → X) (can : V → Type 0) (size : V → ℕ) (m : TypeMeta) → IsWriteStatic proper seen can size m → IsWriteStatic (λ y. proper (value y)) (λ y. seen (value y)) can size (reference_meta m)
 reference_static proper seen value can size Dynamic h = tt
-reference_static proper seen value can size (Static s z) h = λ y p. h (value y) p
+reference_static proper seen value can size (Static s z) h = (λ y p. h.0 (value y) p, h.1)
 
 -- `value` is what a reference refers to
 pub reference_write_laws : {X Y V : Type 0} (proper : X → Type 0) (seen : X → V) (value : Y → X) (g : WriteGrammar V) → WriteLaws proper seen g → WriteLaws (λ y. proper (value y)) (λ y. seen (value y)) (reference_write g)

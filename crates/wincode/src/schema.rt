@@ -1,13 +1,14 @@
 //! Schemas: how values of a type are read and written.
-ghost use Rattle.std.specs.Prelude.{◌≡◌, true, IfOk, IfErr, OnOk, OnErr};
+ghost use Rattle.std.specs.Prelude.{◌≡◌, Bool, true, IfOk, IfErr, OnOk, OnErr};
 ghost use Rattle.wincode.specs.Grammar.{ReadGrammar, WriteGrammar, ReadLaws, WriteLaws, ReadsBack};
-ghost use Rattle.wincode.specs.Outcomes.{Gives, Puts, Refuses, Wrote, Unwritten, IsSizeRefused};
+ghost use Rattle.wincode.specs.Outcomes.{Gives, Puts, Refuses, Refusal, Wrote, Unwritten, IsSizeRefused, IsWholeRefused};
 
 pub mod arrays;
 pub mod leaves;
 pub mod lists;
 pub(crate) mod numbers;
 pub mod text;
+pub(crate) mod whole;
 
 use crate::error::{ReadError, ReadResult, WriteResult};
 use crate::io::{Lending, Reader, Writer};
@@ -28,6 +29,9 @@ pub trait SchemaWrite {
 
     ghost writing: { WriteGrammar Value };
 
+    // Whether it is written in one piece: a refused write of a value that can be written adds nothing.
+    ghost whole: { Bool };
+
     /// The size that every text has, or none.
     fn type_meta() -> TypeMeta
         ensures { result ≡ writing.meta };
@@ -45,6 +49,7 @@ pub trait SchemaWrite {
         ensures ok { OnOk result (Wrote W.put W.room writing (W.state writer.old) (W.state writer.new) (seen src.now)) }
         ensures value { OnOk result (proper src.now) }
         ensures err { IfErr result (Unwritten W.put W.room writing (W.state writer.old) (W.state writer.new) (seen src.now) (W.steady (W.kept writer.old)) (W.failures writer.new)) }
+        ensures whole { IfErr result (IsWholeRefused whole W.room writing (W.state writer.old) (W.state writer.new) (seen src.now) (W.steady (W.kept writer.old)) (W.failures writer.new)) }
         ensures kept { W.kept writer.new ≡ W.kept writer.old };
 
     ghost write_laws: { WriteLaws proper seen writing };
@@ -64,6 +69,9 @@ pub trait SchemaRead<L: Lending> {
 
     ghost reading: { ReadGrammar Value };
 
+    // What it says of each refusal beyond that: the error, and where the reader then stands.
+    ghost refusal: { Refusal };
+
     /// The size that every text has, or none.
     fn type_meta() -> TypeMeta
         ensures { result ≡ reading.meta };
@@ -82,22 +90,32 @@ pub trait SchemaRead<L: Lending> {
     ) -> ReadResult<()>
         ensures ok { OnOk result (Puts reading.reads seen (R.state reader.old) (R.state reader.new) dst.new) }
         ensures err { IfErr result (Refuses reading.reads reading.asks reading.sparing (R.state reader.old) (R.state reader.new)) }
+        ensures refused { IfErr result (refusal (R.state reader.old) (R.state reader.new)) }
         ensures same { OnErr result (dst.new ≡ dst.old) };
 
+    ghost read_laws: { ReadLaws proper reading };
+}
+
+/// `get`, for every schema. It is no method of `SchemaRead`, which an implementation has to meet at its
+/// own types: beside an error that names a lifetime, the borrow checker takes no array whose length is
+/// a parameter.
+pub trait SchemaGet<L: Lending>: SchemaRead<L> {
     /// As `read`, and gives the value.
     fn get<R: Reader<L>>(alloc: Global, reader: &mut R) -> ReadResult<Self::Dst>
-        ensures ok { IfOk result (λ v. Gives reading.reads (R.state reader.old) (R.state reader.new) (seen v)) }
-        ensures err { IfErr result (Refuses reading.reads reading.asks reading.sparing (R.state reader.old) (R.state reader.new)) }
-    {
+        ensures ok { IfOk result (λ v. Gives Self.SchemaRead.reading.reads (R.state reader.old) (R.state reader.new) (Self.SchemaRead.seen v)) }
+        ensures err { IfErr result (Refuses Self.SchemaRead.reading.reads Self.SchemaRead.reading.asks Self.SchemaRead.reading.sparing (R.state reader.old) (R.state reader.new)) }
+        ensures refused { IfErr result (Self.SchemaRead.refusal (R.state reader.old) (R.state reader.new)) };
+}
+
+impl<L: Lending, T: SchemaRead<L>> SchemaGet<L> for T {
+    fn get<R: Reader<L>>(alloc: Global, reader: &mut R) -> ReadResult<T::Dst> {
         let mut dst = None;
-        Self::read(alloc, reader, &mut dst)?;
+        T::read(alloc, reader, &mut dst)?;
         match dst {
             Some(value) => Ok(value),
             None => unreachable!(),
         }
     }
-
-    ghost read_laws: { ReadLaws proper reading };
 }
 
 /// What is written reads back: a text of a value whose lengths are within their limits reads as it.

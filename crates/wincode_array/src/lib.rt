@@ -1,7 +1,7 @@
 //! Arrays of any length, made item by item from a source that may fail.
 #![tactic(auto)]
-ghost use Rattle.std.specs.Prelude.{◌≡◌, ℕ, ◌<◌, ◌-◌, ◌∷◌, List, length, MatchResult, Option, Result, Ok, IfOk, IfErr};
-ghost use Rattle.wincode_array.specs.Sources.{inner_of, items_of};
+ghost use Rattle.std.specs.Prelude.{◌≡◌, ℕ, ◌<◌, ◌-◌, ◌∷◌, List, length, MatchResult, Option, Some, Result, Ok, Err, IfOk, IfErr, OnOk, OnErr};
+ghost use Rattle.wincode_array.specs.Sources.{inner_of};
 ghost use Rattle.wincode_array.specs.Runs.{Runs, Stops, Gave, Failed, Attempts};
 
 mod in_place;
@@ -46,36 +46,25 @@ impl<F> Sourced<F> {
         Sourced { source }
     }
 
-    /// As `array_of`.
-    pub fn array<T: Drop, E: Drop, const N: usize>(&mut self) -> Result<Array<T, N>, E>
+    /// Puts what `array_of` answers into the destination. Refused, the destination is as it was.
+    pub fn fill<T: Drop, E: Drop, const N: usize>(
+        &mut self,
+        dst: &mut Option<[T; N]>,
+    ) -> Result<(), E>
     where
         F: Source<T, E>,
-        ensures ok { IfOk result (λ made. (length (items_of made) ≡ N) × Gave F.gives (inner_of self.old) (items_of made) (inner_of self.new)) }
+        ensures ok { OnOk result ((ys : List T) × (dst.new ≡ Some ys) × (length ys ≡ N) × Gave F.gives (inner_of self.old) ys (inner_of self.new)) }
         ensures err { IfErr result (λ e. Failed F.gives (inner_of self.old) N e (inner_of self.new)) }
+        ensures same { OnErr result (dst.new ≡ dst.old) }
     {
-        let items = array_of(&mut self.source)?;
-        Ok(Array { items })
+        let made = array_of(&mut self.source);
+        put(dst, made)
     }
 
     pub fn into_inner(self) -> F
         ensures { result ≡ inner_of self }
     {
         self.source
-    }
-}
-
-/// An array by value. A result holds one beside an error that names a lifetime, where the borrow
-/// checker takes no array whose length is a parameter.
-#[derive(Drop)]
-pub struct Array<T, const N: usize> {
-    items: [T; N],
-}
-
-impl<T, const N: usize> Array<T, N> {
-    pub fn into_inner(self) -> [T; N]
-        ensures { result ≡ items_of self }
-    {
-        self.items
     }
 }
 
@@ -115,6 +104,15 @@ fn done<T, E>(value: T) -> Result<T, E>
     ensures { result ≡ Ok value }
 {
     Ok(value)
+}
+
+/// Puts a value into the destination, or gives the refusal.
+fn put<A: Drop, E>(dst: &mut Option<A>, made: Result<A, E>) -> Result<(), E>
+    ensures ok { OnOk result ((value : A) × (made ≡ Ok value) × (dst.new ≡ Some value)) }
+    ensures err { IfErr result (λ e. (made ≡ Err e) × (dst.new ≡ dst.old)) }
+{
+    *dst = Some(made?);
+    Ok(())
 }
 
 /// A source with an item at hand, at first, and with its refusal kept.

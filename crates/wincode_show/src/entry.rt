@@ -9,12 +9,13 @@ ghost use Rattle.wincode.specs.LeafLaws.{number_read_laws, number_write_laws, nu
 ghost use Rattle.wincode.specs.Lists.{Each};
 ghost use Rattle.wincode.specs.ListLaws.{list_read_laws, list_write_laws, list_reads_back};
 ghost use Rattle.wincode.specs.PairLaws.{pair_read_laws, pair_write_laws, pair_reads_back, write_laws_by, reads_back_by};
+ghost use Rattle.wincode.specs.Outcomes.{unsaid};
 ghost use Rattle.wincode_show.specs.Entry.{tags_read, tags_write, entry_read, entry_write, Rewritten};
 
 use std::alloc::Global;
 use wincode::error::write_length_encoding_overflow;
 use wincode::io::{Lending, Reader, Writer};
-use wincode::{ReadResult, RoundTrip, SchemaRead, SchemaWrite, TypeMeta, WriteResult};
+use wincode::{ReadResult, RoundTrip, SchemaGet, SchemaRead, SchemaWrite, TypeMeta, WriteResult};
 
 /// A number with tags.
 #[derive(Debug, Drop)]
@@ -33,6 +34,8 @@ impl SchemaWrite for Entry {
     ghost proper = { λ e. (e.id < 256 ^ 8) × Each (λ n. n < 256 ^ 1) e.tags.items };
 
     ghost writing = { entry_write };
+
+    ghost whole = { false };
 
     fn type_meta() -> TypeMeta {
         TypeMeta::Dynamic
@@ -66,6 +69,8 @@ impl<L: Lending> SchemaRead<L> for Entry {
 
     ghost reading = { entry_read };
 
+    ghost refusal = { unsaid };
+
     fn type_meta() -> TypeMeta {
         TypeMeta::Dynamic
     }
@@ -79,8 +84,8 @@ impl<L: Lending> SchemaRead<L> for Entry {
         reader: &mut R,
         dst: &mut Option<Entry>,
     ) -> ReadResult<()> {
-        let id = <u64 as SchemaRead<L>>::get(alloc, reader)?;
-        let tags = <Vec<u8> as SchemaRead<L>>::get(alloc, reader)?;
+        let id = <u64 as SchemaGet<L>>::get(alloc, reader)?;
+        let tags = <Vec<u8> as SchemaGet<L>>::get(alloc, reader)?;
         *dst = Some(Entry { id, tags });
         Ok(())
     }

@@ -1,9 +1,12 @@
 //! Worked rows and vectors, as tables, and each public call once.
 ghost use Rattle.std.specs.Prelude.{◌<◌, IfOk};
 
+mod arrays;
+mod leaves;
 mod vectors;
 
 use super::entry::{Entry, rewrite};
+use arrays::array_answer;
 use std::alloc::Global;
 use std::io::ErrorKind;
 use std::test::Fail;
@@ -12,7 +15,7 @@ use wincode::io::{self, Lifetime, Writer};
 use wincode::len::{BincodeLen, SeqLen};
 use wincode::show::{RelayError, relay};
 use wincode::{
-    Error, ReadError, ReadResult, SchemaRead, SchemaWrite, TypeMeta, WriteError, deserialize,
+    Error, ReadError, ReadResult, SchemaGet, SchemaRead, SchemaWrite, TypeMeta, WriteError, deserialize,
     error, serialize, serialize_into, serialized_size,
 };
 
@@ -47,7 +50,7 @@ fn nested_lists(rt: HostRuntime) -> Result<(), Fail> {
 /// The refusal of a list of lists of numbers, and what is left of the bytes.
 fn refused(alloc: Global, bytes: &[u8]) -> Result<String, Fail> {
     let mut reader = bytes;
-    let answer = <Vec<Vec<u64>> as SchemaRead<Lifetime>>::get(alloc, &mut reader);
+    let answer = <Vec<Vec<u64>> as SchemaGet<Lifetime>>::get(alloc, &mut reader);
     let left = reader.len();
     match answer {
         Ok(_) => Err(Fail::from("read")),
@@ -238,12 +241,35 @@ fn other_answer(alloc: Global, name: &str, bytes: &[u8]) -> Result<Option<String
     outcome(alloc, text, left)
 }
 
+fn text_answer(alloc: Global, name: &str, bytes: &[u8]) -> Result<Option<String>, Fail> {
+    let mut reader = bytes;
+    let text = if name == "char" {
+        rewrite::<Lifetime, &[u8], char>(alloc, &mut reader)
+    } else if name == "String" {
+        rewrite::<Lifetime, &[u8], String>(alloc, &mut reader)
+    } else if name == "str" {
+        rewrite::<Lifetime, &[u8], &str>(alloc, &mut reader)
+    } else if name == "Vec<String>" {
+        rewrite::<Lifetime, &[u8], Vec<String>>(alloc, &mut reader)
+    } else {
+        return Ok(None);
+    };
+    let left = reader.len();
+    outcome(alloc, text, left)
+}
+
 /// What reading these bytes as the type of the name answers.
 fn answer(alloc: Global, name: &str, bytes: &[u8]) -> Result<String, Fail> {
     if let Some(found) = unsigned_answer(alloc, name, bytes)? {
         return Ok(found);
     }
     if let Some(found) = signed_answer(alloc, name, bytes)? {
+        return Ok(found);
+    }
+    if let Some(found) = text_answer(alloc, name, bytes)? {
+        return Ok(found);
+    }
+    if let Some(found) = array_answer(alloc, name, bytes)? {
         return Ok(found);
     }
     let found = other_answer(alloc, name, bytes)?;
@@ -280,7 +306,7 @@ fn first_unlike(alloc: Global, table: &str) -> Result<Option<String>, Fail> {
 #[test]
 fn answers_the_vectors(rt: HostRuntime) -> Result<(), Fail> {
     let rows = VECTORS.lines().count();
-    assert_eq!(rt; rows, 238);
+    assert_eq!(rt; rows, 336);
     let unlike = first_unlike(rt.alloc(), VECTORS)?;
     assert!(rt; unlike == None, "{unlike:?}");
     Ok(())
@@ -420,7 +446,7 @@ fn small_calls(rt: HostRuntime) -> Result<(), Fail> {
 /// What a `char` reads as, or its refusal, and how many bytes are left.
 fn read_char(alloc: Global, bytes: &[u8]) -> Result<String, Fail> {
     let mut reader = bytes;
-    let answer = <char as SchemaRead<Lifetime>>::get(alloc, &mut reader);
+    let answer = <char as SchemaGet<Lifetime>>::get(alloc, &mut reader);
     let left = reader.len();
     match answer {
         Ok(found) => Ok(format!(in alloc; "{found:?} {left}")?),
@@ -457,7 +483,7 @@ fn characters(rt: HostRuntime) -> Result<(), Fail> {
     chars_read(rt.alloc(), rows.as_slice())?;
     let mut last: &[u8] = &[244, 143, 191, 191];
     assert_eq!(rt;
-        <char as SchemaRead<Lifetime>>::get(rt.alloc(), &mut last)? as u32,
+        <char as SchemaGet<Lifetime>>::get(rt.alloc(), &mut last)? as u32,
         0x10_FFFF
     );
     Ok(())
@@ -466,7 +492,7 @@ fn characters(rt: HostRuntime) -> Result<(), Fail> {
 /// What a `String` and a `&str` read as, or their one refusal, and how many bytes are left.
 fn read_text(alloc: Global, bytes: &[u8]) -> Result<String, Fail> {
     let mut reader = bytes;
-    let answer = <String as SchemaRead<Lifetime>>::get(alloc, &mut reader);
+    let answer = <String as SchemaGet<Lifetime>>::get(alloc, &mut reader);
     let left = reader.len();
     match answer {
         Ok(found) => Ok(format!(in alloc; "{found} {left}")?),
@@ -477,7 +503,7 @@ fn read_text(alloc: Global, bytes: &[u8]) -> Result<String, Fail> {
 
 fn read_lent(alloc: Global, bytes: &[u8]) -> Result<String, Fail> {
     let mut reader = bytes;
-    let answer = <&str as SchemaRead<Lifetime>>::get(alloc, &mut reader);
+    let answer = <&str as SchemaGet<Lifetime>>::get(alloc, &mut reader);
     let left = reader.len();
     match answer {
         Ok(found) => Ok(format!(in alloc; "{found} {left}")?),

@@ -1,20 +1,20 @@
 //! Schemas of arrays.
-ghost use Rattle.std.specs.Prelude.{◌≡◌, ℕ, List, map, IfOk, IfErr, MatchResult, length};
+ghost use Rattle.std.specs.Prelude.{◌≡◌, ℕ, List, map, false, IfErr, OnOk, OnErr, MatchResult};
 ghost use Rattle.wincode_array.specs.Runs.{Gave, Failed};
-ghost use Rattle.wincode_array.specs.Sources.{items_of};
 ghost use Rattle.wincode.specs.Arrays.{times_meta, IsArray, array_read, array_write};
 ghost use Rattle.wincode.specs.ArrayLaws.{array_read_laws, array_write_laws, array_reads_back};
-ghost use Rattle.wincode.specs.Outcomes.{Gives, Refuses};
-ghost use Rattle.wincode.specs.declared.error.ReadError.{ReadError};
+ghost use Rattle.wincode.specs.Outcomes.{Gives, Puts, Refuses, unsaid};
+ghost use Rattle.wincode.specs.Wholes.{IsPlaced, is_static};
 
 use crate::error::{ReadError, ReadResult, WriteResult};
 use crate::io::{Lending, Reader, Writer};
 use crate::meta::TypeMeta;
 use crate::schema::lists::{add_sizes, write_items};
-use crate::schema::{RoundTrip, SchemaRead, SchemaWrite};
+use crate::schema::whole::{read_whole, write_whole};
+use crate::schema::{RoundTrip, SchemaGet, SchemaRead, SchemaWrite};
 use std::alloc::Global;
 use std::marker::PhantomData;
-use wincode_array::{Array, Source, Sourced};
+use wincode_array::{Source, Sourced};
 
 /// The items that a schema reads, one after another.
 #[derive(Drop)]
@@ -36,20 +36,22 @@ impl<'r, L: Lending, T: SchemaRead<L>, R: Reader<L>> Source<T::Dst, ReadError>
     }
 }
 
-/// Reads N items, one after another.
-fn get_items<L: Lending, T: SchemaRead<L>, R: Reader<L>, const N: usize>(
+/// Reads N items, one after another, into the destination.
+fn read_items<L: Lending, T: SchemaRead<L>, R: Reader<L>, const N: usize>(
     alloc: Global,
     reader: &mut R,
-) -> ReadResult<Array<T::Dst, N>>
-    ensures ok { IfOk result (λ made. Gives (array_read N T.reading).reads (R.state reader.old) (R.state reader.new) (map T.seen (items_of made))) }
+    dst: &mut Option<[T::Dst; N]>,
+) -> ReadResult<()>
+    ensures ok { OnOk result (Puts (array_read N T.reading).reads (λ xs. map T.seen xs) (R.state reader.old) (R.state reader.new) dst.new) }
     ensures err { IfErr result (Refuses (array_read N T.reading).reads T.reading.asks T.reading.sparing (R.state reader.old) (R.state reader.new)) }
+    ensures same { OnErr result (dst.new ≡ dst.old) }
 {
     let mut sourced = Sourced::new(Reading::<L, T, R> {
         alloc,
         reader,
         of: PhantomData,
     });
-    let result = sourced.array();
+    let result = sourced.fill(dst);
     let Reading {
         alloc: _,
         reader,
@@ -58,21 +60,6 @@ fn get_items<L: Lending, T: SchemaRead<L>, R: Reader<L>, const N: usize>(
     // No effect at run time. The proof reads what `reader` holds from this use of it.
     let _ = &*reader;
     result
-}
-
-/// Reads an array, with the refusal as another error. Beside an error that names a lifetime, as
-/// `ReadError` does, the borrow checker takes no array whose length is a parameter.
-fn get_array<L: Lending, T: SchemaRead<L>, R: Reader<L>, E: From<ReadError>, const N: usize>(
-    alloc: Global,
-    reader: &mut R,
-) -> Result<[T::Dst; N], E>
-    ensures ok { IfOk result (λ xs. Gives (array_read N T.reading).reads (R.state reader.old) (R.state reader.new) (map T.seen xs)) }
-    ensures err { IfErr result (λ e. (refusal : ReadError) × E.from_gives refusal e × Refuses (array_read N T.reading).reads T.reading.asks T.reading.sparing (R.state reader.old) (R.state reader.new) refusal) }
-{
-    match get_items::<L, T, R, N>(alloc, reader) {
-        Ok(made) => Ok(made.into_inner()),
-        Err(refusal) => Err(E::from(refusal)),
-    }
 }
 
 /// The size of `n` items, or none.
@@ -104,6 +91,8 @@ impl<T: SchemaWrite, const N: usize> SchemaWrite for Items<T, N> {
 
     ghost writing = { array_write N T.writing };
 
+    ghost whole = { false };
+
     fn type_meta() -> TypeMeta {
         size_of_items(N, T::type_meta())
     }
@@ -120,15 +109,17 @@ impl<T: SchemaWrite, const N: usize> SchemaWrite for Items<T, N> {
 }
 
 impl<L: Lending, T: SchemaRead<L>, const N: usize> SchemaRead<L> for Items<T, N> {
-    type Dst = Array<T::Dst, N>;
+    type Dst = [T::Dst; N];
 
     ghost Value = { List T.Value };
 
-    ghost seen = { λ made. map T.seen (items_of made) };
+    ghost seen = { λ xs. map T.seen xs };
 
     ghost proper = { IsArray N T.proper };
 
     ghost reading = { array_read N T.reading };
+
+    ghost refusal = { unsaid };
 
     fn type_meta() -> TypeMeta {
         size_of_items(N, T::type_meta())
@@ -141,10 +132,9 @@ impl<L: Lending, T: SchemaRead<L>, const N: usize> SchemaRead<L> for Items<T, N>
     fn read<R: Reader<L>>(
         alloc: Global,
         reader: &mut R,
-        dst: &mut Option<Array<T::Dst, N>>,
+        dst: &mut Option<[T::Dst; N]>,
     ) -> ReadResult<()> {
-        *dst = Some(get_items::<L, T, R, N>(alloc, reader)?);
-        Ok(())
+        read_items::<L, T, R, N>(alloc, reader, dst)
     }
 
     ghost read_laws = { array_read_laws N T.proper T.reading T.read_laws };
@@ -161,6 +151,8 @@ impl<T: SchemaWrite, const N: usize> SchemaWrite for [T; N] {
 
     ghost writing = { array_write N T.writing };
 
+    ghost whole = { is_static (times_meta N T.writing.meta) };
+
     fn type_meta() -> TypeMeta {
         <Items<T, N> as SchemaWrite>::type_meta()
     }
@@ -170,7 +162,7 @@ impl<T: SchemaWrite, const N: usize> SchemaWrite for [T; N] {
     }
 
     fn write<W: Writer>(writer: &mut W, src: &[T::Src; N]) -> WriteResult<()> {
-        <Items<T, N> as SchemaWrite>::write::<W>(writer, src)
+        write_whole::<Items<T, N>, W>(writer, src)
     }
 
     ghost write_laws = { array_write_laws N T.proper T.seen T.writing T.write_laws };
@@ -187,6 +179,8 @@ impl<L: Lending, T: SchemaRead<L>, const N: usize> SchemaRead<L> for [T; N] {
 
     ghost reading = { array_read N T.reading };
 
+    ghost refusal = { IsPlaced (times_meta N T.reading.meta) };
+
     fn type_meta() -> TypeMeta {
         <Items<T, N> as SchemaRead<L>>::type_meta()
     }
@@ -200,12 +194,7 @@ impl<L: Lending, T: SchemaRead<L>, const N: usize> SchemaRead<L> for [T; N] {
         reader: &mut R,
         dst: &mut Option<[T::Dst; N]>,
     ) -> ReadResult<()> {
-        *dst = Some(get_items::<L, T, R, N>(alloc, reader)?.into_inner());
-        Ok(())
-    }
-
-    fn get<R: Reader<L>>(alloc: Global, reader: &mut R) -> ReadResult<[T::Dst; N]> {
-        get_array::<L, T, R, ReadError, N>(alloc, reader)
+        read_whole::<L, Items<T, N>, R>(alloc, reader, dst)
     }
 
     ghost read_laws = { array_read_laws N T.proper T.reading T.read_laws };

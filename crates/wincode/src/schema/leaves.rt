@@ -4,7 +4,7 @@ ghost use Rattle.std.specs.Int.{w8, w16, w32, w64, w128};
 ghost use Rattle.std.proofs.Common.{lit≤};
 ghost use Rattle.wincode.specs.Leaves.{number_read, number_write, signed_read, signed_write, bool_read, bool_write, unit_read, unit_write};
 ghost use Rattle.wincode.specs.LeafLaws.{number_read_laws, number_write_laws, number_reads_back, signed_read_laws, signed_write_laws, signed_reads_back, bool_read_laws, bool_write_laws, bool_reads_back, unit_read_laws, unit_write_laws, unit_reads_back};
-ghost use Rattle.wincode.specs.Outcomes.{Puts, Refuses, IsDenied, IsBoolRefused};
+ghost use Rattle.wincode.specs.Outcomes.{never, IsDenied, IsBoolRefused};
 
 use crate::error::{ReadResult, WriteResult, invalid_bool_encoding};
 use crate::io::{Lending, Reader, Writer};
@@ -28,6 +28,8 @@ impl SchemaWrite for u8 {
     ghost proper = { λ v. v < 256 ^ 1 };
 
     ghost writing = { number_write 1 true };
+
+    ghost whole = { true };
 
     fn type_meta() -> TypeMeta {
         TypeMeta::Static {
@@ -59,6 +61,8 @@ impl<L: Lending> SchemaRead<L> for u8 {
 
     ghost reading = { number_read 1 true };
 
+    ghost refusal = { IsDenied 1 };
+
     fn type_meta() -> TypeMeta {
         TypeMeta::Static {
             size: 1,
@@ -70,12 +74,7 @@ impl<L: Lending> SchemaRead<L> for u8 {
         1
     }
 
-    fn read<R: Reader<L>>(_alloc: Global, reader: &mut R, dst: &mut Option<u8>) -> ReadResult<()>
-        ensures ok { OnOk result (Puts (number_read 1 true).reads (λ v. v) (R.state reader.old) (R.state reader.new) dst.new) }
-        ensures err { IfErr result (Refuses (number_read 1 true).reads 0 true (R.state reader.old) (R.state reader.new)) }
-        ensures same { OnErr result (dst.new ≡ dst.old) }
-        ensures denied { IfErr result (IsDenied 1 (R.state reader.old) (R.state reader.new)) }
-    {
+    fn read<R: Reader<L>>(_alloc: Global, reader: &mut R, dst: &mut Option<u8>) -> ReadResult<()> {
         *dst = Some(take_u8::<L, R>(reader)?);
         Ok(())
     }
@@ -97,6 +96,8 @@ impl SchemaWrite for u16 {
     ghost proper = { λ v. v < 256 ^ 2 };
 
     ghost writing = { number_write 2 true };
+
+    ghost whole = { true };
 
     fn type_meta() -> TypeMeta {
         TypeMeta::Static {
@@ -128,6 +129,8 @@ impl<L: Lending> SchemaRead<L> for u16 {
 
     ghost reading = { number_read 2 true };
 
+    ghost refusal = { IsDenied 2 };
+
     fn type_meta() -> TypeMeta {
         TypeMeta::Static {
             size: 2,
@@ -139,12 +142,7 @@ impl<L: Lending> SchemaRead<L> for u16 {
         2
     }
 
-    fn read<R: Reader<L>>(_alloc: Global, reader: &mut R, dst: &mut Option<u16>) -> ReadResult<()>
-        ensures ok { OnOk result (Puts (number_read 2 true).reads (λ v. v) (R.state reader.old) (R.state reader.new) dst.new) }
-        ensures err { IfErr result (Refuses (number_read 2 true).reads 0 true (R.state reader.old) (R.state reader.new)) }
-        ensures same { OnErr result (dst.new ≡ dst.old) }
-        ensures denied { IfErr result (IsDenied 2 (R.state reader.old) (R.state reader.new)) }
-    {
+    fn read<R: Reader<L>>(_alloc: Global, reader: &mut R, dst: &mut Option<u16>) -> ReadResult<()> {
         *dst = Some(take_u16::<L, R>(reader)?);
         Ok(())
     }
@@ -166,6 +164,8 @@ impl SchemaWrite for u32 {
     ghost proper = { λ v. v < 256 ^ 4 };
 
     ghost writing = { number_write 4 true };
+
+    ghost whole = { true };
 
     fn type_meta() -> TypeMeta {
         TypeMeta::Static {
@@ -197,6 +197,8 @@ impl<L: Lending> SchemaRead<L> for u32 {
 
     ghost reading = { number_read 4 true };
 
+    ghost refusal = { IsDenied 4 };
+
     fn type_meta() -> TypeMeta {
         TypeMeta::Static {
             size: 4,
@@ -208,12 +210,7 @@ impl<L: Lending> SchemaRead<L> for u32 {
         4
     }
 
-    fn read<R: Reader<L>>(_alloc: Global, reader: &mut R, dst: &mut Option<u32>) -> ReadResult<()>
-        ensures ok { OnOk result (Puts (number_read 4 true).reads (λ v. v) (R.state reader.old) (R.state reader.new) dst.new) }
-        ensures err { IfErr result (Refuses (number_read 4 true).reads 0 true (R.state reader.old) (R.state reader.new)) }
-        ensures same { OnErr result (dst.new ≡ dst.old) }
-        ensures denied { IfErr result (IsDenied 4 (R.state reader.old) (R.state reader.new)) }
-    {
+    fn read<R: Reader<L>>(_alloc: Global, reader: &mut R, dst: &mut Option<u32>) -> ReadResult<()> {
         *dst = Some(take_u32::<L, R>(reader)?);
         Ok(())
     }
@@ -235,6 +232,8 @@ impl SchemaWrite for u64 {
     ghost proper = { λ v. v < 256 ^ 8 };
 
     ghost writing = { number_write 8 true };
+
+    ghost whole = { true };
 
     fn type_meta() -> TypeMeta {
         TypeMeta::Static {
@@ -266,6 +265,8 @@ impl<L: Lending> SchemaRead<L> for u64 {
 
     ghost reading = { number_read 8 true };
 
+    ghost refusal = { IsDenied 8 };
+
     fn type_meta() -> TypeMeta {
         TypeMeta::Static {
             size: 8,
@@ -277,12 +278,7 @@ impl<L: Lending> SchemaRead<L> for u64 {
         8
     }
 
-    fn read<R: Reader<L>>(_alloc: Global, reader: &mut R, dst: &mut Option<u64>) -> ReadResult<()>
-        ensures ok { OnOk result (Puts (number_read 8 true).reads (λ v. v) (R.state reader.old) (R.state reader.new) dst.new) }
-        ensures err { IfErr result (Refuses (number_read 8 true).reads 0 true (R.state reader.old) (R.state reader.new)) }
-        ensures same { OnErr result (dst.new ≡ dst.old) }
-        ensures denied { IfErr result (IsDenied 8 (R.state reader.old) (R.state reader.new)) }
-    {
+    fn read<R: Reader<L>>(_alloc: Global, reader: &mut R, dst: &mut Option<u64>) -> ReadResult<()> {
         *dst = Some(take_u64::<L, R>(reader)?);
         Ok(())
     }
@@ -304,6 +300,8 @@ impl SchemaWrite for u128 {
     ghost proper = { λ v. v < 256 ^ 16 };
 
     ghost writing = { number_write 16 true };
+
+    ghost whole = { true };
 
     fn type_meta() -> TypeMeta {
         TypeMeta::Static {
@@ -335,6 +333,8 @@ impl<L: Lending> SchemaRead<L> for u128 {
 
     ghost reading = { number_read 16 true };
 
+    ghost refusal = { IsDenied 16 };
+
     fn type_meta() -> TypeMeta {
         TypeMeta::Static {
             size: 16,
@@ -346,12 +346,11 @@ impl<L: Lending> SchemaRead<L> for u128 {
         16
     }
 
-    fn read<R: Reader<L>>(_alloc: Global, reader: &mut R, dst: &mut Option<u128>) -> ReadResult<()>
-        ensures ok { OnOk result (Puts (number_read 16 true).reads (λ v. v) (R.state reader.old) (R.state reader.new) dst.new) }
-        ensures err { IfErr result (Refuses (number_read 16 true).reads 0 true (R.state reader.old) (R.state reader.new)) }
-        ensures same { OnErr result (dst.new ≡ dst.old) }
-        ensures denied { IfErr result (IsDenied 16 (R.state reader.old) (R.state reader.new)) }
-    {
+    fn read<R: Reader<L>>(
+        _alloc: Global,
+        reader: &mut R,
+        dst: &mut Option<u128>,
+    ) -> ReadResult<()> {
         *dst = Some(take_u128::<L, R>(reader)?);
         Ok(())
     }
@@ -373,6 +372,8 @@ impl SchemaWrite for usize {
     ghost proper = { λ v. v < 256 ^ 8 };
 
     ghost writing = { number_write 8 false };
+
+    ghost whole = { true };
 
     fn type_meta() -> TypeMeta {
         TypeMeta::Static {
@@ -404,6 +405,8 @@ impl<L: Lending> SchemaRead<L> for usize {
 
     ghost reading = { number_read 8 false };
 
+    ghost refusal = { IsDenied 8 };
+
     fn type_meta() -> TypeMeta {
         TypeMeta::Static {
             size: 8,
@@ -415,12 +418,11 @@ impl<L: Lending> SchemaRead<L> for usize {
         8
     }
 
-    fn read<R: Reader<L>>(_alloc: Global, reader: &mut R, dst: &mut Option<usize>) -> ReadResult<()>
-        ensures ok { OnOk result (Puts (number_read 8 false).reads (λ v. v) (R.state reader.old) (R.state reader.new) dst.new) }
-        ensures err { IfErr result (Refuses (number_read 8 false).reads 0 true (R.state reader.old) (R.state reader.new)) }
-        ensures same { OnErr result (dst.new ≡ dst.old) }
-        ensures denied { IfErr result (IsDenied 8 (R.state reader.old) (R.state reader.new)) }
-    {
+    fn read<R: Reader<L>>(
+        _alloc: Global,
+        reader: &mut R,
+        dst: &mut Option<usize>,
+    ) -> ReadResult<()> {
         *dst = Some(take_u64::<L, R>(reader)? as usize);
         Ok(())
     }
@@ -442,6 +444,8 @@ impl SchemaWrite for i8 {
     ghost proper = { FitsSigned w8 };
 
     ghost writing = { signed_write w8 true };
+
+    ghost whole = { true };
 
     fn type_meta() -> TypeMeta {
         TypeMeta::Static {
@@ -473,6 +477,8 @@ impl<L: Lending> SchemaRead<L> for i8 {
 
     ghost reading = { signed_read w8 true };
 
+    ghost refusal = { IsDenied 1 };
+
     fn type_meta() -> TypeMeta {
         TypeMeta::Static {
             size: 1,
@@ -484,12 +490,7 @@ impl<L: Lending> SchemaRead<L> for i8 {
         1
     }
 
-    fn read<R: Reader<L>>(_alloc: Global, reader: &mut R, dst: &mut Option<i8>) -> ReadResult<()>
-        ensures ok { OnOk result (Puts (signed_read w8 true).reads (λ v. v) (R.state reader.old) (R.state reader.new) dst.new) }
-        ensures err { IfErr result (Refuses (signed_read w8 true).reads 0 true (R.state reader.old) (R.state reader.new)) }
-        ensures same { OnErr result (dst.new ≡ dst.old) }
-        ensures denied { IfErr result (IsDenied 1 (R.state reader.old) (R.state reader.new)) }
-    {
+    fn read<R: Reader<L>>(_alloc: Global, reader: &mut R, dst: &mut Option<i8>) -> ReadResult<()> {
         *dst = Some(take_i8::<L, R>(reader)?);
         Ok(())
     }
@@ -511,6 +512,8 @@ impl SchemaWrite for i16 {
     ghost proper = { FitsSigned w16 };
 
     ghost writing = { signed_write w16 true };
+
+    ghost whole = { true };
 
     fn type_meta() -> TypeMeta {
         TypeMeta::Static {
@@ -542,6 +545,8 @@ impl<L: Lending> SchemaRead<L> for i16 {
 
     ghost reading = { signed_read w16 true };
 
+    ghost refusal = { IsDenied 2 };
+
     fn type_meta() -> TypeMeta {
         TypeMeta::Static {
             size: 2,
@@ -553,12 +558,7 @@ impl<L: Lending> SchemaRead<L> for i16 {
         2
     }
 
-    fn read<R: Reader<L>>(_alloc: Global, reader: &mut R, dst: &mut Option<i16>) -> ReadResult<()>
-        ensures ok { OnOk result (Puts (signed_read w16 true).reads (λ v. v) (R.state reader.old) (R.state reader.new) dst.new) }
-        ensures err { IfErr result (Refuses (signed_read w16 true).reads 0 true (R.state reader.old) (R.state reader.new)) }
-        ensures same { OnErr result (dst.new ≡ dst.old) }
-        ensures denied { IfErr result (IsDenied 2 (R.state reader.old) (R.state reader.new)) }
-    {
+    fn read<R: Reader<L>>(_alloc: Global, reader: &mut R, dst: &mut Option<i16>) -> ReadResult<()> {
         *dst = Some(take_i16::<L, R>(reader)?);
         Ok(())
     }
@@ -580,6 +580,8 @@ impl SchemaWrite for i32 {
     ghost proper = { FitsSigned w32 };
 
     ghost writing = { signed_write w32 true };
+
+    ghost whole = { true };
 
     fn type_meta() -> TypeMeta {
         TypeMeta::Static {
@@ -611,6 +613,8 @@ impl<L: Lending> SchemaRead<L> for i32 {
 
     ghost reading = { signed_read w32 true };
 
+    ghost refusal = { IsDenied 4 };
+
     fn type_meta() -> TypeMeta {
         TypeMeta::Static {
             size: 4,
@@ -622,12 +626,7 @@ impl<L: Lending> SchemaRead<L> for i32 {
         4
     }
 
-    fn read<R: Reader<L>>(_alloc: Global, reader: &mut R, dst: &mut Option<i32>) -> ReadResult<()>
-        ensures ok { OnOk result (Puts (signed_read w32 true).reads (λ v. v) (R.state reader.old) (R.state reader.new) dst.new) }
-        ensures err { IfErr result (Refuses (signed_read w32 true).reads 0 true (R.state reader.old) (R.state reader.new)) }
-        ensures same { OnErr result (dst.new ≡ dst.old) }
-        ensures denied { IfErr result (IsDenied 4 (R.state reader.old) (R.state reader.new)) }
-    {
+    fn read<R: Reader<L>>(_alloc: Global, reader: &mut R, dst: &mut Option<i32>) -> ReadResult<()> {
         *dst = Some(take_i32::<L, R>(reader)?);
         Ok(())
     }
@@ -649,6 +648,8 @@ impl SchemaWrite for i64 {
     ghost proper = { FitsSigned w64 };
 
     ghost writing = { signed_write w64 true };
+
+    ghost whole = { true };
 
     fn type_meta() -> TypeMeta {
         TypeMeta::Static {
@@ -680,6 +681,8 @@ impl<L: Lending> SchemaRead<L> for i64 {
 
     ghost reading = { signed_read w64 true };
 
+    ghost refusal = { IsDenied 8 };
+
     fn type_meta() -> TypeMeta {
         TypeMeta::Static {
             size: 8,
@@ -691,12 +694,7 @@ impl<L: Lending> SchemaRead<L> for i64 {
         8
     }
 
-    fn read<R: Reader<L>>(_alloc: Global, reader: &mut R, dst: &mut Option<i64>) -> ReadResult<()>
-        ensures ok { OnOk result (Puts (signed_read w64 true).reads (λ v. v) (R.state reader.old) (R.state reader.new) dst.new) }
-        ensures err { IfErr result (Refuses (signed_read w64 true).reads 0 true (R.state reader.old) (R.state reader.new)) }
-        ensures same { OnErr result (dst.new ≡ dst.old) }
-        ensures denied { IfErr result (IsDenied 8 (R.state reader.old) (R.state reader.new)) }
-    {
+    fn read<R: Reader<L>>(_alloc: Global, reader: &mut R, dst: &mut Option<i64>) -> ReadResult<()> {
         *dst = Some(take_i64::<L, R>(reader)?);
         Ok(())
     }
@@ -718,6 +716,8 @@ impl SchemaWrite for i128 {
     ghost proper = { FitsSigned w128 };
 
     ghost writing = { signed_write w128 true };
+
+    ghost whole = { true };
 
     fn type_meta() -> TypeMeta {
         TypeMeta::Static {
@@ -749,6 +749,8 @@ impl<L: Lending> SchemaRead<L> for i128 {
 
     ghost reading = { signed_read w128 true };
 
+    ghost refusal = { IsDenied 16 };
+
     fn type_meta() -> TypeMeta {
         TypeMeta::Static {
             size: 16,
@@ -760,12 +762,11 @@ impl<L: Lending> SchemaRead<L> for i128 {
         16
     }
 
-    fn read<R: Reader<L>>(_alloc: Global, reader: &mut R, dst: &mut Option<i128>) -> ReadResult<()>
-        ensures ok { OnOk result (Puts (signed_read w128 true).reads (λ v. v) (R.state reader.old) (R.state reader.new) dst.new) }
-        ensures err { IfErr result (Refuses (signed_read w128 true).reads 0 true (R.state reader.old) (R.state reader.new)) }
-        ensures same { OnErr result (dst.new ≡ dst.old) }
-        ensures denied { IfErr result (IsDenied 16 (R.state reader.old) (R.state reader.new)) }
-    {
+    fn read<R: Reader<L>>(
+        _alloc: Global,
+        reader: &mut R,
+        dst: &mut Option<i128>,
+    ) -> ReadResult<()> {
         *dst = Some(take_i128::<L, R>(reader)?);
         Ok(())
     }
@@ -787,6 +788,8 @@ impl SchemaWrite for isize {
     ghost proper = { FitsSigned w64 };
 
     ghost writing = { signed_write w64 false };
+
+    ghost whole = { true };
 
     fn type_meta() -> TypeMeta {
         TypeMeta::Static {
@@ -818,6 +821,8 @@ impl<L: Lending> SchemaRead<L> for isize {
 
     ghost reading = { signed_read w64 false };
 
+    ghost refusal = { IsDenied 8 };
+
     fn type_meta() -> TypeMeta {
         TypeMeta::Static {
             size: 8,
@@ -829,12 +834,11 @@ impl<L: Lending> SchemaRead<L> for isize {
         8
     }
 
-    fn read<R: Reader<L>>(_alloc: Global, reader: &mut R, dst: &mut Option<isize>) -> ReadResult<()>
-        ensures ok { OnOk result (Puts (signed_read w64 false).reads (λ v. v) (R.state reader.old) (R.state reader.new) dst.new) }
-        ensures err { IfErr result (Refuses (signed_read w64 false).reads 0 true (R.state reader.old) (R.state reader.new)) }
-        ensures same { OnErr result (dst.new ≡ dst.old) }
-        ensures denied { IfErr result (IsDenied 8 (R.state reader.old) (R.state reader.new)) }
-    {
+    fn read<R: Reader<L>>(
+        _alloc: Global,
+        reader: &mut R,
+        dst: &mut Option<isize>,
+    ) -> ReadResult<()> {
         *dst = Some(take_i64::<L, R>(reader)? as isize);
         Ok(())
     }
@@ -856,6 +860,8 @@ impl SchemaWrite for bool {
     ghost proper = { λ v. Unit {0} };
 
     ghost writing = { bool_write };
+
+    ghost whole = { true };
 
     fn type_meta() -> TypeMeta {
         TypeMeta::Static {
@@ -888,6 +894,8 @@ impl<L: Lending> SchemaRead<L> for bool {
 
     ghost reading = { bool_read };
 
+    ghost refusal = { IsBoolRefused };
+
     fn type_meta() -> TypeMeta {
         TypeMeta::Static {
             size: 1,
@@ -900,12 +908,11 @@ impl<L: Lending> SchemaRead<L> for bool {
     }
 
     /// A byte that is neither 0 nor 1 is consumed, and is `InvalidBoolEncoding`.
-    fn read<R: Reader<L>>(_alloc: Global, reader: &mut R, dst: &mut Option<bool>) -> ReadResult<()>
-        ensures ok { OnOk result (Puts bool_read.reads (λ v. v) (R.state reader.old) (R.state reader.new) dst.new) }
-        ensures err { IfErr result (Refuses bool_read.reads 0 true (R.state reader.old) (R.state reader.new)) }
-        ensures same { OnErr result (dst.new ≡ dst.old) }
-        ensures refused { IfErr result (IsBoolRefused (R.state reader.old) (R.state reader.new)) }
-    {
+    fn read<R: Reader<L>>(
+        _alloc: Global,
+        reader: &mut R,
+        dst: &mut Option<bool>,
+    ) -> ReadResult<()> {
         let byte = take_u8::<L, R>(reader)?;
         if byte > 1 {
             return Err(invalid_bool_encoding(byte));
@@ -931,6 +938,8 @@ impl SchemaWrite for () {
     ghost proper = { λ _. Unit {0} };
 
     ghost writing = { unit_write };
+
+    ghost whole = { true };
 
     fn type_meta() -> TypeMeta {
         TypeMeta::Static {
@@ -961,6 +970,8 @@ impl<L: Lending> SchemaRead<L> for () {
     ghost proper = { λ _. Unit {0} };
 
     ghost reading = { unit_read };
+
+    ghost refusal = { never };
 
     fn type_meta() -> TypeMeta {
         TypeMeta::Static {
@@ -996,6 +1007,8 @@ impl<T> SchemaWrite for PhantomData<T> {
 
     ghost writing = { unit_write };
 
+    ghost whole = { true };
+
     fn type_meta() -> TypeMeta {
         TypeMeta::Static {
             size: 0,
@@ -1025,6 +1038,8 @@ impl<L: Lending, T> SchemaRead<L> for PhantomData<T> {
     ghost proper = { λ _. Unit {0} };
 
     ghost reading = { unit_read };
+
+    ghost refusal = { never };
 
     fn type_meta() -> TypeMeta {
         TypeMeta::Static {

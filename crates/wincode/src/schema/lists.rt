@@ -4,13 +4,13 @@ ghost use Rattle.wincode.specs.Lengths.{bincode};
 ghost use Rattle.wincode.specs.LengthLaws.{bincode_laws};
 ghost use Rattle.wincode.specs.Lists.{AreItems, Each, total, items_write, list_read, list_write};
 ghost use Rattle.wincode.specs.ListLaws.{list_read_laws, list_write_laws, list_reads_back};
-ghost use Rattle.wincode.specs.Outcomes.{Gives, Refuses, Wrote, Unwritten, IsSizeRefused, IsSumRefused};
+ghost use Rattle.wincode.specs.Outcomes.{Gives, Refuses, unsaid, Wrote, Unwritten, IsSizeRefused, IsSumRefused};
 
 use crate::error::{ReadError, ReadResult, WriteResult, write_length_encoding_overflow};
 use crate::io::{Lending, Reader, Writer};
 use crate::len::{BincodeLen, SeqLen};
 use crate::meta::TypeMeta;
-use crate::schema::{RoundTrip, SchemaRead, SchemaWrite};
+use crate::schema::{RoundTrip, SchemaGet, SchemaRead, SchemaWrite};
 use std::alloc::Global;
 
 /// Reads `n` items, one after another, into memory for them.
@@ -113,6 +113,8 @@ impl<T: SchemaWrite> SchemaWrite for Vec<T> {
 
     ghost writing = { list_write (bincode 4194304) T.writing };
 
+    ghost whole = { false };
+
     fn type_meta() -> TypeMeta {
         TypeMeta::Dynamic
     }
@@ -138,6 +140,8 @@ impl<L: Lending, T: SchemaRead<L>> SchemaRead<L> for Vec<T> {
     ghost proper = { Each T.proper };
 
     ghost reading = { list_read (bincode 4194304) T.reading };
+
+    ghost refusal = { unsaid };
 
     fn type_meta() -> TypeMeta {
         TypeMeta::Dynamic

@@ -3,7 +3,7 @@ ghost use Rattle.std.specs.Prelude.{◌≡◌, true, false, IfOk, IfErr, OnOk};
 ghost use Rattle.std.specs.Int.{w8, w16, w32, w64, w128};
 ghost use Rattle.wincode_io.specs.Readers.{Takes};
 ghost use Rattle.wincode.specs.Leaves.{number_read, number_write, signed_read, signed_write, unit_write};
-ghost use Rattle.wincode.specs.Outcomes.{Gives, Refuses, TakesNumber, IsDenied, Wrote, Unwritten};
+ghost use Rattle.wincode.specs.Outcomes.{Gives, Refuses, TakesNumber, IsDenied, Wrote, Unwritten, IsWholeRefused};
 
 use crate::error::{ReadResult, WriteResult};
 use crate::io::{Lending, Reader, Writer, fill_array};
@@ -129,6 +129,7 @@ pub(crate) fn take_i128<L: Lending, R: Reader<L>>(reader: &mut R) -> ReadResult<
 pub(crate) fn put_u8<W: Writer>(writer: &mut W, number: u8) -> WriteResult<()>
     ensures ok { OnOk result (Wrote W.put W.room (number_write 1 true) (W.state writer.old) (W.state writer.new) number) }
     ensures err { IfErr result (Unwritten W.put W.room (number_write 1 true) (W.state writer.old) (W.state writer.new) number (W.steady (W.kept writer.old)) (W.failures writer.new)) }
+    ensures whole { IfErr result (IsWholeRefused true W.room (number_write 1 true) (W.state writer.old) (W.state writer.new) number (W.steady (W.kept writer.old)) (W.failures writer.new)) }
     ensures kept { W.kept writer.new ≡ W.kept writer.old }
 {
     writer.write(&number.to_le_bytes())?;
@@ -139,6 +140,7 @@ pub(crate) fn put_u8<W: Writer>(writer: &mut W, number: u8) -> WriteResult<()>
 pub(crate) fn put_u16<W: Writer>(writer: &mut W, number: u16) -> WriteResult<()>
     ensures ok { OnOk result (Wrote W.put W.room (number_write 2 true) (W.state writer.old) (W.state writer.new) number) }
     ensures err { IfErr result (Unwritten W.put W.room (number_write 2 true) (W.state writer.old) (W.state writer.new) number (W.steady (W.kept writer.old)) (W.failures writer.new)) }
+    ensures whole { IfErr result (IsWholeRefused true W.room (number_write 2 true) (W.state writer.old) (W.state writer.new) number (W.steady (W.kept writer.old)) (W.failures writer.new)) }
     ensures kept { W.kept writer.new ≡ W.kept writer.old }
 {
     writer.write(&number.to_le_bytes())?;
@@ -149,6 +151,7 @@ pub(crate) fn put_u16<W: Writer>(writer: &mut W, number: u16) -> WriteResult<()>
 pub(crate) fn put_u32<W: Writer>(writer: &mut W, number: u32) -> WriteResult<()>
     ensures ok { OnOk result (Wrote W.put W.room (number_write 4 true) (W.state writer.old) (W.state writer.new) number) }
     ensures err { IfErr result (Unwritten W.put W.room (number_write 4 true) (W.state writer.old) (W.state writer.new) number (W.steady (W.kept writer.old)) (W.failures writer.new)) }
+    ensures whole { IfErr result (IsWholeRefused true W.room (number_write 4 true) (W.state writer.old) (W.state writer.new) number (W.steady (W.kept writer.old)) (W.failures writer.new)) }
     ensures kept { W.kept writer.new ≡ W.kept writer.old }
 {
     writer.write(&number.to_le_bytes())?;
@@ -159,6 +162,7 @@ pub(crate) fn put_u32<W: Writer>(writer: &mut W, number: u32) -> WriteResult<()>
 pub(crate) fn put_u64<W: Writer>(writer: &mut W, number: u64) -> WriteResult<()>
     ensures ok { OnOk result (Wrote W.put W.room (number_write 8 true) (W.state writer.old) (W.state writer.new) number) }
     ensures err { IfErr result (Unwritten W.put W.room (number_write 8 true) (W.state writer.old) (W.state writer.new) number (W.steady (W.kept writer.old)) (W.failures writer.new)) }
+    ensures whole { IfErr result (IsWholeRefused true W.room (number_write 8 true) (W.state writer.old) (W.state writer.new) number (W.steady (W.kept writer.old)) (W.failures writer.new)) }
     ensures kept { W.kept writer.new ≡ W.kept writer.old }
 {
     writer.write(&number.to_le_bytes())?;
@@ -169,6 +173,7 @@ pub(crate) fn put_u64<W: Writer>(writer: &mut W, number: u64) -> WriteResult<()>
 pub(crate) fn put_u128<W: Writer>(writer: &mut W, number: u128) -> WriteResult<()>
     ensures ok { OnOk result (Wrote W.put W.room (number_write 16 true) (W.state writer.old) (W.state writer.new) number) }
     ensures err { IfErr result (Unwritten W.put W.room (number_write 16 true) (W.state writer.old) (W.state writer.new) number (W.steady (W.kept writer.old)) (W.failures writer.new)) }
+    ensures whole { IfErr result (IsWholeRefused true W.room (number_write 16 true) (W.state writer.old) (W.state writer.new) number (W.steady (W.kept writer.old)) (W.failures writer.new)) }
     ensures kept { W.kept writer.new ≡ W.kept writer.old }
 {
     writer.write(&number.to_le_bytes())?;
@@ -179,6 +184,7 @@ pub(crate) fn put_u128<W: Writer>(writer: &mut W, number: u128) -> WriteResult<(
 pub(crate) fn put_usize<W: Writer>(writer: &mut W, number: usize) -> WriteResult<()>
     ensures ok { OnOk result (Wrote W.put W.room (number_write 8 false) (W.state writer.old) (W.state writer.new) number) }
     ensures err { IfErr result (Unwritten W.put W.room (number_write 8 false) (W.state writer.old) (W.state writer.new) number (W.steady (W.kept writer.old)) (W.failures writer.new)) }
+    ensures whole { IfErr result (IsWholeRefused true W.room (number_write 8 false) (W.state writer.old) (W.state writer.new) number (W.steady (W.kept writer.old)) (W.failures writer.new)) }
     ensures kept { W.kept writer.new ≡ W.kept writer.old }
 {
     writer.write(&number.to_le_bytes())?;
@@ -189,6 +195,7 @@ pub(crate) fn put_usize<W: Writer>(writer: &mut W, number: usize) -> WriteResult
 pub(crate) fn put_i8<W: Writer>(writer: &mut W, number: i8) -> WriteResult<()>
     ensures ok { OnOk result (Wrote W.put W.room (signed_write w8 true) (W.state writer.old) (W.state writer.new) number) }
     ensures err { IfErr result (Unwritten W.put W.room (signed_write w8 true) (W.state writer.old) (W.state writer.new) number (W.steady (W.kept writer.old)) (W.failures writer.new)) }
+    ensures whole { IfErr result (IsWholeRefused true W.room (signed_write w8 true) (W.state writer.old) (W.state writer.new) number (W.steady (W.kept writer.old)) (W.failures writer.new)) }
     ensures kept { W.kept writer.new ≡ W.kept writer.old }
 {
     writer.write(&number.to_le_bytes())?;
@@ -199,6 +206,7 @@ pub(crate) fn put_i8<W: Writer>(writer: &mut W, number: i8) -> WriteResult<()>
 pub(crate) fn put_i16<W: Writer>(writer: &mut W, number: i16) -> WriteResult<()>
     ensures ok { OnOk result (Wrote W.put W.room (signed_write w16 true) (W.state writer.old) (W.state writer.new) number) }
     ensures err { IfErr result (Unwritten W.put W.room (signed_write w16 true) (W.state writer.old) (W.state writer.new) number (W.steady (W.kept writer.old)) (W.failures writer.new)) }
+    ensures whole { IfErr result (IsWholeRefused true W.room (signed_write w16 true) (W.state writer.old) (W.state writer.new) number (W.steady (W.kept writer.old)) (W.failures writer.new)) }
     ensures kept { W.kept writer.new ≡ W.kept writer.old }
 {
     writer.write(&number.to_le_bytes())?;
@@ -209,6 +217,7 @@ pub(crate) fn put_i16<W: Writer>(writer: &mut W, number: i16) -> WriteResult<()>
 pub(crate) fn put_i32<W: Writer>(writer: &mut W, number: i32) -> WriteResult<()>
     ensures ok { OnOk result (Wrote W.put W.room (signed_write w32 true) (W.state writer.old) (W.state writer.new) number) }
     ensures err { IfErr result (Unwritten W.put W.room (signed_write w32 true) (W.state writer.old) (W.state writer.new) number (W.steady (W.kept writer.old)) (W.failures writer.new)) }
+    ensures whole { IfErr result (IsWholeRefused true W.room (signed_write w32 true) (W.state writer.old) (W.state writer.new) number (W.steady (W.kept writer.old)) (W.failures writer.new)) }
     ensures kept { W.kept writer.new ≡ W.kept writer.old }
 {
     writer.write(&number.to_le_bytes())?;
@@ -219,6 +228,7 @@ pub(crate) fn put_i32<W: Writer>(writer: &mut W, number: i32) -> WriteResult<()>
 pub(crate) fn put_i64<W: Writer>(writer: &mut W, number: i64) -> WriteResult<()>
     ensures ok { OnOk result (Wrote W.put W.room (signed_write w64 true) (W.state writer.old) (W.state writer.new) number) }
     ensures err { IfErr result (Unwritten W.put W.room (signed_write w64 true) (W.state writer.old) (W.state writer.new) number (W.steady (W.kept writer.old)) (W.failures writer.new)) }
+    ensures whole { IfErr result (IsWholeRefused true W.room (signed_write w64 true) (W.state writer.old) (W.state writer.new) number (W.steady (W.kept writer.old)) (W.failures writer.new)) }
     ensures kept { W.kept writer.new ≡ W.kept writer.old }
 {
     writer.write(&number.to_le_bytes())?;
@@ -229,6 +239,7 @@ pub(crate) fn put_i64<W: Writer>(writer: &mut W, number: i64) -> WriteResult<()>
 pub(crate) fn put_i128<W: Writer>(writer: &mut W, number: i128) -> WriteResult<()>
     ensures ok { OnOk result (Wrote W.put W.room (signed_write w128 true) (W.state writer.old) (W.state writer.new) number) }
     ensures err { IfErr result (Unwritten W.put W.room (signed_write w128 true) (W.state writer.old) (W.state writer.new) number (W.steady (W.kept writer.old)) (W.failures writer.new)) }
+    ensures whole { IfErr result (IsWholeRefused true W.room (signed_write w128 true) (W.state writer.old) (W.state writer.new) number (W.steady (W.kept writer.old)) (W.failures writer.new)) }
     ensures kept { W.kept writer.new ≡ W.kept writer.old }
 {
     writer.write(&number.to_le_bytes())?;
@@ -239,6 +250,7 @@ pub(crate) fn put_i128<W: Writer>(writer: &mut W, number: i128) -> WriteResult<(
 pub(crate) fn put_isize<W: Writer>(writer: &mut W, number: isize) -> WriteResult<()>
     ensures ok { OnOk result (Wrote W.put W.room (signed_write w64 false) (W.state writer.old) (W.state writer.new) number) }
     ensures err { IfErr result (Unwritten W.put W.room (signed_write w64 false) (W.state writer.old) (W.state writer.new) number (W.steady (W.kept writer.old)) (W.failures writer.new)) }
+    ensures whole { IfErr result (IsWholeRefused true W.room (signed_write w64 false) (W.state writer.old) (W.state writer.new) number (W.steady (W.kept writer.old)) (W.failures writer.new)) }
     ensures kept { W.kept writer.new ≡ W.kept writer.old }
 {
     writer.write(&number.to_le_bytes())?;
@@ -249,6 +261,7 @@ pub(crate) fn put_isize<W: Writer>(writer: &mut W, number: isize) -> WriteResult
 pub(crate) fn put_nothing<W: Writer>(writer: &mut W) -> WriteResult<()>
     ensures ok { OnOk result (Wrote W.put W.room unit_write (W.state writer.old) (W.state writer.new) tt) }
     ensures err { IfErr result (Unwritten W.put W.room unit_write (W.state writer.old) (W.state writer.new) tt (W.steady (W.kept writer.old)) (W.failures writer.new)) }
+    ensures whole { IfErr result (IsWholeRefused true W.room unit_write (W.state writer.old) (W.state writer.new) tt (W.steady (W.kept writer.old)) (W.failures writer.new)) }
     ensures kept { W.kept writer.new ≡ W.kept writer.old }
 {
     let _ = &*writer;

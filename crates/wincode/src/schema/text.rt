@@ -74,6 +74,8 @@ impl SchemaWrite for char {
 
     ghost writing = { char_write };
 
+    ghost whole = { true };
+
     fn type_meta() -> TypeMeta {
         TypeMeta::Dynamic
     }
@@ -105,6 +107,8 @@ impl<L: Lending> SchemaRead<L> for char {
 
     ghost reading = { char_read };
 
+    ghost refusal = { IsCharRefused };
+
     fn type_meta() -> TypeMeta {
         TypeMeta::Dynamic
     }
@@ -116,12 +120,11 @@ impl<L: Lending> SchemaRead<L> for char {
     /// A refused `char` consumes nothing. No byte at all is `ReadSizeLimit(1)`, a byte that begins no
     /// character is `InvalidCharLead`, fewer bytes than the first announces are `ReadSizeLimit` of
     /// their number, and bytes that are not UTF-8 are `InvalidUtf8Encoding`.
-    fn read<R: Reader<L>>(_alloc: Global, reader: &mut R, dst: &mut Option<char>) -> ReadResult<()>
-        ensures ok { OnOk result (Puts char_read.reads (λ c. c) (R.state reader.old) (R.state reader.new) dst.new) }
-        ensures err { IfErr result (Refuses char_read.reads 0 true (R.state reader.old) (R.state reader.new)) }
-        ensures same { OnErr result (dst.new ≡ dst.old) }
-        ensures refused { IfErr result (IsCharRefused (R.state reader.old) (R.state reader.new)) }
-    {
+    fn read<R: Reader<L>>(
+        _alloc: Global,
+        reader: &mut R,
+        dst: &mut Option<char>,
+    ) -> ReadResult<()> {
         *dst = Some(take_char::<L, R>(reader)?);
         Ok(())
     }
@@ -212,6 +215,8 @@ impl SchemaWrite for String {
 
     ghost writing = { text_write 24 };
 
+    ghost whole = { false };
+
     fn type_meta() -> TypeMeta {
         TypeMeta::Dynamic
     }
@@ -238,6 +243,8 @@ impl<L: Lending> SchemaRead<L> for String {
 
     ghost reading = { text_read 24 0 false };
 
+    ghost refusal = { IsTextRefused (λ _. ⊥) ⊤ };
+
     fn type_meta() -> TypeMeta {
         TypeMeta::Dynamic
     }
@@ -249,12 +256,11 @@ impl<L: Lending> SchemaRead<L> for String {
     /// Its length is read and held against the limit, its bytes are brought to hand, memory is asked
     /// for, the bytes are consumed, and then they are looked at. Too few bytes or no memory leave the
     /// reader behind the length, bytes that are not UTF-8 behind them.
-    fn read<R: Reader<L>>(alloc: Global, reader: &mut R, dst: &mut Option<String>) -> ReadResult<()>
-        ensures ok { OnOk result (Puts (text_read 24 0 false).reads (λ s. string_bytes s) (R.state reader.old) (R.state reader.new) dst.new) }
-        ensures err { IfErr result (Refuses (text_read 24 0 false).reads 0 false (R.state reader.old) (R.state reader.new)) }
-        ensures same { OnErr result (dst.new ≡ dst.old) }
-        ensures refused { IfErr result (IsTextRefused (λ _. ⊥) ⊤ (R.state reader.old) (R.state reader.new)) }
-    {
+    fn read<R: Reader<L>>(
+        alloc: Global,
+        reader: &mut R,
+        dst: &mut Option<String>,
+    ) -> ReadResult<()> {
         *dst = Some(get_text::<L, R>(alloc, reader)?);
         Ok(())
     }
@@ -277,6 +283,8 @@ impl<'a> SchemaWrite for &'a str {
     ghost proper = { λ s. IsUtf8 s.now };
 
     ghost writing = { text_write 16 };
+
+    ghost whole = { false };
 
     fn type_meta() -> TypeMeta
         ensures { result ≡ (text_write 16).meta }
@@ -330,6 +338,8 @@ impl<'s, L: Lending> SchemaRead<L> for &'s str {
 
     ghost reading = { text_read 16 1 true };
 
+    ghost refusal = { IsTextRefused IsUnlending ⊥ };
+
     fn type_meta() -> TypeMeta
         ensures { result ≡ (text_read 16 1 true).meta }
     {
@@ -352,8 +362,8 @@ impl<'s, L: Lending> SchemaRead<L> for &'s str {
     ) -> ReadResult<()>
         ensures ok { OnOk result (Puts (text_read 16 1 true).reads (λ s. L.held_text s) (R.state reader.old) (R.state reader.new) dst.new) }
         ensures err { IfErr result (Refuses (text_read 16 1 true).reads 1 true (R.state reader.old) (R.state reader.new)) }
-        ensures same { OnErr result (dst.new ≡ dst.old) }
         ensures refused { IfErr result (IsTextRefused IsUnlending ⊥ (R.state reader.old) (R.state reader.new)) }
+        ensures same { OnErr result (dst.new ≡ dst.old) }
     {
         *dst = Some(lend_text::<L, R>(reader)?);
         Ok(())
@@ -377,6 +387,8 @@ impl<'a, U: 'a, T: SchemaWrite<Src = U>> SchemaWrite for &'a T {
     ghost proper = { λ r. T.proper r.now };
 
     ghost writing = { reference_write T.writing };
+
+    ghost whole = { T.whole };
 
     fn type_meta() -> TypeMeta {
         match T::type_meta() {
