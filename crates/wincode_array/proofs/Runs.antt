@@ -7,7 +7,7 @@ use native.Mathlib.Nat.{not-suc-le-zero}
 use native.Mathlib.Numerals.{add-one}
 use lib.ListN.{length, take, set}
 use lib.Seq.{take-suc-set}
-use Rattle.std.specs.Prelude.{Option, Some, None, Result, Ok, Err}
+use Rattle.std.specs.Prelude.{Option, Some, None, Result, Ok}
 use Rattle.wincode_array.specs.Runs.{Runs, Stops, Gave, Failed, Attempts}
 
 -- a run and one call more
@@ -65,7 +65,9 @@ module _ {S F A E Name : Type 0} (R : F → Result A E → F → Type 0) (ahead 
       let last = subst (λ a. Attempts R a (now u) None (ahead t) (now t) (error t)) more.1 step.1 in
       let less : suc (length ys) < n = fewer in
       record {
-        same = step.0 ∙ more.0 ∙ run.1.0; of = last.0; is = last.1;
+        same = step.0 ∙ more.0 ∙ run.1.0;
+        of = last.0;
+        is = last.1;
         failed = record { items = ys; at = now u; fewer = omega (arith, less); run = subst (λ v. Gave R v ys (now u)) at.2 more.2; stop = last.2 };
       }
 

@@ -1,5 +1,6 @@
 //! Arrays of any length, made item by item from a source that may fail.
 #![tactic(auto)]
+
 ghost use Rattle.std.specs.Prelude.{◌≡◌, ℕ, ◌<◌, ◌-◌, ◌∷◌, List, length, MatchResult, Option, Some, Result, Ok, Err, IfOk, IfErr, OnOk, OnErr};
 ghost use Rattle.wincode_array.specs.Sources.{inner_of};
 ghost use Rattle.wincode_array.specs.Runs.{Runs, Stops, Gave, Failed, Attempts};

@@ -1,7 +1,7 @@
 //! A struct of the repository's own, with its schema by hand, and a call for every schema that reads
 //! what it writes.
 ghost use Rattle.std.specs.Prelude.{◌≡◌, ℕ, ◌<◌, ◌^◌, List, map, IfOk, IfSome, IsTrue};
-ghost use Rattle.std.proofs.Common.{lit≤, true};
+ghost use Rattle.std.proofs.Common.{lit≤, true, false};
 ghost use Rattle.wincode.specs.Lengths.{bincode};
 ghost use Rattle.wincode.specs.LengthLaws.{bincode_laws};
 ghost use Rattle.wincode.specs.Leaves.{number_read, number_write};

@@ -15,8 +15,8 @@ use wincode::io::{self, Lifetime, Writer};
 use wincode::len::{BincodeLen, SeqLen};
 use wincode::show::{RelayError, relay};
 use wincode::{
-    Error, ReadError, ReadResult, SchemaGet, SchemaRead, SchemaWrite, TypeMeta, WriteError, deserialize,
-    error, serialize, serialize_into, serialized_size,
+    Error, ReadError, ReadResult, SchemaGet, SchemaRead, SchemaWrite, TypeMeta, WriteError,
+    deserialize, error, serialize, serialize_into, serialized_size,
 };
 
 /// The list of the list of 1 and the empty list.

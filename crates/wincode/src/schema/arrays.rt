@@ -25,11 +25,10 @@ struct Reading<'r, L, T, R> {
 }
 
 impl<'r, L: Lending, T: SchemaRead<L>, R: Reader<L>> Source<T::Dst, ReadError>
-    for Reading<'r, L, T, R>
-{
+    for Reading<'r, L, T, R> {
     ghost gives = { λ s r t. (t.reader.ghost_name ≡ s.reader.ghost_name)
         × MatchResult r (λ v. Gives T.reading.reads (R.state s.reader.now) (R.state t.reader.now) (T.seen v))
-            (λ e. Refuses T.reading.reads T.reading.asks T.reading.sparing (R.state s.reader.now) (R.state t.reader.now) e) };
+        (λ e. Refuses T.reading.reads T.reading.asks T.reading.sparing (R.state s.reader.now) (R.state t.reader.now) e) };
 
     fn next(&mut self) -> Result<T::Dst, ReadError> {
         T::get(self.alloc, self.reader)

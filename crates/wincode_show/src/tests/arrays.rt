@@ -88,12 +88,7 @@ fn refused_arrays(rt: HostRuntime) -> Result<(), Fail> {
     assert_eq!(rt; reader, [9u8].as_slice());
     let mut few = [1u8, 0].as_slice();
     let short = <[bool; 3] as SchemaRead<Lifetime>>::read(alloc, &mut few, &mut dst);
-    assert!(rt;
-        matches!(
-            &short,
-            Err(ReadError::Io(io::ReadError::ReadSizeLimit(3)))
-        )
-    );
+    assert!(rt; matches!(&short, Err(ReadError::Io(io::ReadError::ReadSizeLimit(3)))));
     assert_eq!(rt; few.len(), 2);
     assert!(rt; dst == Some([true, true, true]));
     let mut room = [9u8; 15];
