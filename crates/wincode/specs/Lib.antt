@@ -9,6 +9,8 @@ pub mod Sequences
 pub mod LeafLaws
 pub mod LengthLaws
 pub mod ListLaws
+pub mod Arrays
+pub mod ArrayLaws
 pub mod Pairs
 pub mod PairLaws
 pub mod WriteSequences

@@ -1,10 +1,11 @@
 -- What reading and writing a value answer, said once for lengths, leaves and compounds.
-use Rattle.std.specs.Prelude.{⊤, ◌≡◌, ℕ, ◌*◌, ◌^◌, ◌<◌, ◌≤◌, min, Bool, false, ◌&&◌, List, [], ◌∷◌, ◌++◌, length, IsTrue, Option, Some}
+use Rattle.std.specs.Prelude.{⊤, ◌≡◌, ℕ, ◌+◌, ◌*◌, ◌^◌, ◌<◌, ◌≤◌, min, Bool, false, ◌&&◌, List, [], ◌∷◌, ◌++◌, length, IsTrue, Option, Some}
 use Rattle.wincode_io.specs.Readers.{ReaderState, Kept, Takes, IsShort, IsRefused}
 use Rattle.wincode.specs.Numbers.{le}
 use Rattle.wincode_io.specs.Writers.{byte_limit, IsWriteRefused}
 use Rattle.wincode.specs.Grammar.{WriteGrammar}
 use Rattle.wincode.specs.Lengths.{Scheme, HasText}
+use Rattle.wincode.specs.Lists.{Each, total}
 use Rattle.wincode.specs.declared.error.ReadError.{ReadError}
 use Rattle.wincode.specs.declared.error.WriteError.{WriteError}
 use Rattle.wincode_io.specs.declared.error.ReadError.{ReadError as IoReadError}
@@ -163,6 +164,10 @@ IsOverflow _ = ⊥
 -- The size of v was refused: v can't be written or its size is past `usize::MAX`.
 abbrev pub IsSizeRefused : {V : Type 0} → WriteGrammar V → V → WriteError → Type 0
 IsSizeRefused g v e = (g.can v → g.size v < 2 ^ 64 → ⊥) × (IsTrue g.own → IsOverflow e)
+
+-- The sizes of items after so many bytes were refused: an item can't be written, or the sum is past `usize::MAX`.
+abbrev pub IsSumRefused : {V : Type 0} → ℕ → WriteGrammar V → List V → WriteError → Type 0
+IsSumRefused before g vs e = (Each g.can vs → before + total g.size vs < 2 ^ 64 → ⊥) × (IsTrue g.own → IsOverflow e)
 
 -- the length n was refused, which has no text
 abbrev pub IsTextless : Scheme → ℕ → WriteError → Type 0

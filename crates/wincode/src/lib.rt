@@ -11,5 +11,5 @@ pub mod show;
 pub use calls::{deserialize, serialize, serialize_into, serialized_size};
 pub use error::{Error, ReadError, ReadResult, Result, WriteError, WriteResult};
 pub use meta::TypeMeta;
-pub use schema::{RoundTrip, SchemaRead, SchemaWrite};
+pub use schema::{RoundTrip, SchemaGet, SchemaRead, SchemaWrite};
 pub use wincode_io as io;

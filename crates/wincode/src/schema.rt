@@ -3,6 +3,7 @@ ghost use Rattle.std.specs.Prelude.{◌≡◌, Bool, true, IfOk, IfErr, OnOk, On
 ghost use Rattle.wincode.specs.Grammar.{ReadGrammar, WriteGrammar, ReadLaws, WriteLaws, ReadsBack};
 ghost use Rattle.wincode.specs.Outcomes.{Gives, Puts, Refuses, Refusal, Wrote, Unwritten, IsSizeRefused, IsWholeRefused};
 
+pub mod arrays;
 pub mod leaves;
 pub mod lists;
 pub(crate) mod numbers;
@@ -94,21 +95,29 @@ pub trait SchemaRead<L: Lending> {
         ensures refused { IfErr result (refusal (R.state reader.old) (R.state reader.new)) }
         ensures same { OnErr result (dst.new ≡ dst.old) };
 
+    ghost read_laws: { ReadLaws proper reading };
+}
+
+/// `get`, for every schema. It is no method of `SchemaRead`, which an implementation has to meet at its
+/// own types: beside an error that names a lifetime, the borrow checker takes no array whose length is
+/// a parameter.
+pub trait SchemaGet<L: Lending>: SchemaRead<L> {
     /// As `read`, and gives the value.
     fn get<R: Reader<L>>(alloc: Global, reader: &mut R) -> ReadResult<Self::Dst>
-        ensures ok { IfOk result (λ v. Gives reading.reads (R.state reader.old) (R.state reader.new) (seen v)) }
-        ensures err { IfErr result (Refuses reading.reads reading.asks reading.sparing (R.state reader.old) (R.state reader.new)) }
-        ensures refused { IfErr result (refusal (R.state reader.old) (R.state reader.new)) }
-    {
+        ensures ok { IfOk result (λ v. Gives Self.SchemaRead.reading.reads (R.state reader.old) (R.state reader.new) (Self.SchemaRead.seen v)) }
+        ensures err { IfErr result (Refuses Self.SchemaRead.reading.reads Self.SchemaRead.reading.asks Self.SchemaRead.reading.sparing (R.state reader.old) (R.state reader.new)) }
+        ensures refused { IfErr result (Self.SchemaRead.refusal (R.state reader.old) (R.state reader.new)) };
+}
+
+impl<L: Lending, T: SchemaRead<L>> SchemaGet<L> for T {
+    fn get<R: Reader<L>>(alloc: Global, reader: &mut R) -> ReadResult<T::Dst> {
         let mut dst = None;
-        Self::read(alloc, reader, &mut dst)?;
+        T::read(alloc, reader, &mut dst)?;
         match dst {
             Some(value) => Ok(value),
             None => unreachable!(),
         }
     }
-
-    ghost read_laws: { ReadLaws proper reading };
 }
 
 /// What is written reads back: a text of a value whose lengths are within their limits reads as it.

@@ -1,7 +1,7 @@
 //! A struct of the repository's own, with its schema by hand, and a call for every schema that reads
 //! what it writes.
 ghost use Rattle.std.specs.Prelude.{◌≡◌, ℕ, ◌<◌, ◌^◌, List, map, IfOk, IfSome, IsTrue};
-ghost use Rattle.std.proofs.Common.{lit≤, true};
+ghost use Rattle.std.proofs.Common.{lit≤, true, false};
 ghost use Rattle.wincode.specs.Lengths.{bincode};
 ghost use Rattle.wincode.specs.LengthLaws.{bincode_laws};
 ghost use Rattle.wincode.specs.Leaves.{number_read, number_write};
@@ -15,7 +15,7 @@ ghost use Rattle.wincode_show.specs.Entry.{tags_read, tags_write, entry_read, en
 use std::alloc::Global;
 use wincode::error::write_length_encoding_overflow;
 use wincode::io::{Lending, Reader, Writer};
-use wincode::{ReadResult, RoundTrip, SchemaRead, SchemaWrite, TypeMeta, WriteResult};
+use wincode::{ReadResult, RoundTrip, SchemaGet, SchemaRead, SchemaWrite, TypeMeta, WriteResult};
 
 /// A number with tags.
 #[derive(Debug, Drop)]
@@ -84,8 +84,8 @@ impl<L: Lending> SchemaRead<L> for Entry {
         reader: &mut R,
         dst: &mut Option<Entry>,
     ) -> ReadResult<()> {
-        let id = <u64 as SchemaRead<L>>::get(alloc, reader)?;
-        let tags = <Vec<u8> as SchemaRead<L>>::get(alloc, reader)?;
+        let id = <u64 as SchemaGet<L>>::get(alloc, reader)?;
+        let tags = <Vec<u8> as SchemaGet<L>>::get(alloc, reader)?;
         *dst = Some(Entry { id, tags });
         Ok(())
     }

@@ -1,11 +1,13 @@
 //! Worked rows and vectors, as tables, and each public call once.
 ghost use Rattle.std.specs.Prelude.{◌<◌, IfOk};
 
+mod arrays;
 mod leaves;
 mod parts;
 mod vectors;
 
 use super::entry::{Entry, rewrite};
+use arrays::array_answer;
 use parts::part_answer;
 use std::alloc::Global;
 use std::io::ErrorKind;
@@ -15,8 +17,8 @@ use wincode::io::{self, Lifetime, Writer};
 use wincode::len::{BincodeLen, SeqLen};
 use wincode::show::{RelayError, relay};
 use wincode::{
-    Error, ReadError, ReadResult, SchemaRead, SchemaWrite, TypeMeta, WriteError, deserialize,
-    error, serialize, serialize_into, serialized_size,
+    Error, ReadError, ReadResult, SchemaGet, SchemaRead, SchemaWrite, TypeMeta, WriteError,
+    deserialize, error, serialize, serialize_into, serialized_size,
 };
 
 /// The list of the list of 1 and the empty list.
@@ -50,7 +52,7 @@ fn nested_lists(rt: HostRuntime) -> Result<(), Fail> {
 /// The refusal of a list of lists of numbers, and what is left of the bytes.
 fn refused(alloc: Global, bytes: &[u8]) -> Result<String, Fail> {
     let mut reader = bytes;
-    let answer = <Vec<Vec<u64>> as SchemaRead<Lifetime>>::get(alloc, &mut reader);
+    let answer = <Vec<Vec<u64>> as SchemaGet<Lifetime>>::get(alloc, &mut reader);
     let left = reader.len();
     match answer {
         Ok(_) => Err(Fail::from("read")),
@@ -272,6 +274,9 @@ fn answer(alloc: Global, name: &str, bytes: &[u8]) -> Result<String, Fail> {
     if let Some(found) = part_answer(alloc, name, bytes)? {
         return Ok(found);
     }
+    if let Some(found) = array_answer(alloc, name, bytes)? {
+        return Ok(found);
+    }
     let found = other_answer(alloc, name, bytes)?;
     Ok(found.ok_or("a type")?)
 }
@@ -315,7 +320,7 @@ fn first_unlike(alloc: Global, table: &str) -> Result<Option<String>, Fail> {
 #[test]
 fn answers_the_vectors(rt: HostRuntime) -> Result<(), Fail> {
     let rows = VECTORS.lines().count();
-    assert_eq!(rt; rows, 294);
+    assert_eq!(rt; rows, 336);
     let unlike = first_unlike(rt.alloc(), VECTORS)?;
     assert!(rt; unlike == None, "{unlike:?}");
     Ok(())
@@ -455,7 +460,7 @@ fn small_calls(rt: HostRuntime) -> Result<(), Fail> {
 /// What a `char` reads as, or its refusal, and how many bytes are left.
 fn read_char(alloc: Global, bytes: &[u8]) -> Result<String, Fail> {
     let mut reader = bytes;
-    let answer = <char as SchemaRead<Lifetime>>::get(alloc, &mut reader);
+    let answer = <char as SchemaGet<Lifetime>>::get(alloc, &mut reader);
     let left = reader.len();
     match answer {
         Ok(found) => Ok(format!(in alloc; "{found:?} {left}")?),
@@ -492,7 +497,7 @@ fn characters(rt: HostRuntime) -> Result<(), Fail> {
     chars_read(rt.alloc(), rows.as_slice())?;
     let mut last: &[u8] = &[244, 143, 191, 191];
     assert_eq!(rt;
-        <char as SchemaRead<Lifetime>>::get(rt.alloc(), &mut last)? as u32,
+        <char as SchemaGet<Lifetime>>::get(rt.alloc(), &mut last)? as u32,
         0x10_FFFF
     );
     Ok(())
@@ -501,7 +506,7 @@ fn characters(rt: HostRuntime) -> Result<(), Fail> {
 /// What a `String` and a `&str` read as, or their one refusal, and how many bytes are left.
 fn read_text(alloc: Global, bytes: &[u8]) -> Result<String, Fail> {
     let mut reader = bytes;
-    let answer = <String as SchemaRead<Lifetime>>::get(alloc, &mut reader);
+    let answer = <String as SchemaGet<Lifetime>>::get(alloc, &mut reader);
     let left = reader.len();
     match answer {
         Ok(found) => Ok(format!(in alloc; "{found} {left}")?),
@@ -512,7 +517,7 @@ fn read_text(alloc: Global, bytes: &[u8]) -> Result<String, Fail> {
 
 fn read_lent(alloc: Global, bytes: &[u8]) -> Result<String, Fail> {
     let mut reader = bytes;
-    let answer = <&str as SchemaRead<Lifetime>>::get(alloc, &mut reader);
+    let answer = <&str as SchemaGet<Lifetime>>::get(alloc, &mut reader);
     let left = reader.len();
     match answer {
         Ok(found) => Ok(format!(in alloc; "{found} {left}")?),

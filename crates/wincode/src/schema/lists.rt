@@ -1,16 +1,16 @@
 //! Schemas of lists.
-ghost use Rattle.std.specs.Prelude.{◌≡◌, ℕ, List, map, IfOk, IfErr, OnOk, false};
+ghost use Rattle.std.specs.Prelude.{◌≡◌, ℕ, ◌+◌, List, map, IfOk, IfErr, OnOk, false};
 ghost use Rattle.wincode.specs.Lengths.{bincode};
 ghost use Rattle.wincode.specs.LengthLaws.{bincode_laws};
-ghost use Rattle.wincode.specs.Lists.{AreItems, Each, items_write, list_read, list_write};
+ghost use Rattle.wincode.specs.Lists.{AreItems, Each, total, items_write, list_read, list_write};
 ghost use Rattle.wincode.specs.ListLaws.{list_read_laws, list_write_laws, list_reads_back};
-ghost use Rattle.wincode.specs.Outcomes.{Gives, Refuses, unsaid, Wrote, Unwritten, IsSizeRefused};
+ghost use Rattle.wincode.specs.Outcomes.{Gives, Refuses, unsaid, Wrote, Unwritten, IsSizeRefused, IsSumRefused};
 
 use crate::error::{ReadError, ReadResult, WriteResult, write_length_encoding_overflow};
 use crate::io::{Lending, Reader, Writer};
 use crate::len::{BincodeLen, SeqLen};
 use crate::meta::TypeMeta;
-use crate::schema::{RoundTrip, SchemaRead, SchemaWrite};
+use crate::schema::{RoundTrip, SchemaGet, SchemaRead, SchemaWrite};
 use std::alloc::Global;
 
 /// Reads `n` items, one after another, into memory for them.
@@ -47,24 +47,36 @@ fn get_list<Len: SeqLen, L: Lending, T: SchemaRead<L>, R: Reader<L>>(
     get_items::<L, T, R>(alloc, reader, n)
 }
 
+/// The sizes of items, added to the size of what stands before them.
+pub(crate) fn add_sizes<T: SchemaWrite>(before: usize, items: &[T::Src]) -> WriteResult<usize>
+    ensures ok { IfOk result (λ n. Each T.writing.can (map T.seen items.now) × (n ≡ before + total T.writing.size (map T.seen items.now))) }
+    ensures err { IfErr result (IsSumRefused before T.writing (map T.seen items.now)) }
+{
+    let mut sum = before;
+    for item in items {
+        let size = T::size_of(item)?;
+        sum = match sum.checked_add(size) {
+            Some(more) => more,
+            None => return Err(write_length_encoding_overflow("usize::MAX")),
+        };
+    }
+    Ok(sum)
+}
+
 /// The size of a list of these items.
 fn size_of_list<Len: SeqLen, T: SchemaWrite>(items: &[T::Src]) -> WriteResult<usize>
     ensures ok { IfOk result (λ n. (list_write Len.scheme T.writing).can (map T.seen items.now) × (n ≡ (list_write Len.scheme T.writing).size (map T.seen items.now))) }
     ensures err { IfErr result (IsSizeRefused (list_write Len.scheme T.writing) (map T.seen items.now)) }
 {
-    let mut total = Len::write_bytes_needed(items.len())?;
-    for item in items {
-        let size = T::size_of(item)?;
-        total = match total.checked_add(size) {
-            Some(sum) => sum,
-            None => return Err(write_length_encoding_overflow("usize::MAX")),
-        };
-    }
-    Ok(total)
+    let length = Len::write_bytes_needed(items.len())?;
+    add_sizes::<T>(length, items)
 }
 
 /// Writes items, one after another.
-fn write_items<T: SchemaWrite, W: Writer>(writer: &mut W, items: &[T::Src]) -> WriteResult<()>
+pub(crate) fn write_items<T: SchemaWrite, W: Writer>(
+    writer: &mut W,
+    items: &[T::Src],
+) -> WriteResult<()>
     ensures ok { OnOk result (Wrote W.put W.room (items_write T.writing) (W.state writer.old) (W.state writer.new) (map T.seen items.now)) }
     ensures value { OnOk result (Each T.proper items.now) }
     ensures err { IfErr result (Unwritten W.put W.room (items_write T.writing) (W.state writer.old) (W.state writer.new) (map T.seen items.now) (W.steady (W.kept writer.old)) (W.failures writer.new)) }

@@ -14,7 +14,7 @@ use crate::error::{
 use crate::io::{Lending, Reader, Writer};
 use crate::meta::TypeMeta;
 use crate::schema::numbers::{put_u8, put_u32, take_u8, take_u32};
-use crate::schema::{RoundTrip, SchemaRead, SchemaWrite};
+use crate::schema::{RoundTrip, SchemaGet, SchemaRead, SchemaWrite};
 use std::alloc::Global;
 use std::rc::Rc;
 

@@ -11,7 +11,7 @@ use crate::error::{ReadResult, WriteResult, write_length_encoding_overflow};
 use crate::io::{Lending, Reader, Writer};
 use crate::meta::TypeMeta;
 use crate::schema::whole::{get_whole, write_whole};
-use crate::schema::{RoundTrip, SchemaRead, SchemaWrite};
+use crate::schema::{RoundTrip, SchemaGet, SchemaRead, SchemaWrite};
 use std::alloc::Global;
 use std::marker::PhantomData;
 

@@ -2,7 +2,7 @@
 use std::alloc::Global;
 use std::test::Fail;
 use wincode::io::{self, Cursor, Lifetime, SliceWriter};
-use wincode::{ReadError, SchemaRead, SchemaWrite, TypeMeta, WriteError, serialize};
+use wincode::{ReadError, SchemaGet, SchemaRead, SchemaWrite, TypeMeta, WriteError, serialize};
 
 #[test]
 fn numbers_written(rt: HostRuntime) -> Result<(), Fail> {
@@ -16,10 +16,10 @@ fn numbers_written(rt: HostRuntime) -> Result<(), Fail> {
     );
     let minus = serialize(alloc, &-1isize)?;
     assert_eq!(rt; minus.as_slice(), [255u8; 8].as_slice());
-    let most = <usize as SchemaRead<Lifetime>>::get(alloc, &mut minus.as_slice())?;
+    let most = <usize as SchemaGet<Lifetime>>::get(alloc, &mut minus.as_slice())?;
     assert_eq!(rt; most, usize::MAX);
     let mut three = [1u8, 2, 3].as_slice();
-    assert_eq!(rt; <u16 as SchemaRead<Lifetime>>::get(alloc, &mut three)?, 513);
+    assert_eq!(rt; <u16 as SchemaGet<Lifetime>>::get(alloc, &mut three)?, 513);
     assert_eq!(rt; three, [3u8].as_slice());
     Ok(())
 }
@@ -27,7 +27,7 @@ fn numbers_written(rt: HostRuntime) -> Result<(), Fail> {
 #[test]
 fn a_bad_boolean_is_gone(rt: HostRuntime) -> Result<(), Fail> {
     let mut bytes = [2u8, 7].as_slice();
-    let answer = <bool as SchemaRead<Lifetime>>::get(rt.alloc(), &mut bytes);
+    let answer = <bool as SchemaGet<Lifetime>>::get(rt.alloc(), &mut bytes);
     assert!(rt; matches!(&answer, Err(ReadError::InvalidBoolEncoding(2))));
     assert_eq!(rt; bytes, [7u8].as_slice());
     Ok(())
@@ -36,7 +36,7 @@ fn a_bad_boolean_is_gone(rt: HostRuntime) -> Result<(), Fail> {
 #[test]
 fn a_cursor_lends_no_text(rt: HostRuntime) -> Result<(), Fail> {
     let mut cursor = Cursor::new([1u8, 0, 0, 0, 0, 0, 0, 0, 97].as_slice());
-    let answer = <&str as SchemaRead<Lifetime>>::get(rt.alloc(), &mut cursor);
+    let answer = <&str as SchemaGet<Lifetime>>::get(rt.alloc(), &mut cursor);
     assert!(rt;
         matches!(
             &answer,

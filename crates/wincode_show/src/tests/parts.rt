@@ -7,7 +7,9 @@ use std::alloc::Global;
 use std::rc::Rc;
 use std::test::Fail;
 use wincode::io::{self, Lifetime};
-use wincode::{ReadError, SchemaRead, SchemaWrite, TypeMeta, serialize, serialized_size};
+use wincode::{
+    ReadError, SchemaGet, SchemaRead, SchemaWrite, TypeMeta, serialize, serialized_size,
+};
 
 /// What reading these bytes as the type of the name answers, where it is one of these types.
 pub fn part_answer(alloc: Global, name: &str, bytes: &[u8]) -> Result<Option<String>, Fail> {
@@ -48,20 +50,20 @@ fn answers_the_vectors_of_parts(rt: HostRuntime) -> Result<(), Fail> {
 fn tags(rt: HostRuntime) -> Result<(), Fail> {
     let alloc = rt.alloc();
     let mut bytes: &[u8] = &[1, 0, 0, 0, 9];
-    assert!(rt; <Result<u8, u8> as SchemaRead<Lifetime>>::get(alloc, &mut bytes)? == Err(9));
+    assert!(rt; <Result<u8, u8> as SchemaGet<Lifetime>>::get(alloc, &mut bytes)? == Err(9));
     assert_eq!(rt; bytes.len(), 0);
     let mut bytes: &[u8] = &[0, 0, 0, 0, 9];
-    assert!(rt; <Result<u8, u8> as SchemaRead<Lifetime>>::get(alloc, &mut bytes)? == Ok(9));
+    assert!(rt; <Result<u8, u8> as SchemaGet<Lifetime>>::get(alloc, &mut bytes)? == Ok(9));
     let mut bytes: &[u8] = &[0];
-    assert!(rt; <Option<u8> as SchemaRead<Lifetime>>::get(alloc, &mut bytes)? == None);
+    assert!(rt; <Option<u8> as SchemaGet<Lifetime>>::get(alloc, &mut bytes)? == None);
     let mut bytes: &[u8] = &[1, 7];
-    assert!(rt; <Option<u8> as SchemaRead<Lifetime>>::get(alloc, &mut bytes)? == Some(7));
+    assert!(rt; <Option<u8> as SchemaGet<Lifetime>>::get(alloc, &mut bytes)? == Some(7));
     let mut bytes: &[u8] = &[2, 7];
-    let bad = <Option<u8> as SchemaRead<Lifetime>>::get(alloc, &mut bytes);
+    let bad = <Option<u8> as SchemaGet<Lifetime>>::get(alloc, &mut bytes);
     assert!(rt; matches!(&bad, Err(ReadError::InvalidTagEncoding(2))));
     assert_eq!(rt; bytes, [7u8].as_slice());
     let mut bytes: &[u8] = &[2, 0, 0, 0, 9];
-    let bad = <Result<u8, u8> as SchemaRead<Lifetime>>::get(alloc, &mut bytes);
+    let bad = <Result<u8, u8> as SchemaGet<Lifetime>>::get(alloc, &mut bytes);
     assert!(rt; matches!(&bad, Err(ReadError::InvalidTagEncoding(2))));
     assert_eq!(rt; bytes, [9u8].as_slice());
     Ok(())
@@ -71,10 +73,10 @@ fn tags(rt: HostRuntime) -> Result<(), Fail> {
 fn missing_tags(rt: HostRuntime) -> Result<(), Fail> {
     let alloc = rt.alloc();
     let mut bytes: &[u8] = &[];
-    let none = <Option<u8> as SchemaRead<Lifetime>>::get(alloc, &mut bytes);
+    let none = <Option<u8> as SchemaGet<Lifetime>>::get(alloc, &mut bytes);
     assert!(rt; matches!(&none, Err(ReadError::Io(io::ReadError::ReadSizeLimit(1)))));
     let mut bytes: &[u8] = &[1, 0, 0];
-    let none = <Result<u8, u8> as SchemaRead<Lifetime>>::get(alloc, &mut bytes);
+    let none = <Result<u8, u8> as SchemaGet<Lifetime>>::get(alloc, &mut bytes);
     assert!(rt; matches!(&none, Err(ReadError::Io(io::ReadError::ReadSizeLimit(4)))));
     assert_eq!(rt; bytes.len(), 3);
     Ok(())
@@ -87,12 +89,12 @@ fn parts_written(rt: HostRuntime) -> Result<(), Fail> {
     let text = serialize(alloc, &held)?;
     assert_eq!(rt; text.as_slice(), [2u8, 1, 0, 0].as_slice());
     let mut bytes = text.as_slice();
-    assert!(rt; <Box<u32> as SchemaRead<Lifetime>>::get(alloc, &mut bytes)? == held);
+    assert!(rt; <Box<u32> as SchemaGet<Lifetime>>::get(alloc, &mut bytes)? == held);
     let counted = Rc::new(alloc, 7u8)?;
     let text = serialize(alloc, &counted)?;
     assert_eq!(rt; text.as_slice(), [7u8].as_slice());
     let mut bytes = text.as_slice();
-    assert!(rt; <Rc<u8> as SchemaRead<Lifetime>>::get(alloc, &mut bytes)? == counted);
+    assert!(rt; <Rc<u8> as SchemaGet<Lifetime>>::get(alloc, &mut bytes)? == counted);
     let refused: Result<u8, u16> = Err(258);
     let text = serialize(alloc, &refused)?;
     assert_eq!(rt; text.as_slice(), [1u8, 0, 0, 0, 2, 1].as_slice());
@@ -109,7 +111,7 @@ fn a_lent_part(rt: HostRuntime) -> Result<(), Fail> {
         [1u8, 2, 0, 0, 0, 0, 0, 0, 0, 97, 98].as_slice()
     );
     let mut bytes = text.as_slice();
-    assert!(rt; <Option<&str> as SchemaRead<Lifetime>>::get(alloc, &mut bytes)? == Some("ab"));
+    assert!(rt; <Option<&str> as SchemaGet<Lifetime>>::get(alloc, &mut bytes)? == Some("ab"));
     Ok(())
 }
 
