@@ -3,6 +3,8 @@
 
 mod entry;
 #[cfg(test)]
+mod refusing;
+#[cfg(test)]
 mod tests;
 
 use std::process::ExitCode;

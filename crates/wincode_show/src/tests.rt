@@ -4,6 +4,7 @@ ghost use Rattle.std.specs.Prelude.{◌<◌, IfOk};
 mod arrays;
 mod leaves;
 mod parts;
+mod tuples;
 mod vectors;
 
 use super::entry::{Entry, rewrite};
@@ -12,6 +13,7 @@ use parts::part_answer;
 use std::alloc::Global;
 use std::io::ErrorKind;
 use std::test::Fail;
+use tuples::tuple_answer;
 use vectors::VECTORS;
 use wincode::io::{self, Lifetime, Writer};
 use wincode::len::{BincodeLen, SeqLen};
@@ -277,6 +279,9 @@ fn answer(alloc: Global, name: &str, bytes: &[u8]) -> Result<String, Fail> {
     if let Some(found) = array_answer(alloc, name, bytes)? {
         return Ok(found);
     }
+    if let Some(found) = tuple_answer(alloc, name, bytes)? {
+        return Ok(found);
+    }
     let found = other_answer(alloc, name, bytes)?;
     Ok(found.ok_or("a type")?)
 }
@@ -320,7 +325,7 @@ fn first_unlike(alloc: Global, table: &str) -> Result<Option<String>, Fail> {
 #[test]
 fn answers_the_vectors(rt: HostRuntime) -> Result<(), Fail> {
     let rows = VECTORS.lines().count();
-    assert_eq!(rt; rows, 336);
+    assert_eq!(rt; rows, 434);
     let unlike = first_unlike(rt.alloc(), VECTORS)?;
     assert!(rt; unlike == None, "{unlike:?}");
     Ok(())

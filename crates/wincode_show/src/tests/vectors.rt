@@ -340,4 +340,102 @@ Vec<String>|0100000000000000080000000000000061636361616263614e16c9fe|ok 4 010000
 [String;2]|00000000000000001100000000000000c3a9efbfbfe0a080f2a4afb5c591efbfbfd0de5c09fb878a7f84|ok 9 00000000000000001100000000000000c3a9efbfbfe0a080f2a4afb5c591efbfbf\n\
 [String;2]|0b00000000000000f48fbfbfee8080f1a8bbb30c00000000000000ecaba3c280f2b3adacefbfbf31bf9ded539a9b2bde|ok 9 0b00000000000000f48fbfbfee8080f1a8bbb30c00000000000000ecaba3c280f2b3adacefbfbf\n\
 [String;2]|030000000000000062c0630000000000000000|err InvalidUtf8Encoding(Utf8Error { valid_up_to: 1, error_len: Some(1) }) 8\n\
+(u16,bool)|010002546c09c7a6|err InvalidBoolEncoding(2) 5\n\
+(u16,bool)|a60a80|err InvalidBoolEncoding(128) 0\n\
+(u16,bool)|02|err Io(ReadSizeLimit(3)) 1\n\
+(u16,bool)||err Io(ReadSizeLimit(3)) 0\n\
+(u16,bool)|ffff01|ok 0 ffff01\n\
+(u16,bool)|a5f4009fe28a8d|ok 4 a5f400\n\
+(u16,bool)|000101010202000202000202000101|ok 12 000101\n\
+(u16,bool)|0001000101020001010100020101000101000202000000010102000200000202|ok 29 000100\n\
+(u16,bool)|0002010000000000020101000101020200010200000101000102020102010100020200020001020102000002|ok 41 000201\n\
+(u16,bool)|ffff8068485969e81530|err InvalidBoolEncoding(128) 7\n\
+(u16,bool)|00006c|err InvalidBoolEncoding(108) 0\n\
+(u16,bool)|05dc|err Io(ReadSizeLimit(3)) 2\n\
+(u16,bool)|00ff01|ok 0 00ff01\n\
+(u16,bool)|ffff013c0542a88e|ok 5 ffff01\n\
+(bool,u16)|a23c2b625f847426702fe9b0cdc7eb6ee5a4fe3119aaa7407a65195499f9133a92a55a|err InvalidBoolEncoding(162) 32\n\
+(bool,u16)|0effff|err InvalidBoolEncoding(14) 0\n\
+(bool,u16)|00|err Io(ReadSizeLimit(3)) 1\n\
+(bool,u16)||err Io(ReadSizeLimit(3)) 0\n\
+(bool,u16)|00ffff|ok 0 00ffff\n\
+(bool,u16)|000200cf12b62ef4a0f2|ok 7 000200\n\
+(bool,u16)|00000011b4649a7c4cf59493|ok 9 000000\n\
+(bool,u16)|01e8d897ad3048fbfa3bf05890f893bebc2583d6816b27d8f4f8aad839afb87f7e02|ok 31 01e8d8\n\
+(bool,u16)|000200000001000002020001000101000101020201010000010102020202020101000200000202000002000202|ok 42 000200\n\
+(bool,u16)|8000002360|err InvalidBoolEncoding(128) 2\n\
+(bool,u16)|79ffff|err InvalidBoolEncoding(121) 0\n\
+(bool,u16)|80a1|err Io(ReadSizeLimit(3)) 2\n\
+(bool,u16)|0192e4|ok 0 0192e4\n\
+(bool,u16)|010000c75ad51384bcc4|ok 7 010000\n\
+(String,u8)|0200000000000000599c1d|err InvalidUtf8Encoding(Utf8Error { valid_up_to: 1, error_len: Some(1) }) 1\n\
+(String,u8)|0400000000000000636163ff|err InvalidUtf8Encoding(Utf8Error { valid_up_to: 3, error_len: Some(1) }) 0\n\
+(String,u8)|03|err Io(ReadSizeLimit(8)) 1\n\
+(String,u8)||err Io(ReadSizeLimit(8)) 0\n\
+(String,u8)|d6663018b032398075d6|err PreallocationSizeLimit { needed: 9239471842428741334, limit: 4194304 } 2\n\
+(String,u8)|0201000100010100|err PreallocationSizeLimit { needed: 282574505115906, limit: 4194304 } 0\n\
+(String,u8)|0100000000000000617a|ok 0 0100000000000000617a\n\
+(String,u8)|0300000000000000ee808000|ok 0 0300000000000000ee808000\n\
+(String,u8)|1700000000000000efbfbfc3a9efa5a6e282aceaaea3f2a297aa49f1b2a2b3ff|ok 0 1700000000000000efbfbfc3a9efa5a6e282aceaaea3f2a297aa49f1b2a2b3ff\n\
+(String,u8)|2000000000000000eba6a8c28040f09f9880f3929698f0b8abbd4ef48fbfbf01f3ac8eb2f19c9c8701|ok 0 2000000000000000eba6a8c28040f09f9880f3929698f0b8abbd4ef48fbfbf01f3ac8eb2f19c9c8701\n\
+(String,u8)|0000000000000000000f|ok 1 000000000000000000\n\
+(String,u8)|0400000000000000efbfbf41012e|ok 1 0400000000000000efbfbf4101\n\
+(String,u8)|0b00000000000000ecad82f48fbfbff0908080017c3a9a4b794f|ok 6 0b00000000000000ecad82f48fbfbff090808001\n\
+(String,u8)|120000000000000000dcb3f1aca0a6efbfbd7f00f2c28f9ac89604|err InvalidUtf8Encoding(Utf8Error { valid_up_to: 12, error_len: Some(1) }) 1\n\
+(u64,bool,[u8;32])|05f6dda6514e783080ff010103ff013df9e300e1000001010100010102ff000000ff09830087ffff01c4|err InvalidBoolEncoding(128) 1\n\
+(u64,bool,[u8;32])|00000000000000007f01ff000000010002ff00000004ffa001ff0201041cff00ff0000ade900000000|err InvalidBoolEncoding(127) 0\n\
+(u64,bool,[u8;32])|01010001|err Io(ReadSizeLimit(41)) 4\n\
+(u64,bool,[u8;32])||err Io(ReadSizeLimit(41)) 0\n\
+(u64,bool,[u8;32])|0000000000000000010000ffff00dfff00ff0001ffd900ff9094008001000001e901cc000022690071|ok 0 0000000000000000010000ffff00dfff00ff0001ffd900ff9094008001000001e901cc000022690071\n\
+(u64,bool,[u8;32])|a9aeaf61e062ded600015eff004c01ffff0001ff4dffffff120103ec01ff00000002ff555900ff0001c0c3e77e|ok 4 a9aeaf61e062ded600015eff004c01ffff0001ff4dffffff120103ec01ff00000002ff555900ff0001\n\
+(u64,bool,[u8;32])|ffffffffffffffff010001ff0704590300000301d700c09401ff010f00ff002c6651018101ff0076ff919146ebf7f424|ok 7 ffffffffffffffff010001ff0704590300000301d700c09401ff010f00ff002c6651018101ff0076ff\n\
+(u64,bool,[u8;32])|00000000000000000200ffff0100ffff7a0100040140ff09ffcc7002e6ff00451cc900b60001ff00ff8d20a91ea6ca|err InvalidBoolEncoding(2) 6\n\
+(u64,bool,[u8;32])|00000000000000007f40ff8e6c010400018000ff00ff00000103ff0094030028b0ff01ffff0004ffff|err InvalidBoolEncoding(127) 0\n\
+(u64,bool,[u8;32])|01|err Io(ReadSizeLimit(41)) 1\n\
+(u64,bool,[u8;32])|ffffffffffffffff01ff02ff0000018700010100013e01000000faff0101000101b702ffabba0100ff|ok 0 ffffffffffffffff01ff02ff0000018700010100013e01000000faff0101000101b702ffabba0100ff\n\
+(u64,bool,[u8;32])|0000000000000000004d1400110140ff0002ffca008f01ff6b000100f00013ff0001ffffaa00012a0013ff|ok 2 0000000000000000004d1400110140ff0002ffca008f01ff6b000100f00013ff0001ffffaa00012a00\n\
+(u64,bool,[u8;32])|ffffffffffffffff0001f3668aff24623a83fffffffff62111000122ff800200039001ff9e000970011b3b75d5c0dad1|ok 7 ffffffffffffffff0001f3668aff24623a83fffffffff62111000122ff800200039001ff9e00097001\n\
+(u64,bool,[u8;32])|0100000000000000fff000ff4100ff01ffff00ffff00ff63ffffdb00ffead6ff00000101ff01000394e5c33da65608bb|err InvalidBoolEncoding(255) 7\n\
+Option<(u8,u8)>|030096|err InvalidTagEncoding(3) 2\n\
+Option<(u8,u8)>|7f|err InvalidTagEncoding(127) 0\n\
+Option<(u8,u8)>|0100|err Io(ReadSizeLimit(2)) 1\n\
+Option<(u8,u8)>||err Io(ReadSizeLimit(1)) 0\n\
+Option<(u8,u8)>|00|ok 0 00\n\
+Option<(u8,u8)>|008a064fd0fc59|ok 6 00\n\
+Option<(u8,u8)>|00ff3b3637984292cd05ceab|ok 11 00\n\
+Option<(u8,u8)>|0102020101000102020001010000020101000201020100020100|ok 23 010202\n\
+Option<(u8,u8)>|01c8d9d4d9245987136c6da042f74b0137cd1dad0d58b8940e0905d0d78601568e55f5ea6aaea488decb|ok 39 01c8d9\n\
+Option<(u8,u8)>|037bf8669ca2|err InvalidTagEncoding(3) 5\n\
+Option<(u8,u8)>|ff|err InvalidTagEncoding(255) 0\n\
+Option<(u8,u8)>|01ff|err Io(ReadSizeLimit(2)) 1\n\
+Option<(u8,u8)>|01|err Io(ReadSizeLimit(2)) 0\n\
+Option<(u8,u8)>|010067|ok 0 010067\n\
+Result<u16,(bool,bool)>|010000000180a0630840dc41689f5e|err InvalidBoolEncoding(128) 9\n\
+Result<u16,(bool,bool)>|010000000003|err InvalidBoolEncoding(3) 0\n\
+Result<u16,(bool,bool)>|00ff00000000|err InvalidTagEncoding(65280) 2\n\
+Result<u16,(bool,bool)>|00000101|err InvalidTagEncoding(16842752) 0\n\
+Result<u16,(bool,bool)>|01|err Io(ReadSizeLimit(4)) 1\n\
+Result<u16,(bool,bool)>||err Io(ReadSizeLimit(4)) 0\n\
+Result<u16,(bool,bool)>|010000000000|ok 0 010000000000\n\
+Result<u16,(bool,bool)>|010000000100d9fda881|ok 4 010000000100\n\
+Result<u16,(bool,bool)>|010000000001701691f40a8fd135|ok 8 010000000001\n\
+Result<u16,(bool,bool)>|01000000010001010001000102010201020102020002020100010200000101010002010101010001000100|ok 37 010000000100\n\
+Result<u16,(bool,bool)>|010000007f018e3fdc16d4|err InvalidBoolEncoding(127) 5\n\
+Result<u16,(bool,bool)>|01000000ff00|err InvalidBoolEncoding(255) 0\n\
+Result<u16,(bool,bool)>|22507f447a059ad053f9f205673124621a82fcc39bb33679bd10a444aeb89762093ab254f958325a92018693ed|err InvalidTagEncoding(1149194274) 41\n\
+Result<u16,(bool,bool)>|3a8895ff|err InvalidTagEncoding(4287989818) 0\n\
+message-like|ffffffffffffffff0300000000000000f600008d3f591eb6fb|err InvalidTagEncoding(141) 5\n\
+message-like|ffffffffffffffff0300000000000000ff00ff80|err InvalidTagEncoding(128) 0\n\
+message-like|00000000000000000200000000000000ff01010400000000000000626162b9c8f3435b|err InvalidUtf8Encoding(Utf8Error { valid_up_to: 3, error_len: Some(1) }) 4\n\
+message-like|03000000000000000200000000000000e900010500000000000000ff61636162|err InvalidUtf8Encoding(Utf8Error { valid_up_to: 0, error_len: Some(1) }) 0\n\
+message-like|03|err Io(ReadSizeLimit(8)) 1\n\
+message-like||err Io(ReadSizeLimit(8)) 0\n\
+message-like|010200000000000200000100010100020001|err PreallocationSizeLimit { needed: 144116291882516480, limit: 4194304 } 2\n\
+message-like|7463174e8772d7b10300000000000000ffff6d01000000000000b600|err PreallocationSizeLimit { needed: 51228445761339392, limit: 4194304 } 0\n\
+message-like|2fef663913e00d1601000000000000000000|ok 0 2fef663913e00d1601000000000000000000\n\
+message-like|ffffffffffffffff0100000000000000ff010000000000000000|ok 0 ffffffffffffffff0100000000000000ff010000000000000000\n\
+message-like|00000000000000000b000000000000001404ffff01a200ff00ff010102000000000000006361|ok 0 00000000000000000b000000000000001404ffff01a200ff00ff010102000000000000006361\n\
+message-like|ffffffffffff00ff0200000000000000ffff011500000000000000c8ae41f38797aaed9fbfd4bcefbfbde0a080eb9b99|ok 0 ffffffffffff00ff0200000000000000ffff011500000000000000c8ae41f38797aaed9fbfd4bcefbfbde0a080eb9b99\n\
+message-like|00000000000000000200000000000000000000d3|ok 1 00000000000000000200000000000000000000\n\
+message-like|15e494b6da1816360400000000000000006fffff003320417e56d0|ok 6 15e494b6da1816360400000000000000006fffff00\n\
 ";

@@ -1,0 +1,30 @@
+-- A schema that accepts nothing.
+use Rattle.std.specs.Prelude.{◌≡◌, ℕ, ◌≤◌, true, List}
+use Rattle.std.proofs.Common.{arith}
+use Rattle.wincode_io.specs.Readers.{ReaderState}
+use Rattle.wincode.specs.Grammar.{ReadGrammar, ReadLaws}
+use Rattle.wincode.specs.declared.error.ReadError.{ReadError}
+use Rattle.wincode.specs.declared.error.ReadError.TheVariants.{Custom}
+use Rattle.wincode.specs.declared.meta.TypeMeta.TheVariants.{Dynamic}
+
+abbrev pub nothing_read : ReadGrammar Unit
+nothing_read = record {
+  reads = λ b v. ⊥;
+  meta = Dynamic;
+  prealloc = 1;
+  asks = 0;
+  sparing = true;
+}
+
+-- it is refused by its own error, and the reader stays
+abbrev pub IsRefusing : ReaderState → ReaderState → ReadError → Type 0
+IsRefusing old new (Custom s) = new ≡ old
+IsRefusing old new _ = ⊥
+
+pub nothing_read_laws : ReadLaws (λ v. Unit {0}) nothing_read
+nothing_read_laws = record {
+  one_front = λ a b x y v w r s e. absurd r;
+  is_proper = λ b v r. tt;
+  statics = tt;
+  prealloc = omega arith;
+}
