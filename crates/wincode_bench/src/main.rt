@@ -1,4 +1,4 @@
-//! Times reading and writing of lists of numbers beside a copy of as many bytes.
+//! Times reading and writing of lists of numbers and of records beside a copy of as many bytes.
 //!
 //! Without arguments it prints one fixed line. With `--time` it prints a table: for each row the least
 //! of 20 runs, in microseconds, and how many tenths of the copy of as many bytes that is.
@@ -9,13 +9,22 @@ use std::env;
 use std::rt::{Clock, Env};
 use std::time::Instant;
 use thiserror::Error;
-use wincode::{deserialize, serialize};
+use wincode::io::Lifetime;
+use wincode::{SchemaGet, SchemaWrite, deserialize, serialize};
 
 const RUNS: u32 = 20;
 
 const NUMBERS: u64 = 500_000;
 
 const SIDE: u64 = 1_000;
+
+const RECORDS: usize = 50_000;
+
+const RECORD_SIZE: usize = 41;
+
+type Record = (u64, bool, [u8; 32]);
+
+const RECORD: Record = (7, true, [9; 32]);
 
 /// Why a measurement ended early.
 #[derive(Debug, Drop, Error)]
@@ -122,6 +131,46 @@ impl Work for WriteLists<'_> {
     }
 }
 
+#[derive(Drop)]
+struct ReadRecords<'a>(&'a [u8]);
+
+impl Work for ReadRecords<'_> {
+    fn run(&self, alloc: Global) -> Result<(), Failure> {
+        let mut reader = self.0;
+        for _i in 0..RECORDS {
+            if <Record as SchemaGet<Lifetime>>::get(alloc, &mut reader).is_err() {
+                return Err(Failure::Read);
+            }
+        }
+        Ok(())
+    }
+}
+
+/// Writes so many records.
+#[derive(Drop)]
+struct WriteRecords(usize);
+
+impl WriteRecords {
+    fn bytes(&self, alloc: Global) -> Result<Vec<u8>, Failure> {
+        let Ok(mut bytes) = Vec::with_capacity(alloc, RECORDS * RECORD_SIZE) else {
+            return Err(Failure::OutOfMemory);
+        };
+        for _i in 0..self.0 {
+            if <Record as SchemaWrite>::write(&mut bytes, &RECORD).is_err() {
+                return Err(Failure::Write);
+            }
+        }
+        Ok(bytes)
+    }
+}
+
+impl Work for WriteRecords {
+    fn run(&self, alloc: Global) -> Result<(), Failure> {
+        self.bytes(alloc)?;
+        Ok(())
+    }
+}
+
 /// The time of one run, in nanoseconds.
 fn once<W: Work>(rt: &impl Clock, alloc: Global, work: &W) -> Result<u128, Failure> {
     let start = Instant::now(rt).map_err(|_| Failure::Clock)?;
@@ -188,6 +237,21 @@ fn time_lists(rt: &(impl Clock + Print + AllocGlobal)) -> Result<(), Failure> {
     )
 }
 
+fn time_records(rt: &(impl Clock + Print + AllocGlobal)) -> Result<(), Failure> {
+    let alloc = rt.alloc();
+    let writing = WriteRecords(RECORDS);
+    let bytes = writing.bytes(alloc)?;
+    let copy = least(rt, alloc, &Copy(bytes.as_slice()))?;
+    print_row(rt, "copy of the records' bytes", copy, copy)?;
+    print_row(
+        rt,
+        "read records",
+        least(rt, alloc, &ReadRecords(bytes.as_slice()))?,
+        copy,
+    )?;
+    print_row(rt, "write records", least(rt, alloc, &writing)?, copy)
+}
+
 fn is_timed(rt: &(impl Env + AllocGlobal)) -> bool {
     match env::args(rt) {
         Ok(words) => words.skip(1).any(|word| word.as_str() == "--time"),
@@ -198,7 +262,8 @@ fn is_timed(rt: &(impl Env + AllocGlobal)) -> bool {
 fn main(rt: HostRuntime) -> Result<(), Failure> {
     if is_timed(&rt) {
         time_numbers(&rt)?;
-        return time_lists(&rt);
+        time_lists(&rt)?;
+        return time_records(&rt);
     }
     println!(rt; "wincode_bench --time prints how long lists take").map_err(|_| Failure::Print)
 }

@@ -1,0 +1,92 @@
+//! Writing: a refused growth leaves the writer.
+use super::Ending;
+use std::alloc::Global;
+use wincode::io::{self, Cursor, WriteResult, Writer};
+use wincode::{WriteError, serialize};
+
+fn ending(answer: WriteResult<()>) -> Result<Ending, &'static str> {
+    match answer {
+        Ok(()) => Ok(Ending::Ample),
+        Err(io::WriteError::OutOfMemory) => Ok(Ending::Refused),
+        Err(_) => Err("a write"),
+    }
+}
+
+/// Two bytes and then three behind them.
+fn appended(alloc: Global) -> Result<Ending, &'static str> {
+    let Ok(mut bytes) = Vec::from_slice(alloc, &[1u8, 2]) else {
+        return Ok(Ending::Refused);
+    };
+    let room = ending(bytes.make_room(3))?;
+    if bytes.as_slice() != [1u8, 2].as_slice() {
+        return Err("room");
+    }
+    let written = ending(bytes.write(&[3, 4, 5]))?;
+    let expected: &[u8] = match written {
+        Ending::Ample => &[1, 2, 3, 4, 5],
+        Ending::Refused => &[1, 2],
+    };
+    if bytes.as_slice() == expected {
+        Ok(room.and(written))
+    } else {
+        Err("a vector")
+    }
+}
+
+/// Two bytes, and one behind a gap of as many.
+fn behind_a_gap(alloc: Global) -> Result<Ending, &'static str> {
+    let Ok(bytes) = Vec::from_slice(alloc, &[1u8, 2]) else {
+        return Ok(Ending::Refused);
+    };
+    let mut cursor = Cursor::new_at(bytes, 4);
+    let room = ending(cursor.make_room(1))?;
+    if cursor.position() != 4 {
+        return Err("a position");
+    }
+    let written = ending(cursor.write(&[9]))?;
+    let position = cursor.position();
+    let bytes = cursor.into_inner();
+    match written {
+        Ending::Ample if position == 5 && bytes.as_slice() == [1u8, 2, 0, 0, 9].as_slice() => Ok(
+            room,
+        ),
+        Ending::Refused if position == 4 && bytes.as_slice() == [1u8, 2].as_slice() => Ok(
+            Ending::Refused,
+        ),
+        _ => Err("a cursor"),
+    }
+}
+
+/// The same, in a vector that the cursor borrows.
+fn in_a_lent_vector(alloc: Global) -> Result<Ending, &'static str> {
+    let Ok(mut bytes) = Vec::from_slice(alloc, &[1u8, 2]) else {
+        return Ok(Ending::Refused);
+    };
+    let mut cursor = Cursor::new_at(&mut bytes, 1);
+    let written = ending(cursor.write(&[8, 9]))?;
+    let position = cursor.position();
+    match written {
+        Ending::Ample if position == 3 && bytes.as_slice() == [1u8, 8, 9].as_slice() => Ok(
+            Ending::Ample,
+        ),
+        Ending::Refused if position == 1 && bytes.as_slice() == [1u8, 2].as_slice() => Ok(
+            Ending::Refused,
+        ),
+        _ => Err("a lent vector"),
+    }
+}
+
+fn serialized(alloc: Global) -> Result<Ending, &'static str> {
+    match serialize(alloc, &(7u8, true)) {
+        Ok(bytes) if bytes.as_slice() == [7u8, 1].as_slice() => Ok(Ending::Ample),
+        Err(WriteError::OutOfMemory) => Ok(Ending::Refused),
+        _ => Err("serialize"),
+    }
+}
+
+pub fn all(alloc: Global) -> Result<Ending, &'static str> {
+    let vector = appended(alloc)?;
+    let cursor = behind_a_gap(alloc)?;
+    let lent = in_a_lent_vector(alloc)?;
+    Ok(vector.and(cursor).and(lent).and(serialized(alloc)?))
+}
