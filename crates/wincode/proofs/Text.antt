@@ -1,5 +1,5 @@
 -- What characters and texts read and write.
-use Rattle.std.proofs.Common.{◌≡◌, ◌∙◌, sym, ap, subst, ℕ, ◌+◌, ◌*◌, ◌<◌, ◌≤◌, ◌⊎◌, inl, inr, Bool, true, false, cond, nat_lt, ◌/◌, ◌^◌, ◌&&◌, Some, List, [], ◌∷◌, ◌++◌, length, take, refl, arith, append_assoc, append-nil, length-append, length-take, IsTrue}
+use Rattle.std.proofs.Common.{◌≡◌, ◌∙◌, sym, ap, subst, ℕ, ◌+◌, ◌<◌, ◌≤◌, ◌⊎◌, inl, inr, Bool, true, false, cond, nat_lt, ◌/◌, ◌^◌, ◌&&◌, List, [], ◌∷◌, ◌++◌, length, take, refl, arith, append_assoc, append-nil, length-append, length-take, IsTrue}
 use Rattle.std.specs.Prelude.{IsUtf8, encode_utf8}
 use Rattle.std.specs.Char.{IsScalar}
 use Rattle.std.proofs.Math.Seq.{take-append_seam}

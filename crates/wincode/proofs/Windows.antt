@@ -1,5 +1,5 @@
 -- What is read from, or written to, a window of the right size is read from, or written to, what is below.
-use Rattle.std.proofs.Common.{◌≡◌, ◌∙◌, sym, ap, subst, ℕ, ◌<◌, ◌≤◌, ◌&&◌, Bool, true, false, List, [], ◌∷◌, ◌++◌, length, refl, arith, append-nil, length-append, IsTrue}
+use Rattle.std.proofs.Common.{◌≡◌, ◌∙◌, sym, subst, ℕ, ◌<◌, ◌≤◌, ◌&&◌, Bool, true, false, List, [], ◌++◌, length, refl, arith, append-nil, IsTrue}
 use Rattle.wincode_io.specs.Readers.{ReaderState, Windowed}
 use Rattle.wincode_io.specs.Writers.{WriterLaws, IsWriteRefusal}
 use Rattle.wincode.specs.Grammar.{WriteGrammar, WriteLaws, IsReadStatic, IsWriteStatic}

@@ -1,4 +1,4 @@
-use Rattle.std.proofs.Common.{rules, ◌∙◌, sym, subst, true}
+use Rattle.std.proofs.Common.{rules, sym, subst, true}
 use Rattle.std.specs.Prelude.{IsUtf8}
 use Rattle.wincode.proofs.Text.{body_refuses, body_gives, borrow_refuses}
 use Rattle.wincode.specs.declared.error.ReadError.TheVariants as reading

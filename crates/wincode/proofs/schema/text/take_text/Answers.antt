@@ -1,4 +1,4 @@
-use Rattle.std.proofs.Common.{rules, ap, refl, true, false}
+use Rattle.std.proofs.Common.{rules, ap, refl, false}
 use Rattle.std.proofs.lemmas.Str.{IsUtf8-string_bytes}
 use Rattle.wincode.proofs.Sized.{arrays_takes}
 use Rattle.wincode.proofs.Text.{body_refuses, body_gives}

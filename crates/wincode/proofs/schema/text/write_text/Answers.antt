@@ -1,4 +1,4 @@
-use Rattle.std.proofs.Common.{rules, arith, ◌<◌, ◌^◌, length, refl}
+use Rattle.std.proofs.Common.{rules, ◌<◌, ◌^◌, length, refl}
 use Rattle.wincode.proofs.Text.{text_wrote, text_unwritten_first, text_unwritten_second}
 use Rattle.wincode.proofs.schema.text.write_text.Goals as goal
 
