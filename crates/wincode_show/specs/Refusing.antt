@@ -1,5 +1,5 @@
 -- A schema that accepts nothing.
-use Rattle.std.specs.Prelude.{◌≡◌, ℕ, ◌≤◌, true, List}
+use Rattle.std.specs.Prelude.{◌≡◌, true}
 use Rattle.std.proofs.Common.{arith}
 use Rattle.wincode_io.specs.Readers.{ReaderState}
 use Rattle.wincode.specs.Grammar.{ReadGrammar, ReadLaws}
