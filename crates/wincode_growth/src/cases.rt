@@ -6,6 +6,15 @@ use std::alloc::Global;
 use wincode::show::{RelayError, relay};
 use wincode::{ReadError, WriteError};
 
+/// What answered otherwise than it is said to.
+#[derive(Debug, Drop)]
+pub enum Unlike {
+    Reading,
+    Writing,
+    Relay,
+    Printing,
+}
+
 /// Whether memory was there.
 #[derive(Clone, Copy, PartialEq)]
 pub enum Ending {
@@ -24,7 +33,7 @@ impl Ending {
 }
 
 /// The program's own call: where memory is refused, nothing was written.
-pub fn relays(alloc: Global) -> Result<Ending, &'static str> {
+pub fn relays(alloc: Global) -> Result<Ending, Unlike> {
     let bytes = [
         1u8, 0, 0, 0, 0, 0, 0, 0, 1, 0, 0, 0, 0, 0, 0, 0, 7, 0, 0, 0, 0, 0, 0, 0,
     ];
@@ -38,6 +47,6 @@ pub fn relays(alloc: Global) -> Result<Ending, &'static str> {
             | RelayError::Read(ReadError::OutOfMemory)
             | RelayError::Write(WriteError::OutOfMemory),
         ) if output.is_empty() => Ok(Ending::Refused),
-        _ => Err("relay"),
+        _ => Err(Unlike::Relay),
     }
 }

@@ -6,20 +6,20 @@
 
 mod cases;
 
-use cases::Ending;
+use cases::{Ending, Unlike};
 use std::alloc::Global;
 
 /// How all cases ended: with memory, or one of them for want of it.
-fn all(alloc: Global) -> Result<Ending, &'static str> {
+fn all(alloc: Global) -> Result<Ending, Unlike> {
     let reading = cases::reading::all(alloc)?;
     let writing = cases::writing::all(alloc)?;
     Ok(reading.and(writing).and(cases::relays(alloc)?))
 }
 
-fn main(rt: HostRuntime) -> Result<(), &'static str> {
+fn main(rt: HostRuntime) -> Result<(), Unlike> {
     let line = match all(rt.alloc())? {
         Ending::Ample => "no growth was refused",
         Ending::Refused => "a growth was refused",
     };
-    println!(rt; "{line}").map_err(|_| "printing failed")
+    println!(rt; "{line}").map_err(|_| Unlike::Printing)
 }

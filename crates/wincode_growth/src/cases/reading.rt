@@ -1,5 +1,5 @@
 //! Reading: want of memory leaves the destination, and the reader where the schema says.
-use super::Ending;
+use super::{Ending, Unlike};
 use std::alloc::Global;
 use std::rc::Rc;
 use wincode::io::Lifetime;
@@ -12,7 +12,7 @@ fn read<'a, T: SchemaRead<Lifetime<'a>>>(
     bytes: &'a [u8],
     left: usize,
     behind: usize,
-) -> Result<Ending, &'static str> {
+) -> Result<Ending, Unlike> {
     let mut reader = bytes;
     let mut dst = None;
     match T::read(alloc, &mut reader, &mut dst) {
@@ -20,11 +20,11 @@ fn read<'a, T: SchemaRead<Lifetime<'a>>>(
         Err(ReadError::OutOfMemory) if dst.is_none() && reader.len() == behind => Ok(
             Ending::Refused,
         ),
-        _ => Err("a read"),
+        _ => Err(Unlike::Reading),
     }
 }
 
-pub fn all(alloc: Global) -> Result<Ending, &'static str> {
+pub fn all(alloc: Global) -> Result<Ending, Unlike> {
     let text = [2u8, 0, 0, 0, 0, 0, 0, 0, 195, 169, 9];
     let string = read::<String>(alloc, text.as_slice(), 1, 3)?;
     let list = read::<Vec<u8>>(alloc, text.as_slice(), 1, 3)?;

@@ -1,25 +1,25 @@
 //! Writing: a refused growth leaves the writer.
-use super::Ending;
+use super::{Ending, Unlike};
 use std::alloc::Global;
 use wincode::io::{self, Cursor, WriteResult, Writer};
 use wincode::{WriteError, serialize};
 
-fn ending(answer: WriteResult<()>) -> Result<Ending, &'static str> {
+fn ending(answer: WriteResult<()>) -> Result<Ending, Unlike> {
     match answer {
         Ok(()) => Ok(Ending::Ample),
         Err(io::WriteError::OutOfMemory) => Ok(Ending::Refused),
-        Err(_) => Err("a write"),
+        Err(_) => Err(Unlike::Writing),
     }
 }
 
 /// Two bytes and then three behind them.
-fn appended(alloc: Global) -> Result<Ending, &'static str> {
+fn appended(alloc: Global) -> Result<Ending, Unlike> {
     let Ok(mut bytes) = Vec::from_slice(alloc, &[1u8, 2]) else {
         return Ok(Ending::Refused);
     };
     let room = ending(bytes.make_room(3))?;
     if bytes.as_slice() != [1u8, 2].as_slice() {
-        return Err("room");
+        return Err(Unlike::Writing);
     }
     let written = ending(bytes.write(&[3, 4, 5]))?;
     let expected: &[u8] = match written {
@@ -29,19 +29,19 @@ fn appended(alloc: Global) -> Result<Ending, &'static str> {
     if bytes.as_slice() == expected {
         Ok(room.and(written))
     } else {
-        Err("a vector")
+        Err(Unlike::Writing)
     }
 }
 
 /// Two bytes, and one behind a gap of as many.
-fn behind_a_gap(alloc: Global) -> Result<Ending, &'static str> {
+fn behind_a_gap(alloc: Global) -> Result<Ending, Unlike> {
     let Ok(bytes) = Vec::from_slice(alloc, &[1u8, 2]) else {
         return Ok(Ending::Refused);
     };
     let mut cursor = Cursor::new_at(bytes, 4);
     let room = ending(cursor.make_room(1))?;
     if cursor.position() != 4 {
-        return Err("a position");
+        return Err(Unlike::Writing);
     }
     let written = ending(cursor.write(&[9]))?;
     let position = cursor.position();
@@ -53,12 +53,12 @@ fn behind_a_gap(alloc: Global) -> Result<Ending, &'static str> {
         Ending::Refused if position == 4 && bytes.as_slice() == [1u8, 2].as_slice() => Ok(
             Ending::Refused,
         ),
-        _ => Err("a cursor"),
+        _ => Err(Unlike::Writing),
     }
 }
 
 /// The same, in a vector that the cursor borrows.
-fn in_a_lent_vector(alloc: Global) -> Result<Ending, &'static str> {
+fn in_a_lent_vector(alloc: Global) -> Result<Ending, Unlike> {
     let Ok(mut bytes) = Vec::from_slice(alloc, &[1u8, 2]) else {
         return Ok(Ending::Refused);
     };
@@ -72,19 +72,19 @@ fn in_a_lent_vector(alloc: Global) -> Result<Ending, &'static str> {
         Ending::Refused if position == 1 && bytes.as_slice() == [1u8, 2].as_slice() => Ok(
             Ending::Refused,
         ),
-        _ => Err("a lent vector"),
+        _ => Err(Unlike::Writing),
     }
 }
 
-fn serialized(alloc: Global) -> Result<Ending, &'static str> {
+fn serialized(alloc: Global) -> Result<Ending, Unlike> {
     match serialize(alloc, &(7u8, true)) {
         Ok(bytes) if bytes.as_slice() == [7u8, 1].as_slice() => Ok(Ending::Ample),
         Err(WriteError::OutOfMemory) => Ok(Ending::Refused),
-        _ => Err("serialize"),
+        _ => Err(Unlike::Writing),
     }
 }
 
-pub fn all(alloc: Global) -> Result<Ending, &'static str> {
+pub fn all(alloc: Global) -> Result<Ending, Unlike> {
     let vector = appended(alloc)?;
     let cursor = behind_a_gap(alloc)?;
     let lent = in_a_lent_vector(alloc)?;
