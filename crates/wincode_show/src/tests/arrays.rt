@@ -82,14 +82,14 @@ fn array_sizes(rt: HostRuntime) {
 fn refused_arrays(rt: HostRuntime) -> Result<(), Fail> {
     let alloc = rt.alloc();
     let mut dst = Some([true, true, true]);
-    let mut reader = [1u8, 0, 2, 9].as_slice();
+    let mut reader = [0u8, 5, 1, 9].as_slice();
     let bad = <[bool; 3] as SchemaRead<Lifetime>>::read(alloc, &mut reader, &mut dst);
-    assert!(rt; matches!(&bad, Err(ReadError::InvalidBoolEncoding(2))));
+    assert!(rt; matches!(&bad, Err(ReadError::InvalidBoolEncoding(5))));
     assert_eq!(rt; reader, [9u8].as_slice());
-    let mut few = [1u8, 0].as_slice();
-    let short = <[bool; 3] as SchemaRead<Lifetime>>::read(alloc, &mut few, &mut dst);
-    assert!(rt; matches!(&short, Err(ReadError::Io(io::ReadError::ReadSizeLimit(3)))));
-    assert_eq!(rt; few.len(), 2);
+    let mut few = [0u8; 15].as_slice();
+    let short = <[u64; 2] as SchemaGet<Lifetime>>::get(alloc, &mut few);
+    assert!(rt; matches!(&short, Err(ReadError::Io(io::ReadError::ReadSizeLimit(16)))));
+    assert_eq!(rt; few.len(), 15);
     assert!(rt; dst == Some([true, true, true]));
     let mut room = [9u8; 15];
     let mut writer = SliceWriter::new(room.as_mut_slice());
