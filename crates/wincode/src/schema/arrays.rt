@@ -1,4 +1,8 @@
-//! Schemas of arrays.
+//! Schemas of arrays. An array is its items, one after another, with no length before them.
+//!
+//! Where the items have one size, the array is read and written through one window of its size, in bytes:
+//! fewer bytes are `Io(ReadSizeLimit)` of that size, and stay; where an item is refused, the bytes of the
+//! whole array are gone; less room is `Io(WriteSizeLimit)` of that size, and nothing is written.
 ghost use Rattle.std.specs.Prelude.{◌≡◌, ℕ, List, map, false, IfErr, OnOk, OnErr, MatchResult};
 ghost use Rattle.wincode_array.specs.Runs.{Gave, Failed};
 ghost use Rattle.wincode.specs.Arrays.{times_meta, IsArray, array_read, array_write};

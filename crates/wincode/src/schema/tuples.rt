@@ -1,4 +1,9 @@
-//! Schemas of tuples. A tuple is its members, one after another.
+//! Schemas of tuples. A tuple is its members, one after another, with nothing between them.
+//!
+//! Where all members have one size, the tuple is read and written through one window of the sum, in bytes.
+//! Reading: fewer bytes are `Io(ReadSizeLimit)` of the sum, and stay; where a member is refused, the bytes of
+//! the whole tuple are gone. Writing: less room is `Io(WriteSizeLimit)` of the sum, and nothing is written.
+//! Other tuples go member by member, and a refusal leaves what the members before it took or wrote.
 ghost use Rattle.std.specs.Prelude.{◌≡◌, false, IfOk, IfErr, OnOk};
 ghost use Rattle.wincode.specs.Pairs.{pair_meta, pair_read, pair_write};
 ghost use Rattle.wincode.specs.PairLaws.{pair_read_laws, pair_write_laws, pair_reads_back, write_laws_by, reads_back_by};
