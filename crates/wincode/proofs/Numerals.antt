@@ -15,7 +15,7 @@ use Rattle.std.specs.Int.{cast_unsigned, cast_signed}
 use mir.Val.{bits}
 use Rattle.wincode.specs.Outcomes.{Gives, Puts, Refuses, TakesNumber, Accepts, IsDenied, Wrote, Unwritten}
 use Rattle.wincode.specs.WriteSequences.{text_wrote, text_unwritten}
-use Rattle.wincode.proofs.Sized.{takes_gives, takes_joins, denied_refuses}
+use Rattle.wincode.proofs.Sized.{takes_gives, takes_joins, denied_refuses, puts}
 use Rattle.wincode.specs.declared.error.ReadError.{ReadError}
 use Rattle.wincode.specs.declared.error.ReadError.TheVariants as reading
 use Rattle.wincode.specs.declared.error.WriteError.TheVariants as writing
@@ -48,7 +48,7 @@ number_gives k any old new v t = takes_gives (number_read k any).reads k old new
 
 -- the destination has a number that was read
 pub number_puts : {V : Type 0} (reads : List ℕ → V → Type 0) (old new : ReaderState) (v : V) → Gives reads old new v → Puts reads (λ n. n) old new (Some v)
-number_puts reads old new v g = record { value = v; is = refl; gives = g }
+number_puts reads old new v = puts reads (λ n. n) old new v
 
 -- a number was refused for its k bytes
 pub number_refuses : (k : ℕ) (any : Bool) (old new : ReaderState) (e : ReadError) → IsDenied k old new e → Refuses (number_read k any).reads 0 true old new e

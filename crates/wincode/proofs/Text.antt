@@ -154,7 +154,7 @@ char_denied old new (reading.Io e) d = (d.0, inl d.1)
 char_denied old new _ d = absurd d
 
 stays_trans : {a b c : ReaderState} → Stays a b → Stays b c → Stays a c
-stays_trans s t = record { kept = kept_trans s.kept t.kept; rest = λ told. t.rest (told_kept s.kept told) ∙ s.rest told }
+stays_trans s t = record { kept = kept_trans s.kept t.kept; rest = λ told. t.rest (told_kept s.kept told) ∙ s.rest told; place = t.place ∙ s.place }
 
 short_before : (n : ℕ) {old mid : ReaderState} → Stays old mid → (new : ReaderState) (e : IoReadError) → IsRefusal (IsShort n mid) ⊥ n new e → IsRefusal (IsShort n old) ⊥ n new e
 short_before n {old} {mid} s new (reader.ReadSizeLimit m) d = (λ told. subst (λ r. length r < n) (s.rest told) (d.0 (told_kept s.kept told)), d.1)

@@ -1,5 +1,5 @@
 -- How what each write of a sequence answers makes what the whole answers.
-use Rattle.std.proofs.Common.{◌≡◌, ◌∙◌, sym, ap, subst, ℕ, ◌+◌, ◌-◌, ◌<◌, ◌≤◌, Bool, true, List, [], ◌∷◌, ◌++◌, length, map, refl, arith, append_assoc, append-nil, length-append}
+use Rattle.std.proofs.Common.{◌≡◌, ◌∙◌, sym, ap, subst, ℕ, ◌+◌, ◌-◌, ◌<◌, ◌≤◌, Bool, List, [], ◌∷◌, ◌++◌, length, map, refl, arith, append_assoc, append-nil, length-append}
 use Rattle.wincode_io.specs.Writers.{WriterLaws, IsWriteRefusal, IsWriteRefused}
 use Rattle.wincode.specs.Grammar.{WriteGrammar, WriteLaws}
 use Rattle.wincode.specs.Lengths.{Scheme, length_write}
@@ -7,7 +7,7 @@ use Rattle.wincode.specs.Lists.{Joined, Each, total, items_write, list_write}
 use Rattle.wincode.specs.ListLaws.{items_write_laws}
 use Rattle.wincode.specs.LengthLaws.{length_write_laws}
 use Rattle.wincode.specs.Pairs.{pair_write}
-use Rattle.wincode.specs.Outcomes.{Wrote, Unwritten, WriteDue, WriterDue, IsWholeRefused}
+use Rattle.wincode.specs.Outcomes.{Wrote, Unwritten, WriteDue, WriterDue}
 use Rattle.wincode.specs.declared.error.WriteError.{WriteError}
 use Rattle.wincode.specs.declared.error.WriteError.TheVariants as writing
 use Rattle.wincode_io.specs.declared.error.WriteError.{WriteError as IoWriteError}
@@ -42,11 +42,6 @@ module _ {S : Type 0} (put : S → List ℕ → S) (room : S → ℕ) where
     began = λ c. record { front = []; more = text; is_text = is; within = omega arith; added = d.0 ∙ sym (laws.nil old) };
     due = writer_due_map (length text ≤ room old) (g.can v × (g.size v ≤ room old)) steady failures (λ x. omega (arith, x.1, size)) e (refusal_due (length text) (room old) steady failures e d.1);
   }
-
-  -- that text is one piece
-  pub text_whole : {V : Type 0} (g : WriteGrammar V) (v : V) (text : List ℕ) (old new : S) (steady : Bool) (failures : ℕ) (e : IoWriteError) → length text ≡ g.size v
-      → IsWriteRefused old new (room old < length text) (length text) steady failures e → IsWholeRefused true room g old new v steady failures (writing.Io e)
-  text_whole g v text old new steady failures e size d = λ w c. subst (λ n. IsWriteRefused old new (room old < n) n steady failures e) size d
 
   -- what has the same texts and size is written likewise
   pub wrote_map : {V W : Type 0} (g : WriteGrammar V) (h : WriteGrammar W) (old new : S) (v : V) (w : W) → (g.can v → h.can w) → h.size w ≡ g.size v → ((b : List ℕ) → g.writes v b → h.writes w b)

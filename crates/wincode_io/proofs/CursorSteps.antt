@@ -2,8 +2,8 @@
 use Rattle.std.proofs.Common.{◌≡◌, ℕ, ◌+◌, ◌-◌, ◌<◌, ◌≤◌, List, [], ◌∷◌, ◌++◌, length, take, drop, replicate, refl, ap, sym, ◌∙◌, append_assoc, append-nil, arith, length-append, inl, inr}
 use Rattle.std.proofs.lemmas.List.{take-append-le, length-replicate, drop_all, replicate-append-replicate}
 use Rattle.std.proofs.lemmas.Bool.{cases_lt}
-use Rattle.wincode_io.specs.Cursors.{Placed}
-use Rattle.wincode_io.specs.CursorWriters.{placed, with_zeros, overwritten, cursor_put}
+use Rattle.wincode_io.specs.Places.{Placed, placed}
+use Rattle.wincode_io.specs.CursorWriters.{with_zeros, overwritten, cursor_put}
 
 pub put_some : (s : Placed (List ℕ)) (a : List ℕ) → 0 < length a → cursor_put s a ≡ placed (overwritten s.inner s.position a) (s.position + length a)
 put_some s [] h = absurd (omega arith)

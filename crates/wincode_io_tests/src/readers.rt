@@ -1,8 +1,9 @@
 //! Readers and their windows.
-ghost use Rattle.std.specs.Prelude.{◌≡◌, ◌≤◌, ◌++◌, length, take, IfOk, IfErr, IsTrue};
+ghost use Rattle.std.specs.Prelude.{◌≡◌, if◌then◌else◌, ◌+◌, ◌<◌, ◌≤◌, ◌++◌, false, length, take, IfOk, IfErr, IsTrue};
+ghost use Rattle.wincode_io.specs.Cursors.{inner_of, position_of, reading};
 ghost use Rattle.wincode_io.specs.Readers.{Loses, IsRefused, IsShort};
 
-use wincode_io::{Lending, ReadResult, ReadWindow, Reader, copy_into_array};
+use wincode_io::{Cursor, Lending, ReadResult, ReadWindow, Reader, copy_into_array};
 
 /// Two pairs of bytes from the next six, through a window of these six, which gives the first pair,
 /// and a window in it of the other four, which gives the second. The last two bytes are read by
@@ -22,12 +23,23 @@ pub fn pairs<L: Lending, R: Reader<L>>(reader: &mut R) -> ReadResult<([u8; 2], [
     Ok((first, second))
 }
 
+/// Goes on by `n` bytes where so many are left, and says whether it did; else the cursor stays where it
+/// is, past its end too.
+pub fn skips(cursor: &mut Cursor<&[u8]>, n: usize) -> bool
+    ensures there { IsTrue result → n ≤ length (reading cursor.old).rest }
+    ensures short { result ≡ false → length (reading cursor.old).rest < n }
+    ensures inner { (inner_of cursor.new).now ≡ (inner_of cursor.old).now }
+    ensures position { position_of cursor.new ≡ (if result then position_of cursor.old + n else position_of cursor.old) }
+{
+    cursor.consume(n).is_ok()
+}
+
 #[cfg(test)]
 mod tests {
     use super::*;
     use std::test::Fail;
     use wincode_io::{
-        Cursor, Input, Lifetime, ReadError, TrustedSliceReader, TrustedSliceReaderZeroCopy,
+        Input, Lifetime, ReadError, TrustedSliceReader, TrustedSliceReaderZeroCopy,
         TrustedSliceReaderZeroCopyMut, fill_array,
     };
 
@@ -153,6 +165,8 @@ mod tests {
                 assert!(rt; cursor.fill_exact(0)?.is_empty());
                 cursor.consume(0)?;
                 cursor.as_trusted_for(0)?;
+                assert_eq!(rt; cursor.position(), position);
+                assert!(rt; !skips(&mut cursor, left.len() + 1));
                 assert_eq!(rt; cursor.position(), position);
                 let mut window = cursor.as_trusted_for(left.len())?;
                 assert!(rt; shows_all(&mut window, left)?);

@@ -1,7 +1,8 @@
 //! Writing in parts and in windows, through any writer.
 ghost use Rattle.std.specs.Prelude.{◌≡◌, ℕ, ◌+◌, ◌-◌, ◌^◌, ◌<◌, ◌≤◌, ◌⊎◌, ◌/◌, List, length, take, drop, ◌++◌, OnOk, IfErr, false, true};
 ghost use Rattle.wincode_io.specs.Writers.{IsWriteRefusal, IsWriteRefused, byte_limit};
-ghost use Rattle.wincode_io.specs.CursorWriters.{placed, cursor_put};
+ghost use Rattle.wincode_io.specs.CursorWriters.{cursor_put};
+ghost use Rattle.wincode_io.specs.Places.{placed};
 ghost use Rattle.wincode_io_tests.specs.WriterUses.{BothRefused};
 
 use wincode_io::{Cursor, SliceWriter, TrustedSliceWriter, WriteResult, WriteWindow, Writer};

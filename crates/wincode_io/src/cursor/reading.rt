@@ -1,8 +1,6 @@
 //! A cursor over shared bytes, as a reader.
-ghost use Rattle.std.specs.Prelude.{◌≡◌, ◌≤◌, drop, IfOk, IfErr, OnOk};
-ghost use Rattle.wincode_io.specs.Readers.{Loses, Windowed, IsRefused, IsShort};
-ghost use Rattle.wincode_io.specs.Windows.{window_state};
-ghost use Rattle.wincode_io.specs.Cursors.{reading, Moves};
+ghost use Rattle.std.specs.Prelude.{◌≡◌, drop};
+ghost use Rattle.wincode_io.specs.Cursors.{reading};
 
 use super::super::error::{ReadError, ReadResult};
 use super::super::lending::Lifetime;
@@ -23,20 +21,11 @@ impl<'a> Reader<Lifetime<'a>> for Cursor<&'a [u8]> {
         rest_of(self.inner, self.position)
     }
 
-    fn consume_unchecked(&mut self, n: usize)
-        requires { n ≤ (reading self.old).ready }
-        ensures loses { Loses n (reading self.old) (reading self.new) }
-        ensures moves { Moves n self.old self.new }
-    {
+    fn consume_unchecked(&mut self, n: usize) {
         self.position += n;
     }
 
-    fn consume(&mut self, n: usize) -> ReadResult<()>
-        ensures ok { OnOk result (Loses n (reading self.old) (reading self.new)) }
-        ensures err { IfErr result (IsRefused (IsShort n (reading self.old)) ⊥ n (reading self.old) (reading self.new)) }
-        ensures moves { OnOk result (Moves n self.old self.new) }
-        ensures stays { IfErr result (λ e. self.new ≡ self.old) }
-    {
+    fn consume(&mut self, n: usize) -> ReadResult<()> {
         if n <= self.at_hand().len() {
             self.consume_unchecked(n);
             Ok(())
@@ -53,12 +42,7 @@ impl<'a> Reader<Lifetime<'a>> for Cursor<&'a [u8]> {
         Err(ReadError::UnsupportedZeroCopy)
     }
 
-    fn as_trusted_for(&mut self, n: usize) -> ReadResult<ReadWindow<Lifetime<'a>>>
-        ensures ok { IfOk result (λ w. Windowed n (reading self.old) (reading self.new) (window_state w)) }
-        ensures err { IfErr result (IsRefused (IsShort n (reading self.old)) ⊥ n (reading self.old) (reading self.new)) }
-        ensures moves { OnOk result (Moves n self.old self.new) }
-        ensures stays { IfErr result (λ e. self.new ≡ self.old) }
-    {
+    fn as_trusted_for(&mut self, n: usize) -> ReadResult<ReadWindow<Lifetime<'a>>> {
         let rest = rest_of(self.inner, self.position);
         if n <= rest.len() {
             self.position += n;
