@@ -1,8 +1,8 @@
--- A schema that accepts nothing.
-use Rattle.std.specs.Prelude.{◌≡◌, true}
+-- A schema that accepts nothing and whose value has no text.
+use Rattle.std.specs.Prelude.{◌≡◌, true, false}
 use Rattle.std.proofs.Common.{arith}
 use Rattle.wincode_io.specs.Readers.{ReaderState}
-use Rattle.wincode.specs.Grammar.{ReadGrammar, ReadLaws}
+use Rattle.wincode.specs.Grammar.{ReadGrammar, ReadLaws, WriteGrammar, WriteLaws}
 use Rattle.wincode.specs.declared.error.ReadError.{ReadError}
 use Rattle.wincode.specs.declared.error.ReadError.TheVariants.{Custom}
 use Rattle.wincode.specs.declared.meta.TypeMeta.TheVariants.{Dynamic}
@@ -27,4 +27,23 @@ nothing_read_laws = record {
   is_proper = λ b v r. tt;
   statics = tt;
   prealloc = omega arith;
+}
+
+abbrev pub nothing_write : WriteGrammar Unit
+nothing_write = record {
+  writes = λ v b. ⊥;
+  can = λ v. ⊥;
+  size = λ v. 0;
+  fits = λ v. ⊥;
+  meta = Dynamic;
+  prealloc = 1;
+  own = false;
+}
+
+pub nothing_write_laws : {X : Type 0} → WriteLaws {X = X} (λ x. Unit {0}) (λ x. tt) nothing_write
+nothing_write_laws = record {
+  has_text = λ v c. absurd c;
+  text_size = λ v b w. absurd w;
+  can_fit = λ v f. f;
+  statics = tt;
 }

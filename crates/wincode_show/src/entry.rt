@@ -1,6 +1,6 @@
 //! A struct of the repository's own, with its schema by hand, and a call for every schema that reads
 //! what it writes.
-ghost use Rattle.std.specs.Prelude.{◌≡◌, ℕ, ◌<◌, ◌^◌, List, map, IfOk, IfSome, IsTrue};
+ghost use Rattle.std.specs.Prelude.{◌≡◌, ℕ, ◌<◌, ◌^◌, List, map, IfOk, IfErr, IsTrue};
 ghost use Rattle.std.proofs.Common.{lit≤, true, false};
 ghost use Rattle.wincode.specs.Lengths.{bincode};
 ghost use Rattle.wincode.specs.LengthLaws.{bincode_laws};
@@ -10,12 +10,14 @@ ghost use Rattle.wincode.specs.Lists.{Each};
 ghost use Rattle.wincode.specs.ListLaws.{list_read_laws, list_write_laws, list_reads_back};
 ghost use Rattle.wincode.specs.PairLaws.{pair_read_laws, pair_write_laws, pair_reads_back, write_laws_by, reads_back_by};
 ghost use Rattle.wincode.specs.Outcomes.{unsaid};
-ghost use Rattle.wincode_show.specs.Entry.{tags_read, tags_write, entry_read, entry_write, Rewritten};
+ghost use Rattle.wincode_show.specs.Entry.{tags_read, tags_write, entry_read, entry_write, Rewritten, IsNotRewritten};
 
 use std::alloc::Global;
 use wincode::error::write_length_encoding_overflow;
 use wincode::io::{Lending, Reader, Writer};
-use wincode::{ReadResult, RoundTrip, SchemaGet, SchemaRead, SchemaWrite, TypeMeta, WriteResult};
+use wincode::{
+    ReadResult, Result, RoundTrip, SchemaGet, SchemaRead, SchemaWrite, TypeMeta, WriteResult,
+};
 
 /// A number with tags.
 #[derive(Debug, Drop)]
@@ -98,19 +100,19 @@ impl<L: Lending> RoundTrip<L> for Entry {
 }
 
 /// Reads a value from the front of what the reader has, and gives a text of it: what is written reads
-/// as what was read.
+/// as what was read. Refused by `ReadError`, it is as `get`; by `WriteError`, the value was read, and there is
+/// no memory for its text, or more than `usize::MAX` bytes of it.
 pub fn rewrite<L: Lending, R: Reader<L>, T: RoundTrip<L>>(
     alloc: Global,
     reader: &mut R,
-) -> ReadResult<Option<Vec<u8>>>
+) -> Result<Vec<u8>>
 where
     T::Src: Drop,
-    ensures { IfOk result (λ text. IfSome text (λ t. IsTrue (R.state reader.old).told → Rewritten T.SchemaRead.seen T.SchemaRead.reading.reads (R.state reader.old) (R.state reader.new) t.items)) }
+    ensures ok { IfOk result (λ text. IsTrue (R.state reader.old).told → Rewritten T.SchemaRead.seen T.SchemaRead.reading.reads (R.state reader.old) (R.state reader.new) text.items) }
+    ensures err { IfErr result (IsNotRewritten T.SchemaRead.seen T.SchemaRead.reading T.SchemaWrite.seen T.SchemaWrite.writing (R.state reader.old) (R.state reader.new)) }
 {
     let value = T::get(alloc, reader)?;
     let mut text = Vec::new(alloc);
-    match T::write(&mut text, &value) {
-        Ok(()) => Ok(Some(text)),
-        Err(_) => Ok(None),
-    }
+    T::write(&mut text, &value)?;
+    Ok(text)
 }

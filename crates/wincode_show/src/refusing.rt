@@ -1,12 +1,44 @@
-//! A schema that refuses every input, as a member of others.
-ghost use Rattle.wincode_show.specs.Refusing.{nothing_read, nothing_read_laws, IsRefusing};
+//! A schema that refuses every input and its one value, as a member of others.
+ghost use Rattle.std.specs.Prelude.{false};
+ghost use Rattle.wincode_show.specs.Refusing.{nothing_read, nothing_read_laws, IsRefusing, nothing_write, nothing_write_laws};
 
 use std::alloc::Global;
-use wincode::io::{Lending, Reader};
-use wincode::{ReadError, ReadResult, SchemaRead, TypeMeta};
+use wincode::io::{Lending, Reader, Writer};
+use wincode::{ReadError, ReadResult, SchemaRead, SchemaWrite, TypeMeta, WriteError, WriteResult};
 
-/// What can't be read.
+/// What can't be read and can't be written.
 pub struct Refusing;
+
+impl SchemaWrite for Refusing {
+    type Src = Refusing;
+
+    ghost Value = { Unit };
+
+    ghost seen = { λ _. tt };
+
+    ghost proper = { λ _. Unit {0} };
+
+    ghost writing = { nothing_write };
+
+    ghost whole = { false };
+
+    fn type_meta() -> TypeMeta {
+        TypeMeta::Dynamic
+    }
+
+    /// It is `Custom`.
+    fn size_of(_src: &Refusing) -> WriteResult<usize> {
+        Err(WriteError::Custom("refusing"))
+    }
+
+    /// It is `Custom`, and nothing is written.
+    fn write<W: Writer>(writer: &mut W, _src: &Refusing) -> WriteResult<()> {
+        let _ = &*writer;
+        Err(WriteError::Custom("refusing"))
+    }
+
+    ghost write_laws = { nothing_write_laws };
+}
 
 impl<L: Lending> SchemaRead<L> for Refusing {
     type Dst = ();

@@ -5,6 +5,7 @@ mod arrays;
 mod leaves;
 mod parts;
 mod tuples;
+mod unwritten;
 mod vectors;
 
 use super::entry::{Entry, rewrite};
@@ -135,7 +136,7 @@ fn an_entry(rt: HostRuntime) -> Result<(), Fail> {
     );
     let mut reader = text.as_slice();
     let again = rewrite::<Lifetime, &[u8], Entry>(alloc, &mut reader)?;
-    assert!(rt; again == Some(text));
+    assert!(rt; again == text);
     Ok(())
 }
 
@@ -171,16 +172,16 @@ fn digits_of(alloc: Global, bytes: &[u8]) -> Result<String, Fail> {
 /// What reading answered, as the table has it.
 fn outcome(
     alloc: Global,
-    text: ReadResult<Option<Vec<u8>>>,
+    text: wincode::Result<Vec<u8>>,
     left: usize,
 ) -> Result<Option<String>, Fail> {
     match text {
-        Ok(Some(text)) => {
+        Ok(text) => {
             let digits = digits_of(alloc, text.as_slice())?;
             Ok(Some(format!(in alloc; "ok {left} {digits}")?))
         }
-        Ok(None) => Err(Fail::from("unwritten")),
-        Err(error) => Ok(Some(format!(in alloc; "err {error:?} {left}")?)),
+        Err(Error::ReadError(error)) => Ok(Some(format!(in alloc; "err {error:?} {left}")?)),
+        Err(Error::WriteError(_)) => Err(Fail::from("unwritten")),
     }
 }
 
