@@ -1,17 +1,44 @@
 //! What a reader may lend: a lifetime, as a type.
-ghost use Rattle.std.specs.Prelude.{◌≡◌, ℕ, ◌≤◌, List, length, take, drop, IsUtf8, MatchResult};
+ghost use Rattle.std.specs.Prelude.{◌≡◌, ℕ, ◌≤◌, List, length, take, drop, IsUtf8, MatchResult, slice_range};
+ghost use Rattle.std.proofs.Common.{refl};
 
 use std::mem;
 use std::str::{self, Utf8Error};
+
+/// Bytes that were lent, shared or for writing.
+pub trait Held {
+    // The bytes that they hold.
+    ghost holds: { Self → List ℕ };
+
+    /// The bytes, as a slice.
+    fn as_held(&self) -> &[u8]
+        ensures { result.now ≡ holds self.now };
+}
+
+impl<'a> Held for &'a [u8] {
+    ghost holds = { λ s. s.now };
+
+    fn as_held(&self) -> &[u8] {
+        *self
+    }
+}
+
+impl<'a> Held for &'a mut [u8] {
+    ghost holds = { λ s. s.now };
+
+    fn as_held(&self) -> &[u8] {
+        &**self
+    }
+}
 
 /// The bytes that a reader may lend, shared or for writing.
 ///
 /// It stands in bounds in place of a lifetime: Rust's `Reader<'de>` is `Reader<L>` here, for any
 /// `L: Lending`, and `Reader<Lifetime<'de>>` at a concrete reader over borrowed bytes.
 pub trait Lending {
-    type Bytes: Drop;
+    type Bytes: Copy + Drop + Held;
 
-    type BytesMut: Drop;
+    type BytesMut: Drop + Held;
 
     type Text: Drop;
 
@@ -31,11 +58,11 @@ pub trait Lending {
     fn bytes_of_mut(bytes: &Self::BytesMut) -> &[u8]
         ensures { result.now ≡ held_mut bytes.now };
 
-    /// Cuts the first `n` bytes off.
-    fn take_front(bytes: &mut Self::Bytes, n: usize) -> Self::Bytes
-        requires { n ≤ length (held bytes.old) }
-        ensures front { held result ≡ take n (held bytes.old) }
-        ensures rest { held bytes.new ≡ drop n (held bytes.old) };
+    /// The lent bytes from a place to an end.
+    fn part(bytes: &Self::Bytes, place: usize, end: usize) -> Self::Bytes
+        requires order { place ≤ end }
+        requires within { end ≤ length (held bytes.now) }
+        ensures { held result ≡ slice_range (held bytes.now) place end };
 
     /// Cuts the first `n` bytes off those that are lent for writing.
     fn take_front_mut(bytes: &mut Self::BytesMut, n: usize) -> Self::BytesMut
@@ -50,6 +77,11 @@ pub trait Lending {
     /// The lent bytes as a text, where they are UTF-8.
     fn text(bytes: Self::Bytes) -> Result<Self::Text, Utf8Error>
         ensures { MatchResult result (λ t. (held_text t ≡ held bytes) × IsUtf8 (held bytes)) (λ e. IsUtf8 (held bytes) → ⊥) };
+
+    // What lent bytes hold is what is said of them here.
+    ghost same_held: { (s : Self.Bytes) → held s ≡ Self.Bytes.holds s };
+
+    ghost same_held_mut: { (s : Self.BytesMut) → held_mut s ≡ Self.BytesMut.holds s };
 }
 
 /// The lifetime `'a`, as a type: what is lent are slices that live for it.
@@ -76,11 +108,9 @@ impl<'a> Lending for Lifetime<'a> {
         &**bytes
     }
 
-    fn take_front(bytes: &mut &'a [u8], n: usize) -> &'a [u8] {
+    fn part<'s>(bytes: &'s &'a [u8], place: usize, end: usize) -> &'a [u8] {
         let all = *bytes;
-        let (front, rest) = all.split_at(n);
-        *bytes = rest;
-        front
+        &all[place..end]
     }
 
     fn take_front_mut(bytes: &mut &'a mut [u8], n: usize) -> &'a mut [u8] {
@@ -97,17 +127,8 @@ impl<'a> Lending for Lifetime<'a> {
     fn text(bytes: &'a [u8]) -> Result<&'a str, Utf8Error> {
         str::from_utf8(bytes)
     }
-}
 
-/// A slice to read from, whose type names what it lends.
-pub trait Input {
-    type Lends: Lending;
-}
+    ghost same_held = { λ s. refl };
 
-impl<'a> Input for &'a [u8] {
-    type Lends = Lifetime<'a>;
-}
-
-impl<'a> Input for &'a mut [u8] {
-    type Lends = Lifetime<'a>;
+    ghost same_held_mut = { λ s. refl };
 }

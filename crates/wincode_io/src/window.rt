@@ -1,21 +1,28 @@
 //! Windows: readers of a part of another reader's bytes.
-ghost use Rattle.std.specs.Prelude.{◌≡◌, ℕ, List};
+ghost use Rattle.std.specs.Prelude.{◌≡◌, ◌≤◌, take, drop, length, slice_range};
 
 mod reading;
 
 use super::lending::Lending;
 use std::marker::Model;
 
-/// A window that lends shared bytes. To contracts it is the bytes that it has left.
+/// A window that lends shared bytes: those from a place to an end of its parent's uncut bytes. To
+/// contracts it is the bytes that it has left.
 #[derive(Drop)]
 pub struct TrustedSliceReaderZeroCopy<L: Lending> {
-    bytes: L::Bytes,
+    all: L::Bytes,
+    place: usize,
+    end: usize,
 }
 
 impl<L: Lending> Model for TrustedSliceReaderZeroCopy<L> {
+    ghost use Rattle.std.specs.Prelude.{ℕ, List, ◌≤◌, length, slice_range};
+
     ghost Value = { List ℕ };
 
-    ghost view = { λ w. L.held w.bytes };
+    ghost view = { λ w. slice_range (L.held w.all) w.place w.end };
+
+    ghost invariant = { λ w. (w.place ≤ w.end) × (w.end ≤ length (L.held w.all)) };
 }
 
 impl<L: Lending> TrustedSliceReaderZeroCopy<L> {
@@ -23,20 +30,36 @@ impl<L: Lending> TrustedSliceReaderZeroCopy<L> {
     pub fn new(bytes: L::Bytes) -> Self
         ensures { result ≡ L.held bytes }
     {
-        TrustedSliceReaderZeroCopy { bytes }
+        let end = L::bytes_of(&bytes).len();
+        Self::within(bytes, 0, end)
+    }
+
+    /// A window of the bytes from a place to an end of these.
+    pub(crate) fn within(all: L::Bytes, place: usize, end: usize) -> Self
+        requires order { place ≤ end }
+        requires within { end ≤ length (L.held all) }
+        ensures { result ≡ slice_range (L.held all) place end }
+    {
+        TrustedSliceReaderZeroCopy { all, place, end }
     }
 }
 
-/// A window that lends its bytes for writing, or shared. To contracts it is the bytes that it has left.
+/// A window that lends its bytes for writing, or shared: those from a place on. It cuts them only to
+/// lend, or to hand out a window. To contracts it is the bytes that it has left.
 #[derive(Drop)]
 pub struct TrustedSliceReaderZeroCopyMut<L: Lending> {
-    bytes: L::BytesMut,
+    all: L::BytesMut,
+    place: usize,
 }
 
 impl<L: Lending> Model for TrustedSliceReaderZeroCopyMut<L> {
+    ghost use Rattle.std.specs.Prelude.{ℕ, List, ◌≤◌, length, drop};
+
     ghost Value = { List ℕ };
 
-    ghost view = { λ w. L.held_mut w.bytes };
+    ghost view = { λ w. drop w.place (L.held_mut w.all) };
+
+    ghost invariant = { λ w. w.place ≤ length (L.held_mut w.all) };
 }
 
 impl<L: Lending> TrustedSliceReaderZeroCopyMut<L> {
@@ -44,20 +67,42 @@ impl<L: Lending> TrustedSliceReaderZeroCopyMut<L> {
     pub fn new(bytes: L::BytesMut) -> Self
         ensures { result ≡ L.held_mut bytes }
     {
-        TrustedSliceReaderZeroCopyMut { bytes }
+        TrustedSliceReaderZeroCopyMut {
+            all: bytes,
+            place: 0,
+        }
+    }
+
+    /// The next `n` bytes, cut off, with those that were read before.
+    fn cut(&mut self, n: usize) -> L::BytesMut
+        requires { n ≤ length self.old }
+        ensures front { L.held_mut result ≡ take n self.old }
+        ensures rest { self.new ≡ drop n self.old }
+    {
+        let place = self.place;
+        self.place = 0;
+        L::take_front_mut(&mut self.all, place);
+        L::take_front_mut(&mut self.all, n)
     }
 }
 
-/// A window that lends nothing. To contracts it is the bytes that it has left.
+/// A window that lends nothing: the bytes from a place to an end of its parent's uncut bytes. To
+/// contracts it is the bytes that it has left.
 #[derive(Drop)]
 pub struct TrustedSliceReader<L: Lending> {
-    bytes: L::Bytes,
+    all: L::Bytes,
+    place: usize,
+    end: usize,
 }
 
 impl<L: Lending> Model for TrustedSliceReader<L> {
+    ghost use Rattle.std.specs.Prelude.{ℕ, List, ◌≤◌, length, slice_range};
+
     ghost Value = { List ℕ };
 
-    ghost view = { λ w. L.held w.bytes };
+    ghost view = { λ w. slice_range (L.held w.all) w.place w.end };
+
+    ghost invariant = { λ w. (w.place ≤ w.end) × (w.end ≤ length (L.held w.all)) };
 }
 
 impl<L: Lending> TrustedSliceReader<L> {
@@ -65,8 +110,28 @@ impl<L: Lending> TrustedSliceReader<L> {
     pub fn new(bytes: L::Bytes) -> Self
         ensures { result ≡ L.held bytes }
     {
-        TrustedSliceReader { bytes }
+        let end = L::bytes_of(&bytes).len();
+        Self::within(bytes, 0, end)
     }
+
+    /// A window of the bytes from a place to an end of these.
+    pub(crate) fn within(all: L::Bytes, place: usize, end: usize) -> Self
+        requires order { place ≤ end }
+        requires within { end ≤ length (L.held all) }
+        ensures { result ≡ slice_range (L.held all) place end }
+    {
+        TrustedSliceReader { all, place, end }
+    }
+}
+
+/// The bytes from a place to an end, as a slice.
+fn between<L: Lending>(all: &L::Bytes, place: usize, end: usize) -> &[u8]
+    requires order { place ≤ end }
+    requires within { end ≤ length (L.held all.now) }
+    ensures { result.now ≡ slice_range (L.held all.now) place end }
+{
+    let bytes = L::bytes_of(all);
+    &bytes[place..end]
 }
 
 /// A window of a reader's next bytes, which lends what that reader lends.

@@ -1,10 +1,15 @@
 -- What writes in parts leave.
-use Rattle.std.specs.Prelude.{ℕ, ◌<◌, ◌≤◌, ◌⊎◌, Bool, List, length}
+use Rattle.std.specs.Prelude.{◌≡◌, ℕ, ◌<◌, ◌⊎◌, List, length}
 use Rattle.wincode_io.specs.declared.error.WriteError.{WriteError}
-use Rattle.wincode_io.specs.Writers.{IsWriteRefused}
+use Rattle.wincode_io.specs.declared.error.WriteError.TheVariants.{WriteSizeLimit}
+use Rattle.wincode_io.specs.Writers.{WriterState, Added, IsWriteRefused, IsWriteRefusal}
 
--- Two parts were refused: the first was, and the state stays, or it was taken and the second was refused.
-abbrev pub BothRefused : {S : Type 0} → (S → List ℕ → S) → (S → ℕ) → List ℕ → List ℕ → S → S → Bool → ℕ → WriteError → Type 0
-BothRefused put room first second old new steady failures e =
-    IsWriteRefused old new (room old < length first) (length first) steady failures e
-    ⊎ ((length first ≤ room old) × IsWriteRefused (put old first) new (room (put old first) < length second) (length second) steady failures e)
+-- Two parts were refused: the first was, or it was added and then the second was refused.
+abbrev pub IsBothRefused : {S K : Type 0} {put : S → List ℕ → S} {room : S → ℕ} → List ℕ → List ℕ → WriterState put room K → WriterState put room K → WriteError → Type 0
+IsBothRefused {room = room} first second old new e =
+    IsWriteRefused (length first) old new e
+    ⊎ (Added first old new × IsWriteRefusal (room new.content < length second) (length second) new e)
+
+-- n bytes were refused where room bytes are left
+abbrev pub IsOverrun : ℕ → ℕ → WriteError → Type 0
+IsOverrun n room e = (room < n) × (e ≡ WriteSizeLimit n)

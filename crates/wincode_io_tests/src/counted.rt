@@ -1,10 +1,10 @@
-//! A writer over a device that fails.
+//! Writers that count: the failures of a device, and the calls of `finish`.
 ghost use Rattle.std.specs.Prelude.{◌≡◌, ℕ, ◌+◌, ◌-◌, ◌<◌, ◌≤◌, Bool, true, false, IsTrue, min, List, length, ◌++◌, vec_capacity};
-ghost use Rattle.wincode_io.specs.Writers.{byte_limit};
+ghost use Rattle.wincode_io.specs.Writers.{in_memory, byte_limit};
 ghost use Rattle.wincode_io.specs.WriterLaws.{append_laws, min_right};
 
 use std::io;
-use wincode_io::{WriteError, WriteResult, Writer};
+use wincode_io::{WriteError, WriteResult, Writer, ZeroCopy};
 
 /// Appends to a vector, as a device does that makes room so many times and then fails each time.
 #[derive(Drop)]
@@ -59,9 +59,7 @@ impl Counted {
 
 /// Appends. Once the device fails, so does each call that asks for room, as `Io` of kind Other.
 impl Writer for Counted {
-    ghost State = { List ℕ };
-
-    ghost state = { λ c. c.bytes.items };
+    ghost Content = { List ℕ };
 
     ghost put = { λ s a. s ++ a };
 
@@ -69,13 +67,15 @@ impl Writer for Counted {
 
     ghost Kept = { Unit };
 
-    ghost kept = { λ _. tt };
+    ghost state = { λ c. record {
+      content = c.bytes.items;
+      kept = tt;
+      steady = false;
+      failures = c.failures;
+      ready = min (vec_capacity c.bytes - length c.bytes.items) (byte_limit - length c.bytes.items);
+    } };
 
-    ghost steady = { λ _. false };
-
-    ghost failures = { λ c. c.failures };
-
-    ghost ready = { λ c. min (vec_capacity c.bytes - length c.bytes.items) (byte_limit - length c.bytes.items) };
+    ghost buffers = { false };
 
     fn make_room(&mut self, n: usize) -> WriteResult<()> {
         if usize::MAX - self.bytes.len() < n {
@@ -94,7 +94,79 @@ impl Writer for Counted {
         let _ = self.bytes.extend_from_slice(src);
     }
 
+    fn write_ready_t<T: ZeroCopy>(&mut self, src: &T) {
+        self.bytes.write_ready_t(src);
+    }
+
     ghost writer_laws = { append_laws };
 
     ghost ready_room = { λ c. min_right (vec_capacity c.bytes - length c.bytes.items) (byte_limit - length c.bytes.items) };
+}
+
+/// Appends to a vector, as a writer does that keeps bytes back until it is finished, and counts how often
+/// it was.
+#[derive(Drop)]
+pub struct Finishing {
+    bytes: Vec<u8>,
+    finished: usize,
+}
+
+impl Finishing {
+    /// A writer with these bytes, which was not finished yet.
+    pub fn new(bytes: Vec<u8>) -> Finishing
+        ensures bytes { result.bytes ≡ bytes }
+        ensures finished { result.finished ≡ 0 }
+    {
+        Finishing { bytes, finished: 0 }
+    }
+
+    /// The bytes that it took.
+    pub fn bytes(&self) -> &[u8]
+        ensures { result.now ≡ self.now.bytes.items }
+    {
+        self.bytes.as_slice()
+    }
+
+    /// How often it was finished; the count stays at `usize::MAX`.
+    pub fn finished(&self) -> usize
+        ensures { result ≡ self.now.finished }
+    {
+        self.finished
+    }
+}
+
+/// Appends. A refused growth is `OutOfMemory`.
+impl Writer for Finishing {
+    ghost Content = { List ℕ };
+
+    ghost put = { λ s a. s ++ a };
+
+    ghost room = { λ s. byte_limit - length s };
+
+    ghost Kept = { Unit };
+
+    ghost state = { λ w. in_memory w.bytes.items tt (min (vec_capacity w.bytes - length w.bytes.items) (byte_limit - length w.bytes.items)) };
+
+    ghost buffers = { true };
+
+    fn make_room(&mut self, n: usize) -> WriteResult<()> {
+        self.bytes.make_room(n)
+    }
+
+    fn write_ready(&mut self, src: &[u8]) {
+        self.bytes.write_ready(src);
+    }
+
+    fn write_ready_t<T: ZeroCopy>(&mut self, src: &T) {
+        self.bytes.write_ready_t(src);
+    }
+
+    fn finish(&mut self) -> WriteResult<()> {
+        self.finished = self.finished.saturating_add(1);
+        Ok(())
+    }
+
+    ghost writer_laws = { append_laws };
+
+    ghost ready_room = { λ w. min_right (vec_capacity w.bytes - length w.bytes.items) (byte_limit - length w.bytes.items) };
 }

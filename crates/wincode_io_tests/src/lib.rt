@@ -2,5 +2,6 @@
 #![tactic(auto)]
 
 pub mod counted;
+pub mod forms;
 pub mod readers;
 pub mod writers;

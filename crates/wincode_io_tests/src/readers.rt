@@ -39,7 +39,7 @@ mod tests {
     use super::*;
     use std::test::Fail;
     use wincode_io::{
-        Input, Lifetime, ReadError, TrustedSliceReader, TrustedSliceReaderZeroCopy,
+        Held, Input, Lifetime, ReadError, TrustedSliceReader, TrustedSliceReaderZeroCopy,
         TrustedSliceReaderZeroCopyMut, fill_array,
     };
 
@@ -73,6 +73,20 @@ mod tests {
         Ok(&copy[..bytes.len()] == bytes && reader.fill_buf(1)?.is_empty())
     }
 
+    /// Whether a window, and a window in it, of the bytes 0 to 9 have the bytes that they were cut for, and
+    /// whether those behind them are left.
+    fn nests<L: Lending, R: Reader<L>>(reader: &mut R) -> ReadResult<bool> {
+        reader.consume(1)?;
+        let mut outer = reader.as_trusted_for(8)?;
+        outer.consume(2)?;
+        let mut inner = outer.as_trusted_for(5)?;
+        Ok(
+            inner.fill_buf(9)? == [3u8, 4, 5, 6, 7].as_slice()
+                && outer.fill_buf(9)? == [8u8].as_slice()
+                && reader.fill_buf(9)? == [9u8].as_slice(),
+        )
+    }
+
     /// The first byte of an input, lent by it.
     fn first_lent<I: Input + Reader<I::Lends> + Drop>(
         mut input: I,
@@ -91,6 +105,17 @@ mod tests {
         window.consume(2)?;
         assert!(rt; matches!(&window.as_trusted_for(2), Err(ReadError::ReadSizeLimit(2))));
         assert_eq!(rt; window.borrow_exact(1)?, [3u8].as_slice());
+        Ok(())
+    }
+
+    #[test]
+    fn a_window_in_a_window(rt: HostRuntime) -> Result<(), Fail> {
+        let mut held = [0u8, 1, 2, 3, 4, 5, 6, 7, 8, 9];
+        let bytes = held;
+        assert!(rt; nests(&mut bytes.as_slice())?);
+        assert!(rt; nests(&mut Cursor::new(bytes.as_slice()))?);
+        assert!(rt; nests(&mut TrustedSliceReader::<Lifetime>::new(bytes.as_slice()))?);
+        assert!(rt; nests(&mut held.as_mut_slice())?);
         Ok(())
     }
 
@@ -305,8 +330,9 @@ mod tests {
         assert_eq!(rt; reader.at_hand(), [1u8, 2, 3].as_slice());
         reader.consume_unchecked(1);
         assert_eq!(rt; reader, [2u8, 3].as_slice());
-        let front = <Lifetime as Lending>::take_front(&mut reader, 1);
-        assert_eq!(rt; <Lifetime as Lending>::bytes_of(&front), [2u8].as_slice());
+        let part = <Lifetime as Lending>::part(&reader, 1, 2);
+        assert_eq!(rt; <Lifetime as Lending>::bytes_of(&part), [3u8].as_slice());
+        assert_eq!(rt; part.as_held(), [3u8].as_slice());
         let mut held = [1u8, 2, 3];
         let mut writing = held.as_mut_slice();
         let front = <Lifetime as Lending>::take_front_mut(&mut writing, 2);
@@ -314,6 +340,7 @@ mod tests {
             <Lifetime as Lending>::bytes_of_mut(&writing),
             [3u8].as_slice()
         );
+        assert_eq!(rt; writing.as_held(), [3u8].as_slice());
         assert_eq!(rt; <Lifetime as Lending>::share(front), [1u8, 2].as_slice());
         Ok(())
     }

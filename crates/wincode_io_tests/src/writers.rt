@@ -1,17 +1,16 @@
 //! Writing in parts and in windows, through any writer.
-ghost use Rattle.std.specs.Prelude.{◌≡◌, ℕ, ◌+◌, ◌-◌, ◌^◌, ◌<◌, ◌≤◌, ◌⊎◌, ◌/◌, List, length, take, drop, ◌++◌, OnOk, IfErr, false, true};
-ghost use Rattle.wincode_io.specs.Writers.{IsWriteRefusal, IsWriteRefused, byte_limit};
-ghost use Rattle.wincode_io.specs.CursorWriters.{cursor_put};
+ghost use Rattle.std.specs.Prelude.{◌≡◌, ℕ, ◌+◌, ◌-◌, ◌^◌, ◌<◌, ◌≤◌, ◌⊎◌, ◌/◌, List, length, take, drop, ◌++◌, OnOk, IfErr};
+ghost use Rattle.wincode_io.specs.Writers.{Took, Added, IsUnmoved, IsWriteRefused, byte_limit};
+ghost use Rattle.wincode_io.specs.CursorWriters.{cursor_put, IsGrowthRefused};
 ghost use Rattle.wincode_io.specs.Places.{placed};
-ghost use Rattle.wincode_io_tests.specs.WriterUses.{BothRefused};
+ghost use Rattle.wincode_io_tests.specs.WriterUses.{IsBothRefused, IsOverrun};
 
 use wincode_io::{Cursor, SliceWriter, TrustedSliceWriter, WriteResult, WriteWindow, Writer};
 
 /// Writes two parts, each by itself. Where the second is refused, the first stays written.
 pub fn write_both<W: Writer>(writer: &mut W, first: &[u8], second: &[u8]) -> WriteResult<()>
-    ensures ok { OnOk result ((length first.now + length second.now ≤ W.room (W.state writer.old)) × (W.state writer.new ≡ W.put (W.state writer.old) (first.now ++ second.now))) }
-    ensures err { IfErr result (BothRefused W.put W.room first.now second.now (W.state writer.old) (W.state writer.new) (W.steady (W.kept writer.old)) (W.failures writer.new)) }
-    ensures kept { W.kept writer.new ≡ W.kept writer.old }
+    ensures ok { OnOk result (Added (first.now ++ second.now) (W.state writer.old) (W.state writer.new)) }
+    ensures err { IfErr result (IsBothRefused first.now second.now (W.state writer.old) (W.state writer.new)) }
 {
     writer.write(first)?;
     writer.write(second)
@@ -19,10 +18,9 @@ pub fn write_both<W: Writer>(writer: &mut W, first: &[u8], second: &[u8]) -> Wri
 
 /// Writes the bytes through a window of `n`. What the window doesn't take isn't skipped.
 pub fn write_in_window<W: Writer>(writer: &mut W, n: usize, src: &[u8]) -> WriteResult<()>
-    ensures ok { OnOk result ((n ≤ W.room (W.state writer.old)) × (length src.now ≤ n) × (W.state writer.new ≡ W.put (W.state writer.old) src.now)) }
-    ensures err { IfErr result (λ e. IsWriteRefused (W.state writer.old) (W.state writer.new) (W.room (W.state writer.old) < n) n (W.steady (W.kept writer.old)) (W.failures writer.new) e
-        ⊎ IsWriteRefused (W.state writer.old) (W.state writer.new) (n < length src.now) (length src.now) true 0 e) }
-    ensures kept { W.kept writer.new ≡ W.kept writer.old }
+    ensures ok { OnOk result ((length src.now ≤ n) × (n ≤ W.room (W.state writer.old).content) × Took src.now (W.state writer.old) (W.state writer.new)) }
+    ensures err { IfErr result (λ e. IsWriteRefused n (W.state writer.old) (W.state writer.new) e
+        ⊎ (IsUnmoved (W.state writer.old) (W.state writer.new) × IsOverrun (length src.now) n e)) }
 {
     writer.make_room(n)?;
     let mut window = WriteWindow::new(writer, n);
@@ -41,9 +39,9 @@ pub fn write_within<W: Writer>(
     spare: usize,
 ) -> WriteResult<()>
     requires { length outer.now + length inner.now + length after.now + spare < 2 ^ 64 }
-    ensures ok { let n = length outer.now + length inner.now + length after.now + spare in OnOk result ((n ≤ W.room (W.state writer.old)) × (W.state writer.new ≡ W.put (W.state writer.old) ((outer.now ++ inner.now) ++ after.now))) }
-    ensures err { let n = length outer.now + length inner.now + length after.now + spare in IfErr result (IsWriteRefused (W.state writer.old) (W.state writer.new) (W.room (W.state writer.old) < n) n (W.steady (W.kept writer.old)) (W.failures writer.new)) }
-    ensures kept { W.kept writer.new ≡ W.kept writer.old }
+    ensures room { let n = length outer.now + length inner.now + length after.now + spare in OnOk result (n ≤ W.room (W.state writer.old).content) }
+    ensures ok { OnOk result (Took ((outer.now ++ inner.now) ++ after.now) (W.state writer.old) (W.state writer.new)) }
+    ensures err { let n = length outer.now + length inner.now + length after.now + spare in IfErr result (IsWriteRefused n (W.state writer.old) (W.state writer.new)) }
 {
     let n = outer.len() + inner.len() + after.len() + spare;
     writer.make_room(n)?;
@@ -57,9 +55,8 @@ pub fn write_within<W: Writer>(
 /// Writes half of the bytes, half as many through a window of the rest, and what then is left through a
 /// window in it. Where the window is refused, the first half stays written.
 pub fn write_in_parts<W: Writer>(writer: &mut W, bytes: &[u8]) -> WriteResult<()>
-    ensures ok { OnOk result ((length bytes.now ≤ W.room (W.state writer.old)) × (W.state writer.new ≡ W.put (W.state writer.old) bytes.now)) }
-    ensures err { let half = length bytes.now / 2 in IfErr result (BothRefused W.put W.room (take half bytes.now) (drop half bytes.now) (W.state writer.old) (W.state writer.new) (W.steady (W.kept writer.old)) (W.failures writer.new)) }
-    ensures kept { W.kept writer.new ≡ W.kept writer.old }
+    ensures ok { OnOk result (Added bytes.now (W.state writer.old) (W.state writer.new)) }
+    ensures err { let half = length bytes.now / 2 in IfErr result (IsBothRefused (take half bytes.now) (drop half bytes.now) (W.state writer.old) (W.state writer.new)) }
 {
     let half = bytes.len() / 2;
     let first = &bytes[..half];
@@ -74,7 +71,7 @@ pub fn write_in_parts<W: Writer>(writer: &mut W, bytes: &[u8]) -> WriteResult<()
 #[tactic(auto, using(crate::proofs::WriterSteps::slice_whole))]
 pub fn overwrite_front(bytes: &mut [u8], src: &[u8]) -> WriteResult<()>
     ensures ok { OnOk result ((length src.now ≤ length bytes.old) × (bytes.new ≡ src.now ++ drop (length src.now) bytes.old)) }
-    ensures err { IfErr result (IsWriteRefused bytes.old bytes.new (length bytes.old < length src.now) (length src.now) true 0) }
+    ensures err { IfErr result (λ e. (bytes.new ≡ bytes.old) × IsOverrun (length src.now) (length bytes.old) e) }
 {
     let mut writer = SliceWriter::new(bytes);
     writer.write(src)
@@ -83,7 +80,7 @@ pub fn overwrite_front(bytes: &mut [u8], src: &[u8]) -> WriteResult<()>
 /// Writes over the slice at a position.
 pub fn overwrite_at(bytes: &mut [u8], position: usize, src: &[u8]) -> WriteResult<()>
     ensures ok { OnOk result ((length src.now ≤ length bytes.old - position) × (bytes.new ≡ (cursor_put (placed bytes.old position) src.now).inner)) }
-    ensures err { IfErr result (IsWriteRefused bytes.old bytes.new (length bytes.old - position < length src.now) (length src.now) true 0) }
+    ensures err { IfErr result (λ e. (bytes.new ≡ bytes.old) × IsOverrun (length src.now) (length bytes.old - position) e) }
 {
     let mut cursor = Cursor::new_at(bytes, position);
     cursor.write(src)
@@ -92,7 +89,7 @@ pub fn overwrite_at(bytes: &mut [u8], position: usize, src: &[u8]) -> WriteResul
 /// Writes over the vector at a position, through a window, and grows it.
 pub fn grow_at(bytes: &mut Vec<u8>, position: usize, src: &[u8]) -> WriteResult<()>
     ensures ok { OnOk result ((length src.now ≤ byte_limit - position) × (bytes.new.items ≡ (cursor_put (placed bytes.old.items position) src.now).inner)) }
-    ensures err { IfErr result (IsWriteRefused bytes.old.items bytes.new.items (byte_limit - position < length src.now) (length src.now) false 0) }
+    ensures err { IfErr result (λ e. (bytes.new.items ≡ bytes.old.items) × IsGrowthRefused position (length src.now) e) }
 {
     let mut cursor = Cursor::new_at(bytes, position);
     write_within(&mut cursor, &[], src, &[], 0)
@@ -115,7 +112,7 @@ pub fn overwrite_on(
 
 #[cfg(test)]
 mod tests {
-    use super::super::counted::Counted;
+    use super::super::counted::{Counted, Finishing};
     use super::*;
     use std::alloc::{AllocError, Global};
     use std::test::Fail;
@@ -179,6 +176,19 @@ mod tests {
                 assert_eq!(rt; parts.as_slice(), want.as_slice(), "{n} bytes in parts");
             }
         }
+        Ok(())
+    }
+
+    #[test]
+    fn a_writer_is_finished_once_each(rt: HostRuntime) -> Result<(), Fail> {
+        let mut writer = Finishing::new(Vec::new(rt.alloc()));
+        writer.write(&[1, 2])?;
+        write_in_window(&mut writer, 4, &[3])?;
+        assert_eq!(rt; writer.finished(), 0);
+        writer.finish()?;
+        writer.finish()?;
+        assert_eq!(rt; writer.finished(), 2);
+        assert_eq!(rt; writer.bytes(), [1u8, 2, 3].as_slice());
         Ok(())
     }
 

@@ -7,6 +7,7 @@ use super::super::lending::Lending;
 use super::super::reader::Reader;
 use super::{
     ReadWindow, TrustedSliceReader, TrustedSliceReaderZeroCopy, TrustedSliceReaderZeroCopyMut,
+    between,
 };
 
 impl<L: Lending> Reader<L> for TrustedSliceReaderZeroCopy<L> {
@@ -17,16 +18,19 @@ impl<L: Lending> Reader<L> for TrustedSliceReaderZeroCopy<L> {
     }
 
     fn at_hand(&self) -> &[u8] {
-        L::bytes_of(&self.bytes)
+        between::<L>(&self.all, self.place, self.end)
     }
 
     fn consume_unchecked(&mut self, n: usize) {
-        L::take_front(&mut self.bytes, n);
+        self.place += n;
     }
 
     fn borrow_exact(&mut self, n: usize) -> ReadResult<L::Bytes> {
-        if n <= self.at_hand().len() {
-            Ok(L::take_front(&mut self.bytes, n))
+        let place = self.place;
+        if n <= self.end - place {
+            let end = place + n;
+            self.place = end;
+            Ok(L::part(&self.all, place, end))
         } else {
             Err(ReadError::ReadSizeLimit(n))
         }
@@ -37,8 +41,15 @@ impl<L: Lending> Reader<L> for TrustedSliceReaderZeroCopy<L> {
     }
 
     fn as_trusted_for(&mut self, n: usize) -> ReadResult<ReadWindow<L>> {
-        let front = self.borrow_exact(n)?;
-        Ok(ReadWindow::Shared(TrustedSliceReaderZeroCopy::<L>::new(front)))
+        let place = self.place;
+        if n <= self.end - place {
+            let end = place + n;
+            self.place = end;
+            let all = self.all;
+            Ok(ReadWindow::Shared(TrustedSliceReaderZeroCopy { all, place, end }))
+        } else {
+            Err(ReadError::ReadSizeLimit(n))
+        }
     }
 }
 
@@ -50,16 +61,20 @@ impl<L: Lending> Reader<L> for TrustedSliceReaderZeroCopyMut<L> {
     }
 
     fn at_hand(&self) -> &[u8] {
-        L::bytes_of_mut(&self.bytes)
+        let place = self.place;
+        let all = L::bytes_of_mut(&self.all);
+        &all[place..]
     }
 
     fn consume_unchecked(&mut self, n: usize) {
-        L::take_front_mut(&mut self.bytes, n);
+        // The bytes are a slice, so their number fits, and so does each place in them.
+        let _length = L::bytes_of_mut(&self.all).len();
+        self.place += n;
     }
 
     fn borrow_exact(&mut self, n: usize) -> ReadResult<L::Bytes> {
         if n <= self.at_hand().len() {
-            Ok(L::share(L::take_front_mut(&mut self.bytes, n)))
+            Ok(L::share(self.cut(n)))
         } else {
             Err(ReadError::ReadSizeLimit(n))
         }
@@ -67,7 +82,7 @@ impl<L: Lending> Reader<L> for TrustedSliceReaderZeroCopyMut<L> {
 
     fn borrow_exact_mut(&mut self, n: usize) -> ReadResult<L::BytesMut> {
         if n <= self.at_hand().len() {
-            Ok(L::take_front_mut(&mut self.bytes, n))
+            Ok(self.cut(n))
         } else {
             Err(ReadError::ReadSizeLimit(n))
         }
@@ -87,11 +102,11 @@ impl<L: Lending> Reader<L> for TrustedSliceReader<L> {
     }
 
     fn at_hand(&self) -> &[u8] {
-        L::bytes_of(&self.bytes)
+        between::<L>(&self.all, self.place, self.end)
     }
 
     fn consume_unchecked(&mut self, n: usize) {
-        L::take_front(&mut self.bytes, n);
+        self.place += n;
     }
 
     fn borrow_exact(&mut self, _n: usize) -> ReadResult<L::Bytes> {
@@ -103,9 +118,12 @@ impl<L: Lending> Reader<L> for TrustedSliceReader<L> {
     }
 
     fn as_trusted_for(&mut self, n: usize) -> ReadResult<ReadWindow<L>> {
-        if n <= self.at_hand().len() {
-            let front = L::take_front(&mut self.bytes, n);
-            Ok(ReadWindow::Plain(TrustedSliceReader::<L>::new(front)))
+        let place = self.place;
+        if n <= self.end - place {
+            let end = place + n;
+            self.place = end;
+            let all = self.all;
+            Ok(ReadWindow::Plain(TrustedSliceReader { all, place, end }))
         } else {
             Err(ReadError::ReadSizeLimit(n))
         }

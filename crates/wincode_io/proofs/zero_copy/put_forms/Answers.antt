@@ -1,0 +1,22 @@
+use borrow.Rule.Slice.PartMut.{put_mid}
+use Rattle.std.proofs.Common.{List, ◌*◌, ◌+◌, ◌-◌, ◌≡◌, ℕ, get_or, ap, ◌∙◌}
+use Rattle.std.proofs.lemmas.List.Elements.{All-more}
+use Rattle.wincode_io.proofs.FormSteps.{joined_more, put_more}
+use Rattle.wincode_io.proofs.zero_copy.put_forms.Goals as goal
+
+pub loop-i-preserved : goal.loop-i-preserved
+loop-i-preserved g c =
+    let s = g.T.ZeroCopy.size in
+    let t = c.size_within-size.result in
+    let form = g.T.ZeroCopy.form in
+    let vs = c.args.values.now in
+    let i = c.loop-i.i in
+    let v = c.index-values-i.result in
+    let at : v ≡ get_or vs i v = c.index-values-i.is in
+    let P : g.row.T.Denot → Type 0 = g.T.ZeroCopy.proper in
+    record {
+      proper = All-more P vs i v c.loop-i-test.true c.loop-i.invariant.proper (rw (← at) c.put_form.ensures.proper);
+      joined = joined_more form s vs i v c.loop-i-test.true c.loop-i.invariant.joined (rw (← at) (g.met.T.ZeroCopy.byte_form.long v c.put_form.ensures.proper));
+      so_far = ap (λ (x : List ℕ). put_mid (i * t) (i * t + t - i * t) c.loop-i.dst x) (c.put_form.ensures.form ∙ ap form at)
+          ∙ put_more form s vs i v c.loop-i-test.true c.loop-i.invariant.joined t c.args.dst.now c.loop-i.dst c.size_within-size.ensures c.loop-i.invariant.so_far;
+    }

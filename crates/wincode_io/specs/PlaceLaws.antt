@@ -1,0 +1,51 @@
+-- The laws of places.
+use Rattle.std.proofs.Common.{◌≡◌, ◌∙◌, sym, ap, ℕ, ◌+◌, ◌-◌, ◌≤◌, List, ◌++◌, length, take, refl, arith, length-append, length-take, IsTrue, Option, None, Some}
+use Rattle.wincode_io.specs.Places.{Placed, placed, onward}
+use Rattle.wincode_io.specs.Readers.{ReaderState, Kept, Stays, Loses, IsOnward}
+
+pub kept_trans : {a b c : ReaderState} → Kept a b → Kept b c → Kept a c
+kept_trans k l = record { lends = l.lends ∙ k.lends; steady = l.steady ∙ k.steady; told = l.told ∙ k.told }
+
+pub told_kept : {a b : ReaderState} → Kept a b → IsTrue a.told → IsTrue b.told
+told_kept k t = rw k.told t
+
+pub stays_trans : {a b c : ReaderState} → Stays a b → Stays b c → Stays a c
+stays_trans s t = record {
+  kept = kept_trans s.kept t.kept;
+  rest = λ told. t.rest (told_kept s.kept told) ∙ s.rest told;
+  ready = let a = s.ready in let b = t.ready in omega arith;
+  place = t.place ∙ s.place;
+}
+
+nowhere : (p : Option (Placed (List ℕ))) → onward 0 p ≡ p
+nowhere None = refl
+nowhere (Some p) = ap (λ n. Some (placed p.inner n)) (omega arith)
+
+twice : (a b : ℕ) (p : Option (Placed (List ℕ))) → onward b (onward a p) ≡ onward (a + b) p
+twice a b None = refl
+twice a b (Some p) = ap (λ n. Some (placed p.inner n)) (omega arith)
+
+-- a reader that stays stands where it stood
+pub stays_onward : (old new : ReaderState) → Stays old new → IsTrue old.told → IsOnward old new
+stays_onward old new s t =
+    let same : length new.rest ≡ length old.rest = ap length (s.rest t) in
+    s.place ∙ sym (nowhere old.place) ∙ ap (λ n. onward n old.place) (omega arith)
+
+-- a reader that has lost n bytes stands n bytes further on
+pub loses_onward : (n : ℕ) (old new : ReaderState) → Loses n old new → IsTrue old.told → IsOnward old new
+loses_onward n old new l t =
+    let r = l.rest t in
+    let split = ap length r.1 ∙ length-append (take n old.rest) new.rest in
+    l.place ∙ ap (λ m. onward m old.place) (omega (arith, r.0, split, length-take n old.rest))
+
+-- one part after another
+pub onward_trans : (old mid new : ReaderState) (a b : List ℕ) → old.rest ≡ a ++ mid.rest → mid.rest ≡ b ++ new.rest → IsOnward old mid → IsOnward mid new → IsOnward old new
+onward_trans old mid new a b e f p q =
+    let first = ap length e ∙ length-append a mid.rest in
+    let second = ap length f ∙ length-append b new.rest in
+    q ∙ ap (onward (length mid.rest - length new.rest)) p ∙ twice (length old.rest - length mid.rest) (length mid.rest - length new.rest) old.place
+    ∙ ap (λ n. onward n old.place) (omega (arith, first, second))
+
+-- where nothing was done
+pub still : (s : ReaderState) → IsOnward s s
+still s = sym (nowhere s.place) ∙ ap (λ n. onward n s.place) (omega arith)
