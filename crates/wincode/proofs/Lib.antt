@@ -1,10 +1,11 @@
 mod Rows
 pub mod Sized
-pub mod Numerals
+pub mod Refused
+pub mod Integers
 pub mod Lengths
 pub mod Lists
-pub mod Recoding
 pub mod Text
 pub mod Arrays
-pub mod Windows
-pub mod Parts
+pub mod InWindow
+pub mod Tags
+pub mod Recoding

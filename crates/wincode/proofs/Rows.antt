@@ -1,6 +1,6 @@
 -- The definitions, evaluated on worked rows of bytes and values.
 use Rattle.std.proofs.Common.{◌≡◌, sym, ap, ℕ, ◌<◌, ◌^◌, List, [], ◌∷◌, ◌++◌, length, refl, arith, true, length-append, lit<, lit≤, false, Option, Some, None, Err}
-use Rattle.wincode.specs.Numbers.{le}
+use Rattle.wincode_io.specs.Numbers.{le}
 use Rattle.wincode.specs.Grammar.{ReadGrammar, WriteGrammar}
 use Rattle.wincode.specs.Leaves.{number_read, number_write}
 use Rattle.wincode.specs.Lengths.{bincode, IsLength}
@@ -8,7 +8,7 @@ use Rattle.wincode.specs.LengthLaws.{bincode_text_is}
 use Rattle.wincode.specs.LeafLaws.{number_one}
 use Rattle.wincode.specs.Lists.{list_read, list_write}
 use Rattle.wincode.specs.Outcomes.{Front}
-use Rattle.wincode.specs.Parts.{option_read, option_write, result_read, result_write}
+use Rattle.wincode.specs.Tags.{option_read, option_write, result_read, result_write}
 use Rattle.wincode.specs.declared.meta.TypeMeta.TheVariants.{Static, Dynamic}
 
 abbrev limit : ℕ

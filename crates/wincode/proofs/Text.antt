@@ -7,17 +7,17 @@ use Rattle.std.proofs.Math.Utf8.{scalar, scalars, scalar_cases, encode, next}
 use Rattle.std.proofs.lemmas.Bool.{lt-ltb, le-ltb, ltb-true, ltb-false}
 use Rattle.std.proofs.lemmas.Str.{encode_ascii, IsUtf8-encode, cons_from_encodes}
 use Rattle.wincode_io.specs.Readers.{ReaderState, Stays, Loses, Takes, IsShort, IsShown, IsPeeked, IsRefusal, IsRefused}
-use Rattle.wincode_io.specs.Writers.{WriterLaws, IsWriteRefused}
+use Rattle.wincode_io.specs.Writers.{WriterState, WriterLaws, Added, IsWriteRefused}
 use Rattle.wincode.specs.Grammar.{WriteGrammar, WriteLaws}
 use Rattle.wincode.specs.Lengths.{IsLength, HasText, bincode, length_write, text_len}
 use Rattle.wincode.specs.LengthLaws.{bincode_text, bincode_text_is, bincode_laws, length_one, length_write_laws}
 use Rattle.wincode.specs.LeafLaws.{same_front}
-use Rattle.wincode.specs.Numbers.{le}
-use Rattle.wincode.specs.NumberLaws.{length-le}
+use Rattle.wincode_io.specs.Numbers.{le}
+use Rattle.wincode_io.specs.NumberLaws.{length-le}
 use Rattle.wincode.specs.Pairs.{pair_write}
 use Rattle.wincode.specs.Text.{char_read, announced, IsCharRefusal, IsCharRefused, text_read, text_write, IsTextBody, IsTextBodyRefused}
 use Rattle.wincode.specs.TextLaws.{text_then, then_text}
-use Rattle.wincode.specs.Sequences.{Then, kept_trans, told_kept, gives_map, refuses_map, then_gives, then_first, then_second}
+use Rattle.wincode.specs.Sequences.{Then, gives_map, refuses_map, then_gives, then_first, then_second}
 use Rattle.wincode.specs.WriteSequences as sequence
 use Rattle.wincode.specs.Outcomes.{Gives, Refuses, Accepts, Due, ReaderDue, IsDenied, Wrote, Unwritten}
 use Rattle.wincode.specs.declared.error.WriteError.{WriteError}
@@ -30,6 +30,7 @@ use Rattle.wincode.specs.declared.error.ReadError.{ReadError}
 use Rattle.wincode.specs.declared.error.ReadError.TheVariants as reading
 use Rattle.wincode_io.specs.declared.error.ReadError.{ReadError as IoReadError}
 use Rattle.wincode_io.specs.declared.error.ReadError.TheVariants as reader
+use Rattle.wincode_io.specs.PlaceLaws.{kept_trans, told_kept, stays_trans, stays_onward, loses_onward, onward_trans}
 
 -- ---- characters
 
@@ -145,6 +146,7 @@ pub char_refuses : (old new : ReaderState) (e : ReadError) → IsCharRefused old
 char_refuses old new e r = record {
   kept = r.0.kept;
   left = λ t. record { front = []; joins = sym (r.0.rest t) };
+  place = stays_onward old new r.0;
   due = char_due old new e r.1;
 }
 
@@ -152,9 +154,6 @@ char_refuses old new e r = record {
 pub char_denied : (old new : ReaderState) (e : ReadError) → IsDenied 1 old new e → IsCharRefused old new e
 char_denied old new (reading.Io e) d = (d.0, inl d.1)
 char_denied old new _ d = absurd d
-
-stays_trans : {a b c : ReaderState} → Stays a b → Stays b c → Stays a c
-stays_trans s t = record { kept = kept_trans s.kept t.kept; rest = λ told. t.rest (told_kept s.kept told) ∙ s.rest told; place = t.place ∙ s.place }
 
 short_before : (n : ℕ) {old mid : ReaderState} → Stays old mid → (new : ReaderState) (e : IoReadError) → IsRefusal (IsShort n mid) ⊥ n new e → IsRefusal (IsShort n old) ⊥ n new e
 short_before n {old} {mid} s new (reader.ReadSizeLimit m) d = (λ told. subst (λ r. length r < n) (s.rest told) (d.0 (told_kept s.kept told)), d.1)
@@ -212,6 +211,9 @@ char_gives old mid shown_by new lead n c bytes more is s p t size shown u e l =
           let count = same_lead c sc (more ++ new.rest) peeked.0 old.rest lead whole peeked.1 in
           let only : bytes ≡ encode_utf8 c = e ∙ none_more (encode_utf8 c) more (ap length (sym e) ∙ size ∙ is ∙ count) in
           record { text = bytes; is_read = (sc, only); joins = split };
+      place = λ told.
+          let rest = two.rest told in let t = told_kept two.kept told in let lost = l.rest t in
+          onward_trans old shown_by new [] (take n shown_by.rest) (sym rest) lost.1 (stays_onward old shown_by two told) (loses_onward n shown_by new l t);
     }
 
 -- ---- texts
@@ -243,16 +245,19 @@ pub body_refuses : (unlent owned : Type 0) (n asks : ℕ) (sparing : Bool) (old 
 body_refuses unlent owned n asks sparing old new (reading.Io e) lent own d = record {
   kept = d.0.kept;
   left = λ t. record { front = []; joins = sym (d.0.rest t) };
+  place = stays_onward old new d.0;
   due = body_due unlent n asks old new e lent d.1;
 }
 body_refuses unlent owned n asks sparing old new reading.OutOfMemory lent own d = record {
   kept = d.1.kept;
   left = λ t. record { front = []; joins = sym (d.1.rest t) };
+  place = stays_onward old new d.1;
   due = subst (λ s. (new.steady && s) ≡ false) (sym (own d.0)) (none_spared new.steady);
 }
 body_refuses unlent owned n asks sparing old new (reading.InvalidUtf8Encoding e) lent own d = record {
   kept = d.1.loses.kept;
   left = λ t. record { front = d.0; joins = takes_joins d.1 t };
+  place = loses_onward n old new d.1.loses;
   due = body_not n old new d.0 d.1 d.2;
 }
 body_refuses unlent owned n asks sparing old new _ lent own d = absurd d
@@ -263,7 +268,11 @@ borrow_refuses n old new e d = body_refuses (old.lends < 1) ⊥ n 1 true old new
 
 -- the bytes of a text were taken
 pub body_gives : (n : ℕ) (old new : ReaderState) (bytes v : List ℕ) → Takes n old new bytes → v ≡ bytes → IsUtf8 v → Gives (IsTextBody n) old new v
-body_gives n old new bytes v t e u = record { kept = t.loses.kept; found = λ told. record { text = bytes; is_read = (ap length e ∙ t.size, u, sym e); joins = takes_joins t told } }
+body_gives n old new bytes v t e u = record {
+  kept = t.loses.kept;
+  found = λ told. record { text = bytes; is_read = (ap length e ∙ t.size, u, sym e); joins = takes_joins t told };
+  place = loses_onward n old new t.loses;
+}
 
 module _ (prealloc asks : ℕ) (sparing : Bool) where
   pub text_gives : (old mid new : ReaderState) (n : ℕ) (v : List ℕ) → Gives (IsLength (bincode 4194304) 1) old mid n → Gives (IsTextBody n) mid new v → Gives (text_read prealloc asks sparing).reads old new v
@@ -305,29 +314,28 @@ two_texts prealloc v b w = w.4 ∙ ap (λ x. x ++ w.1) (bincode_text_is 4194304 
 two_size : (prealloc : ℕ) (v : List ℕ) → length v < 2 ^ 64 → (text_write prealloc).size v ≡ in_two.size (length v, v)
 two_size prealloc v small = ap (λ n. n + length v) (length_size (length v) small)
 
-module _ {S : Type 0} (put : S → List ℕ → S) (room : S → ℕ) (laws : WriterLaws put room) (prealloc : ℕ) where
-  pub text_wrote : (old mid new : S) (v : List ℕ) (n : ℕ) (bytes : List ℕ) → n < 2 ^ 64 → n ≡ length v → bytes ≡ v → Wrote put room (length_write (bincode 4194304)) old mid n → (length bytes ≤ room mid) × (new ≡ put mid bytes)
-      → Wrote put room (text_write prealloc) old new v
-  text_wrote old mid new v n bytes small e f r d =
+module _ {S K : Type 0} {put : S → List ℕ → S} {room : S → ℕ} (laws : WriterLaws put room) (prealloc : ℕ) where
+  pub text_wrote : {old mid new : WriterState put room K} (v : List ℕ) (n : ℕ) (bytes : List ℕ) → n < 2 ^ 64 → n ≡ length v → bytes ≡ v → Wrote (length_write (bincode 4194304)) old mid n → Added bytes mid new
+      → Wrote (text_write prealloc) old new v
+  text_wrote {old} {mid} {new} v n bytes small e f r d =
       let fits : length v < 2 ^ 64 = subst (λ k. k < 2 ^ 64) e small in
-      sequence.wrote_map put room in_two (text_write prealloc) old new (length v, v) v (λ c. fits) (two_size prealloc v fits) (two_texts prealloc v)
-      (sequence.pair_wrote put room (length_write (bincode 4194304)) bytes_write (λ n. Unit {0}) (λ v. Unit {0}) (λ n. n) (λ v. v) (length_write_laws (bincode 4194304)) bytes_laws laws old mid new (length v) v
-      (subst (λ k. Wrote put room (length_write (bincode 4194304)) old mid k) e r)
-      (sequence.text_wrote put room bytes_write v bytes mid new tt f (ap length f) d))
+      sequence.wrote_map in_two (text_write prealloc) (length v, v) v (λ c. fits) (two_size prealloc v fits) (two_texts prealloc v)
+      (sequence.pair_wrote (length_write_laws (bincode 4194304)) bytes_laws laws
+      (subst (λ k. Wrote (length_write (bincode 4194304)) old mid k) e r)
+      (sequence.text_wrote bytes_write v bytes f (ap length f) mid new tt d))
 
-  pub text_unwritten_first : (old new : S) (v : List ℕ) (n : ℕ) (steady : Bool) (failures : ℕ) (e : WriteError) → n < 2 ^ 64 → n ≡ length v → Unwritten put room (length_write (bincode 4194304)) old new n steady failures e
-      → Unwritten put room (text_write prealloc) old new v steady failures e
-  text_unwritten_first old new v n steady failures e small is u =
+  pub text_unwritten_first : {old new : WriterState put room K} (v : List ℕ) (n : ℕ) {e : WriteError} → n < 2 ^ 64 → n ≡ length v → Unwritten (length_write (bincode 4194304)) old new n e → Unwritten (text_write prealloc) old new v e
+  text_unwritten_first {old} {new} v n {e} small is u =
       let fits : length v < 2 ^ 64 = subst (λ k. k < 2 ^ 64) is small in
-      sequence.unwritten_map put room in_two (text_write prealloc) old new (length v, v) v steady failures e (λ c. (text_can v fits, tt)) (two_size prealloc v fits) (two_texts prealloc v)
-      (sequence.pair_unwritten_first put room (length_write (bincode 4194304)) bytes_write (λ n. Unit {0}) (λ v. Unit {0}) (λ n. n) (λ v. v) (length_write_laws (bincode 4194304)) bytes_laws old new (length v) v steady failures e
-      (subst (λ k. Unwritten put room (length_write (bincode 4194304)) old new k steady failures e) is u))
+      sequence.unwritten_map in_two (text_write prealloc) (length v, v) v (λ c. (text_can v fits, tt)) (two_size prealloc v fits) (two_texts prealloc v)
+      (sequence.pair_unwritten_first (length_write_laws (bincode 4194304)) bytes_laws v
+      (subst (λ k. Unwritten (length_write (bincode 4194304)) old new k e) is u))
 
-  pub text_unwritten_second : (old mid new : S) (v : List ℕ) (n : ℕ) (bytes : List ℕ) (steady : Bool) (failures : ℕ) (e : IoWriteError) → n < 2 ^ 64 → n ≡ length v → bytes ≡ v → Wrote put room (length_write (bincode 4194304)) old mid n
-      → IsWriteRefused mid new (room mid < length bytes) (length bytes) steady failures e → Unwritten put room (text_write prealloc) old new v steady failures (writing.Io e)
-  text_unwritten_second old mid new v n bytes steady failures e small is f r d =
+  pub text_unwritten_second : {old mid new : WriterState put room K} (v : List ℕ) (n : ℕ) (bytes : List ℕ) {e : IoWriteError} → n < 2 ^ 64 → n ≡ length v → bytes ≡ v → Wrote (length_write (bincode 4194304)) old mid n
+      → IsWriteRefused (length bytes) mid new e → Unwritten (text_write prealloc) old new v (writing.Io e)
+  text_unwritten_second {old} {mid} {new} v n bytes {e} small is f r d =
       let fits : length v < 2 ^ 64 = subst (λ k. k < 2 ^ 64) is small in
-      sequence.unwritten_map put room in_two (text_write prealloc) old new (length v, v) v steady failures (writing.Io e) (λ c. (text_can v fits, tt)) (two_size prealloc v fits) (two_texts prealloc v)
-      (sequence.pair_unwritten_second put room (length_write (bincode 4194304)) bytes_write (λ n. Unit {0}) (λ v. Unit {0}) (λ n. n) (λ v. v) (length_write_laws (bincode 4194304)) bytes_laws laws old mid new (length v) v steady failures (writing.Io e)
-      (subst (λ k. Wrote put room (length_write (bincode 4194304)) old mid k) is r)
-      (sequence.text_unwritten put room bytes_write v bytes mid new steady failures e laws f (ap length f) d))
+      sequence.unwritten_map in_two (text_write prealloc) (length v, v) v (λ c. (text_can v fits, tt)) (two_size prealloc v fits) (two_texts prealloc v)
+      (sequence.pair_unwritten_second (length_write_laws (bincode 4194304)) bytes_laws laws
+      (subst (λ k. Wrote (length_write (bincode 4194304)) old mid k) is r)
+      (sequence.text_unwritten bytes_write v bytes f (ap length f) laws mid new e d))

@@ -1,5 +1,3 @@
-pub mod Numbers
-pub mod NumberLaws
 pub mod Grammar
 pub mod Leaves
 pub mod Lengths
@@ -13,10 +11,13 @@ pub mod Arrays
 pub mod ArrayLaws
 pub mod Pairs
 pub mod PairLaws
+pub mod SizeLaws
 pub mod WriteSequences
-pub mod Show
-pub mod Wholes
+pub mod InWindow
 pub mod Text
 pub mod TextLaws
-pub mod Parts
-pub mod PartLaws
+pub mod Tags
+pub mod Held
+pub mod HeldLaws
+pub mod TagLaws
+pub mod Show

@@ -1,11 +1,8 @@
 -- What reading and writing a value answer, said once for lengths, leaves and compounds.
-use Rattle.std.specs.Prelude.{⊤, ◌≡◌, ℕ, ◌+◌, ◌*◌, ◌^◌, ◌<◌, ◌≤◌, min, Bool, false, ◌&&◌, List, [], ◌∷◌, ◌++◌, length, IsTrue, Option, Some}
-use Rattle.wincode_io.specs.Readers.{ReaderState, Kept, Takes, IsShort, IsRefused}
-use Rattle.wincode.specs.Numbers.{le}
-use Rattle.wincode_io.specs.Writers.{byte_limit, IsWriteRefused}
-use Rattle.wincode.specs.Grammar.{WriteGrammar}
-use Rattle.wincode.specs.Lengths.{Scheme, HasText}
-use Rattle.wincode.specs.Lists.{Each, total}
+use Rattle.std.specs.Prelude.{⊤, ◌≡◌, ◌⊎◌, ℕ, ◌+◌, ◌*◌, ◌^◌, ◌<◌, ◌≤◌, min, Bool, false, ◌&&◌, List, [], ◌∷◌, ◌++◌, length, IsTrue, Option, Some}
+use Rattle.wincode_io.specs.Readers.{ReaderState, Kept, IsOnward, Takes, IsShort, IsRefused}
+use Rattle.wincode_io.specs.Writers.{WriterState, IsSameWriter, Took, byte_limit, IsWriteRefusal, IsWriteRefused}
+use Rattle.wincode.specs.Grammar.{ReadGrammar, WriteGrammar}
 use Rattle.wincode.specs.declared.error.ReadError.{ReadError}
 use Rattle.wincode.specs.declared.error.WriteError.{WriteError}
 use Rattle.wincode_io.specs.declared.error.ReadError.{ReadError as IoReadError}
@@ -34,10 +31,12 @@ pub record IsEnd (input rest : List ℕ) : Type 0 where
   pub front : List ℕ
   pub joins : input ≡ front ++ rest
 
--- Reading gave v: a front of what the reader had reads as it, and exactly the rest is left.
+-- Reading gave v: a front of what the reader had reads as it, exactly the rest is left, and the reader stands behind
+-- the front.
 pub record Gives {V : Type 0} (reads : List ℕ → V → Type 0) (old new : ReaderState) (v : V) : Type 0 where
   pub kept : Kept old new
   pub found : IsTrue old.told → Found reads old.rest v new.rest
+  pub place : IsTrue old.told → IsOnward old new
 
 -- the destination holds a value that reading gave
 pub record Puts {D V : Type 0} (reads : List ℕ → V → Type 0) (seen : D → V) (old new : ReaderState) (dst : Option D) : Type 0 where
@@ -64,19 +63,12 @@ Due accepted asks sparing new (reading.Io e) = ReaderDue accepted asks new e
 Due accepted asks sparing new reading.OutOfMemory = (new.steady && sparing) ≡ false
 Due accepted asks sparing new _ = accepted → ⊥
 
--- Reading was refused: an end of what the reader had is left, and the error is due.
+-- Reading was refused: an end of what the reader had is left, it stands before that, and the error is due.
 pub record Refuses {V : Type 0} (reads : List ℕ → V → Type 0) (asks : ℕ) (sparing : Bool) (old new : ReaderState) (e : ReadError) : Type 0 where
   pub kept : Kept old new
   pub left : IsTrue old.told → IsEnd old.rest new.rest
+  pub place : IsTrue old.told → IsOnward old new
   pub due : Due (Accepts reads old) asks sparing new e
-
--- why a reader may refuse what a front of its input reads as, once the reader is gone
-abbrev pub Excused : ℕ → Bool → ReaderState → ReadError → Type 0
-Excused asks sparing s (reading.Io reader.UnsupportedZeroCopy) = s.lends < asks
-Excused asks sparing s (reading.Io reader.OutOfMemory) = s.steady ≡ false
-Excused asks sparing s (reading.Io (reader.Io e)) = s.steady ≡ false
-Excused asks sparing s reading.OutOfMemory = (s.steady && sparing) ≡ false
-Excused asks sparing s _ = ⊥
 
 -- what a schema says of its refusals: of the reader before and after, and the error
 abbrev pub Refusal : Type 1
@@ -90,88 +82,92 @@ never old new e = ⊥
 abbrev pub unsaid : Refusal
 unsaid old new e = Unit {0}
 
--- the k bytes of the number n were taken from the front
-abbrev pub TakesNumber : ℕ → ReaderState → ReaderState → ℕ → Type 0
-TakesNumber k old new n = (n < 256 ^ k) × Takes k old new (le k n)
-
 -- n bytes were refused by the reader, which has the bytes that it had
 abbrev pub IsDenied : ℕ → ReaderState → ReaderState → ReadError → Type 0
 IsDenied n old new (reading.Io e) = IsRefused (IsShort n old) ⊥ n old new e
 IsDenied n old new _ = ⊥
 
--- A boolean was refused: no byte is left; or its byte, which is then gone, is neither 0 nor 1.
-abbrev pub IsBoolRefused : ReaderState → ReaderState → ReadError → Type 0
-IsBoolRefused old new (reading.Io e) = IsRefused (IsShort 1 old) ⊥ 1 old new e
-IsBoolRefused old new (reading.InvalidBoolEncoding b) = (1 < b) × Takes 1 old new (b ∷ [])
-IsBoolRefused old new _ = ⊥
+-- A schema's read was refused: by its grammar, and as the schema says.
+abbrev pub IsReadRefused : {V : Type 0} → ReadGrammar V → Refusal → Refusal
+IsReadRefused g refusal old new e = Refuses g.reads g.asks g.sparing old new e × refusal old new e
 
--- A length of eight bytes was refused: there are too few, and they stay; or, once they are gone, for the limit.
-abbrev pub IsLengthRefused : ℕ → ℕ → ReaderState → ReaderState → ReadError → Type 0
-IsLengthRefused limit p old new (reading.Io e) = IsRefused (IsShort 8 old) ⊥ 8 old new e
-IsLengthRefused limit p old new (reading.PreallocationSizeLimit needed most) =
-    (n : ℕ) × (TakesNumber 8 old new n × (limit < n * p) × (needed ≡ min (n * p) byte_limit) × (most ≡ limit))
-IsLengthRefused limit p old new _ = ⊥
+-- So, of a reader that was left in some state.
+abbrev pub IsUnread : {V : Type 0} → ReadGrammar V → Refusal → ReaderState → ReadError → Type 0
+IsUnread g refusal old e = (left : ReaderState) × IsReadRefused g refusal old left e
 
 -- ---- writing
 
 -- Writing added one text of v, for which there was room.
-pub record Wrote {S V : Type 0} (put : S → List ℕ → S) (room : S → ℕ) (g : WriteGrammar V) (old new : S) (v : V) : Type 0 where
+pub record Wrote {S K V : Type 0} {put : S → List ℕ → S} {room : S → ℕ} (g : WriteGrammar V) (old new : WriterState put room K) (v : V) : Type 0 where
   pub can : g.can v
-  pub fits : g.size v ≤ room old
+  pub fits : g.size v ≤ room old.content
   pub text : List ℕ
   pub is_text : g.writes v text
-  pub added : new ≡ put old text
+  pub took : Took text old new
 
 -- the writer took a front of one of the texts of v
-pub record Began {S V : Type 0} (put : S → List ℕ → S) (room : S → ℕ) (g : WriteGrammar V) (old new : S) (v : V) : Type 0 where
+pub record Began {S K V : Type 0} {put : S → List ℕ → S} {room : S → ℕ} (g : WriteGrammar V) (old new : WriterState put room K) (v : V) : Type 0 where
   pub front : List ℕ
   pub more : List ℕ
   pub is_text : g.writes v (front ++ more)
-  pub within : length front ≤ room old
-  pub added : new ≡ put old front
+  pub within : length front ≤ room old.content
+  pub added : new.content ≡ put old.content front
 
 -- Why writing may be refused, where `able` says that the value can be written and its size fits the room: then for
 -- memory or by the writer's device alone.
-abbrev pub WriterDue : Type 0 → Bool → ℕ → IoWriteError → Type 0
-WriterDue able steady failures (writer.WriteSizeLimit n) = able → ⊥
-WriterDue able steady failures (writer.Io e) = (steady ≡ false) × (0 < failures)
-WriterDue able steady failures writer.OutOfMemory = steady ≡ false
+abbrev pub WriterDue : {S K : Type 0} {put : S → List ℕ → S} {room : S → ℕ} → Type 0 → WriterState put room K → IoWriteError → Type 0
+WriterDue able new (writer.WriteSizeLimit n) = able → ⊥
+WriterDue able new (writer.Io e) = (new.steady ≡ false) × (0 < new.failures)
+WriterDue able new writer.OutOfMemory = new.steady ≡ false
 
-abbrev pub WriteDue : Type 0 → Bool → ℕ → WriteError → Type 0
-WriteDue able steady failures (writing.Io e) = WriterDue able steady failures e
-WriteDue able steady failures writing.OutOfMemory = steady ≡ false
-WriteDue able steady failures _ = able → ⊥
+abbrev pub WriteDue : {S K : Type 0} {put : S → List ℕ → S} {room : S → ℕ} → Type 0 → WriterState put room K → WriteError → Type 0
+WriteDue able new (writing.Io e) = WriterDue able new e
+WriteDue able new writing.OutOfMemory = new.steady ≡ false
+WriteDue able new _ = able → ⊥
+
+-- the error of a writer, which its memory or its device refused
+abbrev pub IsReason : {S K : Type 0} {put : S → List ℕ → S} {room : S → ℕ} → WriterState put room K → WriteError → Type 0
+IsReason new (writing.Io e) = IsWriteRefusal ⊥ 0 new e
+IsReason new _ = ⊥
+
+-- v can be written, in at most `usize::MAX` bytes, for which there is room
+abbrev pub IsAble : {S K V : Type 0} {put : S → List ℕ → S} {room : S → ℕ} → WriteGrammar V → WriterState put room K → V → Type 0
+IsAble {room = room} g old v = g.can v × (g.size v ≤ min (room old.content) byte_limit)
 
 -- Writing was refused: a front of a text was added, where v can be written, and the error is due.
-pub record Unwritten {S V : Type 0} (put : S → List ℕ → S) (room : S → ℕ) (g : WriteGrammar V) (old new : S) (v : V) (steady : Bool) (failures : ℕ) (e : WriteError) : Type 0 where
-  pub began : g.can v → Began put room g old new v
-  pub due : WriteDue (g.can v × (g.size v ≤ room old)) steady failures e
+pub record Unwritten {S K V : Type 0} {put : S → List ℕ → S} {room : S → ℕ} (g : WriteGrammar V) (old new : WriterState put room K) (v : V) (e : WriteError) : Type 0 where
+  pub same : IsSameWriter old new
+  pub began : g.can v → Began g old new v
+  pub due : WriteDue (IsAble g old v) new e
 
--- A piece of n bytes was refused, and the writer has the state that it had.
-abbrev pub IsWriteDenied : {S : Type 0} → ℕ → ℕ → S → S → Bool → ℕ → WriteError → Type 0
-IsWriteDenied n room old new steady failures (writing.Io e) = IsWriteRefused old new (room < n) n steady failures e
-IsWriteDenied n room old new steady failures _ = ⊥
+-- A piece of n bytes was refused by the writer, which holds what it held.
+abbrev pub IsWriteDenied : {S K : Type 0} {put : S → List ℕ → S} {room : S → ℕ} → ℕ → WriterState put room K → WriterState put room K → WriteError → Type 0
+IsWriteDenied n old new (writing.Io e) = IsWriteRefused n old new e
+IsWriteDenied n old new _ = ⊥
 
--- What is written in one piece is refused as one piece of its size, where it can be written.
-abbrev pub IsWholeRefused : {S V : Type 0} → Bool → (S → ℕ) → WriteGrammar V → S → S → V → Bool → ℕ → WriteError → Type 0
-IsWholeRefused whole room g old new v steady failures e = IsTrue whole → g.can v → IsWriteDenied (g.size v) (room old) old new steady failures e
+-- What is written in one piece adds nothing where it is refused, and within `usize` is refused as one piece of its
+-- size, where it can be written.
+abbrev pub IsPieceRefused : {S K V : Type 0} {put : S → List ℕ → S} {room : S → ℕ} → Bool → WriteGrammar V → WriterState put room K → WriterState put room K → V → WriteError → Type 0
+IsPieceRefused whole g old new v e = IsTrue whole → g.can v → (new.content ≡ old.content) × (g.size v < 2 ^ 64 → IsWriteDenied (g.size v) old new e)
+
+-- Writing the value and ending it was refused: the writing was; or all was written, and then a writer that keeps bytes
+-- back was refused its memory or by its device.
+abbrev pub IsUnended : {S K V : Type 0} {put : S → List ℕ → S} {room : S → ℕ} → Bool → WriteGrammar V → Bool → WriterState put room K → WriterState put room K → V → WriteError → Type 0
+IsUnended buffers g piece old new v e = (Unwritten g old new v e × IsPieceRefused piece g old new v e)
+    ⊎ (Wrote g old new v × IsTrue buffers × IsReason new e)
 
 -- a length or a size that overflows
 abbrev pub IsOverflow : WriteError → Type 0
 IsOverflow (writing.LengthEncodingOverflow s) = ⊤
 IsOverflow _ = ⊥
 
+-- v can be written, in n bytes
+abbrev pub IsSized : {V : Type 0} → WriteGrammar V → V → ℕ → Type 0
+IsSized g v n = g.can v × (n ≡ g.size v)
+
 -- The size of v was refused: v can't be written or its size is past `usize::MAX`.
 abbrev pub IsSizeRefused : {V : Type 0} → WriteGrammar V → V → WriteError → Type 0
 IsSizeRefused g v e = (g.can v → g.size v < 2 ^ 64 → ⊥) × (IsTrue g.own → IsOverflow e)
-
--- The sizes of items after so many bytes were refused: an item can't be written, or the sum is past `usize::MAX`.
-abbrev pub IsSumRefused : {V : Type 0} → ℕ → WriteGrammar V → List V → WriteError → Type 0
-IsSumRefused before g vs e = (Each g.can vs → before + total g.size vs < 2 ^ 64 → ⊥) × (IsTrue g.own → IsOverflow e)
-
--- the length n was refused, which has no text
-abbrev pub IsTextless : Scheme → ℕ → WriteError → Type 0
-IsTextless s n e = (HasText s n → ⊥) × (IsTrue s.own → IsOverflow e)
 
 -- the bytes are a text of v, and as many as there can be at the most
 pub record IsSerialized {V : Type 0} (g : WriteGrammar V) (v : V) (bytes : List ℕ) : Type 0 where
@@ -179,6 +175,6 @@ pub record IsSerialized {V : Type 0} (g : WriteGrammar V) (v : V) (bytes : List 
   pub is_text : g.writes v bytes
   pub size : length bytes ≡ g.size v
 
--- Where v can be written in at most `usize::MAX` bytes, only memory for them was wanted.
+-- It was refused as its size was; or its size is at most `usize::MAX`, and memory for so many bytes was wanted.
 abbrev pub IsUnserialized : {V : Type 0} → WriteGrammar V → V → WriteError → Type 0
-IsUnserialized g v e = g.can v → g.size v < 2 ^ 64 → e ≡ writing.OutOfMemory
+IsUnserialized g v e = IsSizeRefused g v e ⊎ (g.can v × (g.size v < 2 ^ 64) × (e ≡ writing.OutOfMemory))

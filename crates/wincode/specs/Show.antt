@@ -5,7 +5,8 @@ use Rattle.wincode.specs.Grammar.{ReadGrammar, WriteGrammar}
 use Rattle.wincode.specs.Leaves.{number_read, number_write}
 use Rattle.wincode.specs.Lengths.{bincode}
 use Rattle.wincode.specs.Lists.{list_read, list_write}
-use Rattle.wincode.specs.Outcomes.{Found}
+use Rattle.wincode_io.specs.Readers.{memory, shared}
+use Rattle.wincode.specs.Outcomes.{Found, IsUnread, unsaid}
 use Rattle.wincode.specs.declared.error.WriteError.TheVariants as writing
 use Rattle.wincode.specs.declared.error.ReadError.{ReadError}
 use Rattle.wincode.specs.declared.error.ReadError.TheVariants as reading
@@ -41,13 +42,21 @@ abbrev pub IsReadMemory : ReadError → Type 0
 IsReadMemory reading.OutOfMemory = ⊤
 IsReadMemory _ = ⊥
 
--- Why recoding was refused, and that but for an output that failed nothing was written.
+-- Why the front of the bytes was not recoded: the shape's word is not known; it was not read, as no front reads or for
+-- want of memory; or it was, and memory for its text was wanted.
+abbrev pub IsUnrecoded : List ℕ → List ℕ → RelayError → Type 0
+IsUnrecoded shape bytes relay.UnknownShape = shape ≢ nested_word
+IsUnrecoded shape bytes (relay.Read e) = (shape ≡ nested_word) × IsUnread nested_read unsaid (memory shared bytes) e × ((text : List ℕ) → Recoded nested_read nested_write bytes text → IsReadMemory e)
+IsUnrecoded shape bytes (relay.Write e) = (shape ≡ nested_word) × ((text : List ℕ) × Recoded nested_read nested_write bytes text) × (e ≡ writing.OutOfMemory)
+IsUnrecoded shape bytes _ = ⊥
+
+-- Why relaying was refused, and that but for an output that failed nothing was written.
 abbrev pub IsUnrelayed : List ℕ → Option (List ℕ) → Option (List ℕ) → Option (List ℕ) → Option (List ℕ) → RelayError → Type 0
 IsUnrelayed shape input left old new relay.UnknownShape = (shape ≢ nested_word) × Keeps input left × Keeps old new
 IsUnrelayed shape input left old new (relay.Input e) = (shape ≡ nested_word) × Keeps old new
-IsUnrelayed shape input left old new (relay.Read e) = (shape ≡ nested_word) × Keeps old new × IfSome input (λ bytes. (text : List ℕ) → IsRecoded shape bytes text → IsReadMemory e)
-IsUnrelayed shape input left old new (relay.Write e) = (shape ≡ nested_word) × Keeps old new × e ≡ writing.OutOfMemory
-IsUnrelayed shape input left old new (relay.Output e) = shape ≡ nested_word
+IsUnrelayed shape input left old new (relay.Read e) = Keeps old new × (shape ≡ nested_word) × IfSome input (λ bytes. IsUnrecoded shape bytes (relay.Read e))
+IsUnrelayed shape input left old new (relay.Write e) = Keeps old new × (shape ≡ nested_word) × IfSome input (λ bytes. IsUnrecoded shape bytes (relay.Write e))
+IsUnrelayed shape input left old new (relay.Output e) = (shape ≡ nested_word) × IfSome input (λ bytes. (text : List ℕ) × IsRecoded shape bytes text)
 IsUnrelayed shape input left old new relay.OutOfMemory = (shape ≡ nested_word) × Keeps old new
 
 -- the input failed, or memory was wanted
@@ -59,9 +68,3 @@ IsUngathered _ = ⊥
 abbrev pub status_of : RelayError → ℕ
 status_of relay.UnknownShape = 2
 status_of _ = 1
-
--- Why the front of the bytes was not recoded: none reads, or memory was wanted.
-abbrev pub IsUnrecoded : List ℕ → RelayError → Type 0
-IsUnrecoded bytes (relay.Read e) = (text : List ℕ) → Recoded nested_read nested_write bytes text → IsReadMemory e
-IsUnrecoded bytes (relay.Write e) = e ≡ writing.OutOfMemory
-IsUnrecoded bytes _ = ⊥

@@ -2,10 +2,10 @@
 use Rattle.std.specs.Prelude.{◌≡◌, ◌⊎◌, ℕ, ◌+◌, ◌<◌, ◌≤◌, ◌^◌, cond, true, false, Bool, List, ◌++◌, length, take, IsUtf8, encode_utf8, nat_lt, IsTrue}
 use Rattle.std.specs.Char.{IsScalar, len_utf8}
 use Rattle.wincode_io.specs.Readers.{ReaderState, Stays, Takes, IsShort, IsPeeked, IsRefusal, IsRefused, shared}
-use Rattle.wincode.specs.Numbers.{le}
+use Rattle.wincode_io.specs.Numbers.{le}
 use Rattle.wincode.specs.Grammar.{ReadGrammar, WriteGrammar}
-use Rattle.wincode.specs.Lengths.{IsLength, bincode}
-use Rattle.wincode.specs.Outcomes.{Gives, IsLengthRefused}
+use Rattle.wincode.specs.Lengths.{IsLength, bincode, IsLengthRefused}
+use Rattle.wincode.specs.Outcomes.{Gives}
 use Rattle.wincode.specs.declared.meta.TypeMeta.{TypeMeta}
 use Rattle.wincode.specs.declared.meta.TypeMeta.TheVariants.{Static, Dynamic}
 use Rattle.wincode.specs.declared.error.ReadError.{ReadError}

@@ -3,16 +3,17 @@ use Rattle.std.proofs.Common.{◌≡◌, ◌∙◌, sym, ap, ℕ, ◌+◌, ◌<�
 use Rattle.std.specs.Prelude.{IsUtf8, encode_utf8}
 use Rattle.std.specs.Char.{IsScalar}
 use Rattle.std.proofs.lemmas.Str.{encode_same, length-encode}
-use Rattle.wincode.specs.Numbers.{le}
-use Rattle.wincode.specs.NumberLaws.{length-le}
+use Rattle.wincode_io.specs.Numbers.{le}
+use Rattle.wincode_io.specs.NumberLaws.{length-le}
 use Rattle.wincode.specs.LeafLaws.{same_front}
-use Rattle.wincode.specs.Grammar.{WriteGrammar, ReadLaws, WriteLaws, ReadsBack, IsUnambiguous, IsWriteStatic}
+use Rattle.wincode.specs.Grammar.{WriteGrammar, ReadLaws, WriteLaws, ReadsBack, IsWriteStatic}
 use Rattle.wincode.specs.Lengths.{IsLength, bincode}
 use Rattle.wincode.specs.LengthLaws.{bincode_text, bincode_text_is, bincode_laws, length_one}
 use Rattle.wincode.specs.Sequences.{Then, then_unambiguous}
 use Rattle.wincode.specs.Text.{char_read, char_write, text_read, text_write, IsTextBody, reference_meta, reference_write}
 use Rattle.wincode.specs.declared.meta.TypeMeta.{TypeMeta}
 use Rattle.wincode.specs.declared.meta.TypeMeta.TheVariants.{Static, Dynamic}
+use Rattle.wincode_io.specs.Joins.{IsUnambiguous}
 
 char_one : IsUnambiguous char_read.reads
 char_one a b x y c d p q e =

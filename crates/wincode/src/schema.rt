@@ -1,16 +1,16 @@
 //! Schemas: how values of a type are read and written.
 ghost use Rattle.std.specs.Prelude.{◌≡◌, Bool, true, IfOk, IfErr, OnOk, OnErr};
 ghost use Rattle.wincode.specs.Grammar.{ReadGrammar, WriteGrammar, ReadLaws, WriteLaws, ReadsBack};
-ghost use Rattle.wincode.specs.Outcomes.{Gives, Puts, Refuses, Refusal, Wrote, Unwritten, IsSizeRefused, IsWholeRefused};
+ghost use Rattle.wincode.specs.Outcomes.{Gives, Puts, Refuses, Refusal, IsSized, Wrote, Unwritten, IsSizeRefused, IsPieceRefused};
 
 pub mod arrays;
+pub mod boxes;
+pub(crate) mod in_window;
 pub mod leaves;
 pub mod lists;
-pub(crate) mod numbers;
-pub mod parts;
+pub mod tags;
 pub mod text;
 pub mod tuples;
-pub(crate) mod whole;
 
 use crate::error::{ReadError, ReadResult, WriteResult};
 use crate::io::{Lending, Reader, Writer};
@@ -32,7 +32,7 @@ pub trait SchemaWrite {
     ghost writing: { WriteGrammar Value };
 
     // Whether it is written in one piece: a refused write of a value that can be written adds nothing.
-    ghost whole: { Bool };
+    ghost in_one_piece: { Bool };
 
     /// The size that every text has, or none.
     fn type_meta() -> TypeMeta
@@ -42,17 +42,16 @@ pub trait SchemaWrite {
     /// value can't be written or its size is past `usize::MAX`, by this crate's own schemas as
     /// `LengthEncodingOverflow`.
     fn size_of(src: &Self::Src) -> WriteResult<usize>
-        ensures ok { IfOk result (λ n. writing.can (seen src.now) × (n ≡ writing.size (seen src.now))) }
+        ensures ok { IfOk result (IsSized writing (seen src.now)) }
         ensures err { IfErr result (IsSizeRefused writing (seen src.now)) };
 
     /// Writes one text of the value, where the value can be written and its size fits the room. A
     /// refused write of a value that can be written has added a beginning of one of its texts.
     fn write<W: Writer>(writer: &mut W, src: &Self::Src) -> WriteResult<()>
-        ensures ok { OnOk result (Wrote W.put W.room writing (W.state writer.old) (W.state writer.new) (seen src.now)) }
+        ensures ok { OnOk result (Wrote writing (W.state writer.old) (W.state writer.new) (seen src.now)) }
         ensures value { OnOk result (proper src.now) }
-        ensures err { IfErr result (Unwritten W.put W.room writing (W.state writer.old) (W.state writer.new) (seen src.now) (W.steady (W.kept writer.old)) (W.failures writer.new)) }
-        ensures whole { IfErr result (IsWholeRefused whole W.room writing (W.state writer.old) (W.state writer.new) (seen src.now) (W.steady (W.kept writer.old)) (W.failures writer.new)) }
-        ensures kept { W.kept writer.new ≡ W.kept writer.old };
+        ensures err { IfErr result (Unwritten writing (W.state writer.old) (W.state writer.new) (seen src.now)) }
+        ensures piece { IfErr result (IsPieceRefused in_one_piece writing (W.state writer.old) (W.state writer.new) (seen src.now)) };
 
     ghost write_laws: { WriteLaws proper seen writing };
 }

@@ -1,7 +1,7 @@
 //! Recoding: a value read from an input and written again.
-ghost use Rattle.std.specs.Prelude.{◌≡◌, ◌≢◌, ℕ, List, IfOk, IfErr, OnOk, IfSome, codes};
+ghost use Rattle.std.specs.Prelude.{◌≡◌, ◌≢◌, ◌↔◌, IsTrue, ℕ, List, IfOk, IfErr, OnOk, IfSome, codes};
 ghost use Rattle.std.specs.Io.KnownBytes.{Consumes, IsAtEnd, Keeps};
-ghost use Rattle.wincode.specs.Show.{IsRelayed, IsUnrelayed, nested_word, nested_read, nested_write, Recoded, IsUnrecoded, IsUngathered, status_of};
+ghost use Rattle.wincode.specs.Show.{IsRelayed, IsUnrelayed, nested_word, IsRecoded, IsUnrecoded, IsUngathered, status_of};
 
 use crate::calls::{deserialize, serialize};
 use crate::error::{ReadError, WriteError};
@@ -63,11 +63,22 @@ fn gather<R: Read>(alloc: Global, input: &mut R) -> Result<Vec<u8>, RelayError>
     }
 }
 
-/// The text of the nested lists of numbers at the front of the bytes.
-fn recode_nested(alloc: Global, bytes: &[u8]) -> Result<Vec<u8>, RelayError>
-    ensures ok { IfOk result (λ v. Recoded nested_read nested_write bytes.now v.items) }
-    ensures err { IfErr result (IsUnrecoded bytes.now) }
+/// Whether the shape's word is known.
+fn is_known(shape: &str) -> bool
+    ensures { IsTrue result ↔ (shape.now ≡ nested_word) }
 {
+    shape == "nested"
+}
+
+/// Reads one value of the shape from the front of the bytes, and forms its text again. What follows the
+/// value is never looked at.
+pub fn recode(alloc: Global, shape: &str, bytes: &[u8]) -> Result<Vec<u8>, RelayError>
+    ensures ok { IfOk result (λ v. IsRecoded shape.now bytes.now v.items) }
+    ensures err { IfErr result (IsUnrecoded shape.now bytes.now) }
+{
+    if !is_known(shape) {
+        return Err(RelayError::UnknownShape);
+    }
     let value: Vec<Vec<u64>> = match deserialize(alloc, bytes) {
         Ok(value) => value,
         Err(error) => return Err(RelayError::Read(error)),
@@ -78,9 +89,8 @@ fn recode_nested(alloc: Global, bytes: &[u8]) -> Result<Vec<u8>, RelayError>
     }
 }
 
-/// Reads all input, reads one value of the shape from its front, forms its text again in memory and
-/// writes it. Nothing is written before the whole text is there, and what follows the value is never
-/// looked at.
+/// Reads all input, recodes it as `recode` does, and writes the text. Nothing is written before the
+/// whole text is there. The shape is looked at first.
 pub fn relay<R: Read, W: Write>(
     alloc: Global,
     shape: &str,
@@ -90,11 +100,11 @@ pub fn relay<R: Read, W: Write>(
     ensures ok { OnOk result (IsRelayed shape.now (R.remaining input.old) (W.contents output.old) (W.contents output.new)) }
     ensures err { IfErr result (IsUnrelayed shape.now (R.remaining input.old) (R.remaining input.new) (W.contents output.old) (W.contents output.new)) }
 {
-    if shape != "nested" {
+    if !is_known(shape) {
         return Err(RelayError::UnknownShape);
     }
     let bytes = gather(alloc, input)?;
-    let text = recode_nested(alloc, bytes.as_slice())?;
+    let text = recode(alloc, shape, bytes.as_slice())?;
     output
         .write_all(text.as_slice())
         .map_err(RelayError::Output)?;

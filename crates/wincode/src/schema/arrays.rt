@@ -8,13 +8,13 @@ ghost use Rattle.wincode_array.specs.Runs.{Gave, Failed};
 ghost use Rattle.wincode.specs.Arrays.{times_meta, IsArray, array_read, array_write};
 ghost use Rattle.wincode.specs.ArrayLaws.{array_read_laws, array_write_laws, array_reads_back};
 ghost use Rattle.wincode.specs.Outcomes.{Gives, Puts, Refuses, unsaid};
-ghost use Rattle.wincode.specs.Wholes.{IsPlaced, is_static};
+ghost use Rattle.wincode.specs.InWindow.{IsStaticRefused, is_static};
 
 use crate::error::{ReadError, ReadResult, WriteResult};
 use crate::io::{Lending, Reader, Writer};
 use crate::meta::TypeMeta;
+use crate::schema::in_window::{read_in_window, write_in_window};
 use crate::schema::lists::{add_sizes, write_items};
-use crate::schema::whole::{read_whole, write_whole};
 use crate::schema::{RoundTrip, SchemaGet, SchemaRead, SchemaWrite};
 use std::alloc::Global;
 use std::marker::PhantomData;
@@ -94,7 +94,7 @@ impl<T: SchemaWrite, const N: usize> SchemaWrite for Items<T, N> {
 
     ghost writing = { array_write N T.writing };
 
-    ghost whole = { false };
+    ghost in_one_piece = { false };
 
     fn type_meta() -> TypeMeta {
         size_of_items(N, T::type_meta())
@@ -154,7 +154,7 @@ impl<T: SchemaWrite, const N: usize> SchemaWrite for [T; N] {
 
     ghost writing = { array_write N T.writing };
 
-    ghost whole = { is_static (times_meta N T.writing.meta) };
+    ghost in_one_piece = { is_static (times_meta N T.writing.meta) };
 
     fn type_meta() -> TypeMeta {
         <Items<T, N> as SchemaWrite>::type_meta()
@@ -165,7 +165,7 @@ impl<T: SchemaWrite, const N: usize> SchemaWrite for [T; N] {
     }
 
     fn write<W: Writer>(writer: &mut W, src: &[T::Src; N]) -> WriteResult<()> {
-        write_whole::<Items<T, N>, W>(writer, src)
+        write_in_window::<Items<T, N>, W>(writer, src)
     }
 
     ghost write_laws = { array_write_laws N T.proper T.seen T.writing T.write_laws };
@@ -182,7 +182,7 @@ impl<L: Lending, T: SchemaRead<L>, const N: usize> SchemaRead<L> for [T; N] {
 
     ghost reading = { array_read N T.reading };
 
-    ghost refusal = { IsPlaced (times_meta N T.reading.meta) };
+    ghost refusal = { IsStaticRefused (times_meta N T.reading.meta) };
 
     fn type_meta() -> TypeMeta {
         <Items<T, N> as SchemaRead<L>>::type_meta()
@@ -197,7 +197,7 @@ impl<L: Lending, T: SchemaRead<L>, const N: usize> SchemaRead<L> for [T; N] {
         reader: &mut R,
         dst: &mut Option<[T::Dst; N]>,
     ) -> ReadResult<()> {
-        read_whole::<L, Items<T, N>, R>(alloc, reader, dst)
+        read_in_window::<L, Items<T, N>, R>(alloc, reader, dst)
     }
 
     ghost read_laws = { array_read_laws N T.proper T.reading T.read_laws };

@@ -2,21 +2,30 @@
 ghost use Rattle.std.specs.Prelude.{◌≡◌, ℕ, ℤ, ◌<◌, ◌≤◌, ◌^◌, FitsSigned, Bool, true, false, IfOk, IfErr, OnOk, OnErr, refl};
 ghost use Rattle.std.specs.Int.{w8, w16, w32, w64, w128};
 ghost use Rattle.std.proofs.Common.{lit≤};
-ghost use Rattle.wincode.specs.Leaves.{number_read, number_write, signed_read, signed_write, bool_read, bool_write, unit_read, unit_write};
-ghost use Rattle.wincode.specs.LeafLaws.{number_read_laws, number_write_laws, number_reads_back, signed_read_laws, signed_write_laws, signed_reads_back, bool_read_laws, bool_write_laws, bool_reads_back, unit_read_laws, unit_write_laws, unit_reads_back};
-ghost use Rattle.wincode.specs.Outcomes.{never, IsDenied, IsBoolRefused};
+ghost use Rattle.wincode.specs.Leaves.{number_read, number_write, signed_read, signed_write, bool_read, bool_write, unit_read, unit_write, IsBoolRefused};
+ghost use Rattle.wincode.specs.LeafLaws.{number_read_laws, number_write_laws, number_reads_back, signed_read_laws, signed_write_laws, signed_reads_back};
+ghost use Rattle.wincode.specs.LeafLaws.{bool_read_laws, bool_write_laws, bool_reads_back, unit_read_laws, unit_write_laws, unit_reads_back};
+ghost use Rattle.wincode_io.specs.Readers.{Takes};
+ghost use Rattle.wincode.specs.Outcomes.{never, IsDenied};
 
 use crate::error::{ReadResult, WriteResult, invalid_bool_encoding};
-use crate::io::{Lending, Reader, Writer};
+use crate::io::{Lending, Reader, Writer, fill_array};
 use crate::meta::TypeMeta;
-use crate::schema::numbers::{
-    put_i8, put_i16, put_i32, put_i64, put_i128, put_isize, put_nothing, put_u8, put_u16, put_u32,
-    put_u64, put_u128, put_usize, take_i8, take_i16, take_i32, take_i64, take_i128, take_u8,
-    take_u16, take_u32, take_u64, take_u128,
-};
 use crate::schema::{RoundTrip, SchemaRead, SchemaWrite};
 use std::alloc::Global;
 use std::marker::PhantomData;
+
+/// The first `N` bytes, which are then gone; `ReadSizeLimit(N)` where fewer are left, and they stay.
+pub(crate) fn take_array<L: Lending, R: Reader<L>, const N: usize>(
+    reader: &mut R,
+) -> ReadResult<[u8; N]>
+    ensures ok { IfOk result (Takes N (R.state reader.old) (R.state reader.new)) }
+    ensures err { IfErr result (IsDenied N (R.state reader.old) (R.state reader.new)) }
+{
+    let bytes = fill_array::<L, R, N>(reader)?;
+    reader.consume_unchecked(N);
+    Ok(bytes)
+}
 
 impl SchemaWrite for u8 {
     type Src = u8;
@@ -29,7 +38,7 @@ impl SchemaWrite for u8 {
 
     ghost writing = { number_write 1 true };
 
-    ghost whole = { true };
+    ghost in_one_piece = { true };
 
     fn type_meta() -> TypeMeta {
         TypeMeta::Static {
@@ -43,13 +52,13 @@ impl SchemaWrite for u8 {
     }
 
     fn write<W: Writer>(writer: &mut W, src: &u8) -> WriteResult<()> {
-        put_u8::<W>(writer, *src)
+        writer.write(&src.to_le_bytes())?;
+        Ok(())
     }
 
     ghost write_laws = { number_write_laws 1 true };
 }
 
-#[tactic(auto, using(crate::proofs::Numerals::number_puts))]
 impl<L: Lending> SchemaRead<L> for u8 {
     type Dst = u8;
 
@@ -75,7 +84,8 @@ impl<L: Lending> SchemaRead<L> for u8 {
     }
 
     fn read<R: Reader<L>>(_alloc: Global, reader: &mut R, dst: &mut Option<u8>) -> ReadResult<()> {
-        *dst = Some(take_u8::<L, R>(reader)?);
+        let bytes = take_array::<L, R, 1>(reader)?;
+        *dst = Some(u8::from_le_bytes(bytes));
         Ok(())
     }
 
@@ -97,7 +107,7 @@ impl SchemaWrite for u16 {
 
     ghost writing = { number_write 2 true };
 
-    ghost whole = { true };
+    ghost in_one_piece = { true };
 
     fn type_meta() -> TypeMeta {
         TypeMeta::Static {
@@ -111,13 +121,13 @@ impl SchemaWrite for u16 {
     }
 
     fn write<W: Writer>(writer: &mut W, src: &u16) -> WriteResult<()> {
-        put_u16::<W>(writer, *src)
+        writer.write(&src.to_le_bytes())?;
+        Ok(())
     }
 
     ghost write_laws = { number_write_laws 2 true };
 }
 
-#[tactic(auto, using(crate::proofs::Numerals::number_puts))]
 impl<L: Lending> SchemaRead<L> for u16 {
     type Dst = u16;
 
@@ -143,7 +153,8 @@ impl<L: Lending> SchemaRead<L> for u16 {
     }
 
     fn read<R: Reader<L>>(_alloc: Global, reader: &mut R, dst: &mut Option<u16>) -> ReadResult<()> {
-        *dst = Some(take_u16::<L, R>(reader)?);
+        let bytes = take_array::<L, R, 2>(reader)?;
+        *dst = Some(u16::from_le_bytes(bytes));
         Ok(())
     }
 
@@ -165,7 +176,7 @@ impl SchemaWrite for u32 {
 
     ghost writing = { number_write 4 true };
 
-    ghost whole = { true };
+    ghost in_one_piece = { true };
 
     fn type_meta() -> TypeMeta {
         TypeMeta::Static {
@@ -179,13 +190,13 @@ impl SchemaWrite for u32 {
     }
 
     fn write<W: Writer>(writer: &mut W, src: &u32) -> WriteResult<()> {
-        put_u32::<W>(writer, *src)
+        writer.write(&src.to_le_bytes())?;
+        Ok(())
     }
 
     ghost write_laws = { number_write_laws 4 true };
 }
 
-#[tactic(auto, using(crate::proofs::Numerals::number_puts))]
 impl<L: Lending> SchemaRead<L> for u32 {
     type Dst = u32;
 
@@ -211,7 +222,8 @@ impl<L: Lending> SchemaRead<L> for u32 {
     }
 
     fn read<R: Reader<L>>(_alloc: Global, reader: &mut R, dst: &mut Option<u32>) -> ReadResult<()> {
-        *dst = Some(take_u32::<L, R>(reader)?);
+        let bytes = take_array::<L, R, 4>(reader)?;
+        *dst = Some(u32::from_le_bytes(bytes));
         Ok(())
     }
 
@@ -233,7 +245,7 @@ impl SchemaWrite for u64 {
 
     ghost writing = { number_write 8 true };
 
-    ghost whole = { true };
+    ghost in_one_piece = { true };
 
     fn type_meta() -> TypeMeta {
         TypeMeta::Static {
@@ -247,13 +259,13 @@ impl SchemaWrite for u64 {
     }
 
     fn write<W: Writer>(writer: &mut W, src: &u64) -> WriteResult<()> {
-        put_u64::<W>(writer, *src)
+        writer.write(&src.to_le_bytes())?;
+        Ok(())
     }
 
     ghost write_laws = { number_write_laws 8 true };
 }
 
-#[tactic(auto, using(crate::proofs::Numerals::number_puts))]
 impl<L: Lending> SchemaRead<L> for u64 {
     type Dst = u64;
 
@@ -279,7 +291,8 @@ impl<L: Lending> SchemaRead<L> for u64 {
     }
 
     fn read<R: Reader<L>>(_alloc: Global, reader: &mut R, dst: &mut Option<u64>) -> ReadResult<()> {
-        *dst = Some(take_u64::<L, R>(reader)?);
+        let bytes = take_array::<L, R, 8>(reader)?;
+        *dst = Some(u64::from_le_bytes(bytes));
         Ok(())
     }
 
@@ -301,7 +314,7 @@ impl SchemaWrite for u128 {
 
     ghost writing = { number_write 16 true };
 
-    ghost whole = { true };
+    ghost in_one_piece = { true };
 
     fn type_meta() -> TypeMeta {
         TypeMeta::Static {
@@ -315,13 +328,13 @@ impl SchemaWrite for u128 {
     }
 
     fn write<W: Writer>(writer: &mut W, src: &u128) -> WriteResult<()> {
-        put_u128::<W>(writer, *src)
+        writer.write(&src.to_le_bytes())?;
+        Ok(())
     }
 
     ghost write_laws = { number_write_laws 16 true };
 }
 
-#[tactic(auto, using(crate::proofs::Numerals::number_puts))]
 impl<L: Lending> SchemaRead<L> for u128 {
     type Dst = u128;
 
@@ -351,7 +364,8 @@ impl<L: Lending> SchemaRead<L> for u128 {
         reader: &mut R,
         dst: &mut Option<u128>,
     ) -> ReadResult<()> {
-        *dst = Some(take_u128::<L, R>(reader)?);
+        let bytes = take_array::<L, R, 16>(reader)?;
+        *dst = Some(u128::from_le_bytes(bytes));
         Ok(())
     }
 
@@ -373,7 +387,7 @@ impl SchemaWrite for usize {
 
     ghost writing = { number_write 8 false };
 
-    ghost whole = { true };
+    ghost in_one_piece = { true };
 
     fn type_meta() -> TypeMeta {
         TypeMeta::Static {
@@ -387,13 +401,13 @@ impl SchemaWrite for usize {
     }
 
     fn write<W: Writer>(writer: &mut W, src: &usize) -> WriteResult<()> {
-        put_usize::<W>(writer, *src)
+        writer.write(&src.to_le_bytes())?;
+        Ok(())
     }
 
     ghost write_laws = { number_write_laws 8 false };
 }
 
-#[tactic(auto, using(crate::proofs::Numerals::number_puts))]
 impl<L: Lending> SchemaRead<L> for usize {
     type Dst = usize;
 
@@ -423,7 +437,8 @@ impl<L: Lending> SchemaRead<L> for usize {
         reader: &mut R,
         dst: &mut Option<usize>,
     ) -> ReadResult<()> {
-        *dst = Some(take_u64::<L, R>(reader)? as usize);
+        let bytes = take_array::<L, R, 8>(reader)?;
+        *dst = Some(usize::from_le_bytes(bytes));
         Ok(())
     }
 
@@ -445,7 +460,7 @@ impl SchemaWrite for i8 {
 
     ghost writing = { signed_write w8 true };
 
-    ghost whole = { true };
+    ghost in_one_piece = { true };
 
     fn type_meta() -> TypeMeta {
         TypeMeta::Static {
@@ -459,13 +474,13 @@ impl SchemaWrite for i8 {
     }
 
     fn write<W: Writer>(writer: &mut W, src: &i8) -> WriteResult<()> {
-        put_i8::<W>(writer, *src)
+        writer.write(&src.to_le_bytes())?;
+        Ok(())
     }
 
     ghost write_laws = { signed_write_laws w8 true };
 }
 
-#[tactic(auto, using(crate::proofs::Numerals::number_puts))]
 impl<L: Lending> SchemaRead<L> for i8 {
     type Dst = i8;
 
@@ -491,7 +506,8 @@ impl<L: Lending> SchemaRead<L> for i8 {
     }
 
     fn read<R: Reader<L>>(_alloc: Global, reader: &mut R, dst: &mut Option<i8>) -> ReadResult<()> {
-        *dst = Some(take_i8::<L, R>(reader)?);
+        let bytes = take_array::<L, R, 1>(reader)?;
+        *dst = Some(i8::from_le_bytes(bytes));
         Ok(())
     }
 
@@ -513,7 +529,7 @@ impl SchemaWrite for i16 {
 
     ghost writing = { signed_write w16 true };
 
-    ghost whole = { true };
+    ghost in_one_piece = { true };
 
     fn type_meta() -> TypeMeta {
         TypeMeta::Static {
@@ -527,13 +543,13 @@ impl SchemaWrite for i16 {
     }
 
     fn write<W: Writer>(writer: &mut W, src: &i16) -> WriteResult<()> {
-        put_i16::<W>(writer, *src)
+        writer.write(&src.to_le_bytes())?;
+        Ok(())
     }
 
     ghost write_laws = { signed_write_laws w16 true };
 }
 
-#[tactic(auto, using(crate::proofs::Numerals::number_puts))]
 impl<L: Lending> SchemaRead<L> for i16 {
     type Dst = i16;
 
@@ -559,7 +575,8 @@ impl<L: Lending> SchemaRead<L> for i16 {
     }
 
     fn read<R: Reader<L>>(_alloc: Global, reader: &mut R, dst: &mut Option<i16>) -> ReadResult<()> {
-        *dst = Some(take_i16::<L, R>(reader)?);
+        let bytes = take_array::<L, R, 2>(reader)?;
+        *dst = Some(i16::from_le_bytes(bytes));
         Ok(())
     }
 
@@ -581,7 +598,7 @@ impl SchemaWrite for i32 {
 
     ghost writing = { signed_write w32 true };
 
-    ghost whole = { true };
+    ghost in_one_piece = { true };
 
     fn type_meta() -> TypeMeta {
         TypeMeta::Static {
@@ -595,13 +612,13 @@ impl SchemaWrite for i32 {
     }
 
     fn write<W: Writer>(writer: &mut W, src: &i32) -> WriteResult<()> {
-        put_i32::<W>(writer, *src)
+        writer.write(&src.to_le_bytes())?;
+        Ok(())
     }
 
     ghost write_laws = { signed_write_laws w32 true };
 }
 
-#[tactic(auto, using(crate::proofs::Numerals::number_puts))]
 impl<L: Lending> SchemaRead<L> for i32 {
     type Dst = i32;
 
@@ -627,7 +644,8 @@ impl<L: Lending> SchemaRead<L> for i32 {
     }
 
     fn read<R: Reader<L>>(_alloc: Global, reader: &mut R, dst: &mut Option<i32>) -> ReadResult<()> {
-        *dst = Some(take_i32::<L, R>(reader)?);
+        let bytes = take_array::<L, R, 4>(reader)?;
+        *dst = Some(i32::from_le_bytes(bytes));
         Ok(())
     }
 
@@ -649,7 +667,7 @@ impl SchemaWrite for i64 {
 
     ghost writing = { signed_write w64 true };
 
-    ghost whole = { true };
+    ghost in_one_piece = { true };
 
     fn type_meta() -> TypeMeta {
         TypeMeta::Static {
@@ -663,13 +681,13 @@ impl SchemaWrite for i64 {
     }
 
     fn write<W: Writer>(writer: &mut W, src: &i64) -> WriteResult<()> {
-        put_i64::<W>(writer, *src)
+        writer.write(&src.to_le_bytes())?;
+        Ok(())
     }
 
     ghost write_laws = { signed_write_laws w64 true };
 }
 
-#[tactic(auto, using(crate::proofs::Numerals::number_puts))]
 impl<L: Lending> SchemaRead<L> for i64 {
     type Dst = i64;
 
@@ -695,7 +713,8 @@ impl<L: Lending> SchemaRead<L> for i64 {
     }
 
     fn read<R: Reader<L>>(_alloc: Global, reader: &mut R, dst: &mut Option<i64>) -> ReadResult<()> {
-        *dst = Some(take_i64::<L, R>(reader)?);
+        let bytes = take_array::<L, R, 8>(reader)?;
+        *dst = Some(i64::from_le_bytes(bytes));
         Ok(())
     }
 
@@ -717,7 +736,7 @@ impl SchemaWrite for i128 {
 
     ghost writing = { signed_write w128 true };
 
-    ghost whole = { true };
+    ghost in_one_piece = { true };
 
     fn type_meta() -> TypeMeta {
         TypeMeta::Static {
@@ -731,13 +750,13 @@ impl SchemaWrite for i128 {
     }
 
     fn write<W: Writer>(writer: &mut W, src: &i128) -> WriteResult<()> {
-        put_i128::<W>(writer, *src)
+        writer.write(&src.to_le_bytes())?;
+        Ok(())
     }
 
     ghost write_laws = { signed_write_laws w128 true };
 }
 
-#[tactic(auto, using(crate::proofs::Numerals::number_puts))]
 impl<L: Lending> SchemaRead<L> for i128 {
     type Dst = i128;
 
@@ -767,7 +786,8 @@ impl<L: Lending> SchemaRead<L> for i128 {
         reader: &mut R,
         dst: &mut Option<i128>,
     ) -> ReadResult<()> {
-        *dst = Some(take_i128::<L, R>(reader)?);
+        let bytes = take_array::<L, R, 16>(reader)?;
+        *dst = Some(i128::from_le_bytes(bytes));
         Ok(())
     }
 
@@ -789,7 +809,7 @@ impl SchemaWrite for isize {
 
     ghost writing = { signed_write w64 false };
 
-    ghost whole = { true };
+    ghost in_one_piece = { true };
 
     fn type_meta() -> TypeMeta {
         TypeMeta::Static {
@@ -803,13 +823,13 @@ impl SchemaWrite for isize {
     }
 
     fn write<W: Writer>(writer: &mut W, src: &isize) -> WriteResult<()> {
-        put_isize::<W>(writer, *src)
+        writer.write(&src.to_le_bytes())?;
+        Ok(())
     }
 
     ghost write_laws = { signed_write_laws w64 false };
 }
 
-#[tactic(auto, using(crate::proofs::Numerals::number_puts))]
 impl<L: Lending> SchemaRead<L> for isize {
     type Dst = isize;
 
@@ -839,7 +859,8 @@ impl<L: Lending> SchemaRead<L> for isize {
         reader: &mut R,
         dst: &mut Option<isize>,
     ) -> ReadResult<()> {
-        *dst = Some(take_i64::<L, R>(reader)? as isize);
+        let bytes = take_array::<L, R, 8>(reader)?;
+        *dst = Some(isize::from_le_bytes(bytes));
         Ok(())
     }
 
@@ -861,7 +882,7 @@ impl SchemaWrite for bool {
 
     ghost writing = { bool_write };
 
-    ghost whole = { true };
+    ghost in_one_piece = { true };
 
     fn type_meta() -> TypeMeta {
         TypeMeta::Static {
@@ -913,7 +934,8 @@ impl<L: Lending> SchemaRead<L> for bool {
         reader: &mut R,
         dst: &mut Option<bool>,
     ) -> ReadResult<()> {
-        let byte = take_u8::<L, R>(reader)?;
+        let bytes = take_array::<L, R, 1>(reader)?;
+        let byte = bytes[0];
         if byte > 1 {
             return Err(invalid_bool_encoding(byte));
         }
@@ -939,7 +961,7 @@ impl SchemaWrite for () {
 
     ghost writing = { unit_write };
 
-    ghost whole = { true };
+    ghost in_one_piece = { true };
 
     fn type_meta() -> TypeMeta {
         TypeMeta::Static {
@@ -953,13 +975,14 @@ impl SchemaWrite for () {
     }
 
     fn write<W: Writer>(writer: &mut W, _src: &()) -> WriteResult<()> {
-        put_nothing::<W>(writer)
+        let _ = &*writer;
+        Ok(())
     }
 
     ghost write_laws = { unit_write_laws };
 }
 
-#[tactic(auto, using(crate::proofs::Numerals::unit_puts))]
+#[tactic(auto, using(crate::proofs::Integers::unit_puts))]
 impl<L: Lending> SchemaRead<L> for () {
     type Dst = ();
 
@@ -1007,7 +1030,7 @@ impl<T> SchemaWrite for PhantomData<T> {
 
     ghost writing = { unit_write };
 
-    ghost whole = { true };
+    ghost in_one_piece = { true };
 
     fn type_meta() -> TypeMeta {
         TypeMeta::Static {
@@ -1021,13 +1044,14 @@ impl<T> SchemaWrite for PhantomData<T> {
     }
 
     fn write<W: Writer>(writer: &mut W, _src: &PhantomData<T>) -> WriteResult<()> {
-        put_nothing::<W>(writer)
+        let _ = &*writer;
+        Ok(())
     }
 
     ghost write_laws = { unit_write_laws };
 }
 
-#[tactic(auto, using(crate::proofs::Numerals::unit_puts))]
+#[tactic(auto, using(crate::proofs::Integers::unit_puts))]
 impl<L: Lending, T> SchemaRead<L> for PhantomData<T> {
     type Dst = PhantomData<T>;
 

@@ -1,10 +1,11 @@
 //! Schemas of lists.
 ghost use Rattle.std.specs.Prelude.{◌≡◌, ℕ, ◌+◌, List, map, IfOk, IfErr, OnOk, false};
+ghost use Rattle.wincode_io.specs.Joins.{AreItems, Each, total};
 ghost use Rattle.wincode.specs.Lengths.{bincode};
 ghost use Rattle.wincode.specs.LengthLaws.{bincode_laws};
-ghost use Rattle.wincode.specs.Lists.{AreItems, Each, total, items_write, list_read, list_write};
+ghost use Rattle.wincode.specs.Lists.{items_write, list_read, list_write, IsSumRefused};
 ghost use Rattle.wincode.specs.ListLaws.{list_read_laws, list_write_laws, list_reads_back};
-ghost use Rattle.wincode.specs.Outcomes.{Gives, Refuses, unsaid, Wrote, Unwritten, IsSizeRefused, IsSumRefused};
+ghost use Rattle.wincode.specs.Outcomes.{Gives, Refuses, unsaid, Wrote, Unwritten, IsSizeRefused};
 
 use crate::error::{ReadError, ReadResult, WriteResult, write_length_encoding_overflow};
 use crate::io::{Lending, Reader, Writer};
@@ -65,7 +66,8 @@ pub(crate) fn add_sizes<T: SchemaWrite>(before: usize, items: &[T::Src]) -> Writ
 
 /// The size of a list of these items.
 fn size_of_list<Len: SeqLen, T: SchemaWrite>(items: &[T::Src]) -> WriteResult<usize>
-    ensures ok { IfOk result (λ n. (list_write Len.scheme T.writing).can (map T.seen items.now) × (n ≡ (list_write Len.scheme T.writing).size (map T.seen items.now))) }
+    ensures ok { IfOk result (λ n. (list_write Len.scheme T.writing).can (map T.seen items.now) × (n ≡ (list_write
+        Len.scheme T.writing).size (map T.seen items.now))) }
     ensures err { IfErr result (IsSizeRefused (list_write Len.scheme T.writing) (map T.seen items.now)) }
 {
     let length = Len::write_bytes_needed(items.len())?;
@@ -77,10 +79,9 @@ pub(crate) fn write_items<T: SchemaWrite, W: Writer>(
     writer: &mut W,
     items: &[T::Src],
 ) -> WriteResult<()>
-    ensures ok { OnOk result (Wrote W.put W.room (items_write T.writing) (W.state writer.old) (W.state writer.new) (map T.seen items.now)) }
+    ensures ok { OnOk result (Wrote (items_write T.writing) (W.state writer.old) (W.state writer.new) (map T.seen items.now)) }
     ensures value { OnOk result (Each T.proper items.now) }
-    ensures err { IfErr result (Unwritten W.put W.room (items_write T.writing) (W.state writer.old) (W.state writer.new) (map T.seen items.now) (W.steady (W.kept writer.old)) (W.failures writer.new)) }
-    ensures kept { W.kept writer.new ≡ W.kept writer.old }
+    ensures err { IfErr result (Unwritten (items_write T.writing) (W.state writer.old) (W.state writer.new) (map T.seen items.now)) }
 {
     for item in items {
         T::write(writer, item)?;
@@ -93,10 +94,9 @@ fn write_list<Len: SeqLen, T: SchemaWrite, W: Writer>(
     writer: &mut W,
     items: &[T::Src],
 ) -> WriteResult<()>
-    ensures ok { OnOk result (Wrote W.put W.room (list_write Len.scheme T.writing) (W.state writer.old) (W.state writer.new) (map T.seen items.now)) }
+    ensures ok { OnOk result (Wrote (list_write Len.scheme T.writing) (W.state writer.old) (W.state writer.new) (map T.seen items.now)) }
     ensures value { OnOk result (Each T.proper items.now) }
-    ensures err { IfErr result (Unwritten W.put W.room (list_write Len.scheme T.writing) (W.state writer.old) (W.state writer.new) (map T.seen items.now) (W.steady (W.kept writer.old)) (W.failures writer.new)) }
-    ensures kept { W.kept writer.new ≡ W.kept writer.old }
+    ensures err { IfErr result (Unwritten (list_write Len.scheme T.writing) (W.state writer.old) (W.state writer.new) (map T.seen items.now)) }
 {
     Len::write::<W>(writer, items.len())?;
     write_items::<T, W>(writer, items)
@@ -113,7 +113,7 @@ impl<T: SchemaWrite> SchemaWrite for Vec<T> {
 
     ghost writing = { list_write (bincode 4194304) T.writing };
 
-    ghost whole = { false };
+    ghost in_one_piece = { false };
 
     fn type_meta() -> TypeMeta {
         TypeMeta::Dynamic
@@ -167,5 +167,7 @@ impl<L: Lending, T: RoundTrip<L>> RoundTrip<L> for Vec<T>
 where
     T::Src: Drop,
 {
-    ghost reads_back = { list_reads_back (bincode 4194304) (bincode_laws 4194304) (λ v. v.items) T.SchemaWrite.proper T.SchemaWrite.seen T.SchemaWrite.writing T.SchemaRead.seen T.SchemaRead.reading T.reads_back };
+    ghost reads_back = { list_reads_back (bincode 4194304) (bincode_laws 4194304) (λ v. v.items)
+        T.SchemaWrite.proper T.SchemaWrite.seen T.SchemaWrite.writing T.SchemaRead.seen T.SchemaRead.reading
+        T.reads_back };
 }

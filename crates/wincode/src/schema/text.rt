@@ -74,7 +74,7 @@ impl SchemaWrite for char {
 
     ghost writing = { char_write };
 
-    ghost whole = { true };
+    ghost in_one_piece = { true };
 
     fn type_meta() -> TypeMeta {
         TypeMeta::Dynamic
@@ -194,9 +194,8 @@ fn size_of_text(text: &str) -> WriteResult<usize>
 
 /// Writes the length of a text, and then its bytes.
 fn write_text<W: Writer>(writer: &mut W, text: &str) -> WriteResult<()>
-    ensures ok { OnOk result (Wrote W.put W.room (text_write 24) (W.state writer.old) (W.state writer.new) text.now) }
-    ensures err { IfErr result (Unwritten W.put W.room (text_write 24) (W.state writer.old) (W.state writer.new) text.now (W.steady (W.kept writer.old)) (W.failures writer.new)) }
-    ensures kept { W.kept writer.new ≡ W.kept writer.old }
+    ensures ok { OnOk result (Wrote (text_write 24) (W.state writer.old) (W.state writer.new) text.now) }
+    ensures err { IfErr result (Unwritten (text_write 24) (W.state writer.old) (W.state writer.new) text.now) }
 {
     BincodeLen::<4194304>::write::<W>(writer, text.len())?;
     writer.write(text.as_bytes())?;
@@ -215,7 +214,7 @@ impl SchemaWrite for String {
 
     ghost writing = { text_write 24 };
 
-    ghost whole = { false };
+    ghost in_one_piece = { false };
 
     fn type_meta() -> TypeMeta {
         TypeMeta::Dynamic
@@ -284,7 +283,7 @@ impl<'a> SchemaWrite for &'a str {
 
     ghost writing = { text_write 16 };
 
-    ghost whole = { false };
+    ghost in_one_piece = { false };
 
     fn type_meta() -> TypeMeta
         ensures { result ≡ (text_write 16).meta }
@@ -388,7 +387,7 @@ impl<'a, U: 'a, T: SchemaWrite<Src = U>> SchemaWrite for &'a T {
 
     ghost writing = { reference_write T.writing };
 
-    ghost whole = { T.whole };
+    ghost in_one_piece = { T.in_one_piece };
 
     fn type_meta() -> TypeMeta {
         match T::type_meta() {

@@ -4,19 +4,23 @@
 //! Reading: fewer bytes are `Io(ReadSizeLimit)` of the sum, and stay; where a member is refused, the bytes of
 //! the whole tuple are gone. Writing: less room is `Io(WriteSizeLimit)` of the sum, and nothing is written.
 //! Other tuples go member by member, and a refusal leaves what the members before it took or wrote.
-ghost use Rattle.std.specs.Prelude.{◌≡◌, false, IfOk, IfErr, OnOk};
+ghost use Rattle.std.specs.Prelude.{◌≡◌, ◌+◌, ◌^◌, ◌≤◌, false, IfOk, IfErr, OnOk};
 ghost use Rattle.wincode.specs.Pairs.{pair_meta, pair_read, pair_write};
 ghost use Rattle.wincode.specs.PairLaws.{pair_read_laws, pair_write_laws, pair_reads_back, write_laws_by, reads_back_by};
-ghost use Rattle.wincode.specs.Outcomes.{unsaid, Wrote, Unwritten, IsWholeRefused, IsSizeRefused};
-ghost use Rattle.wincode.specs.Wholes.{IsPlaced, is_static};
+ghost use Rattle.wincode.specs.Outcomes.{unsaid, IsSized, Wrote, Unwritten, IsPieceRefused, IsSizeRefused, IsOverflow};
+ghost use Rattle.wincode.specs.InWindow.{IsStaticRefused, is_static};
 
 mod longer;
 
 use crate::error::{ReadResult, WriteResult, write_length_encoding_overflow};
 use crate::io::{Lending, Reader, Writer};
 use crate::meta::TypeMeta;
-use crate::schema::whole::{get_whole, write_whole};
+use crate::schema::in_window::{get_in_window, write_in_window};
 use crate::schema::{RoundTrip, SchemaGet, SchemaRead, SchemaWrite};
+pub use longer::{
+    size_of_members_9, size_of_members_10, size_of_members_11, size_of_members_12, write_members_9,
+    write_members_10, write_members_11, write_members_12,
+};
 use std::alloc::Global;
 use std::marker::PhantomData;
 
@@ -38,8 +42,19 @@ fn joined_meta(first: TypeMeta, second: TypeMeta) -> TypeMeta
     }
 }
 
+/// The size of a part and what stands behind it.
+pub(crate) fn add_size(first: usize, second: usize) -> WriteResult<usize>
+    ensures ok { IfOk result (λ n. n ≡ first + second) }
+    ensures err { IfErr result (λ e. (2 ^ 64 ≤ first + second) × IsOverflow e) }
+{
+    match first.checked_add(second) {
+        Some(size) => Ok(size),
+        None => Err(write_length_encoding_overflow("usize::MAX")),
+    }
+}
+
 /// Two members, one after the other, through no window of their own. More are pairs in pairs.
-struct Members2<A, B>(PhantomData<(A, B)>);
+pub struct Members2<A, B>(PhantomData<(A, B)>);
 
 impl<A: SchemaWrite, B: SchemaWrite> SchemaWrite for Members2<A, B> {
     type Src = (A::Src, B::Src);
@@ -52,19 +67,14 @@ impl<A: SchemaWrite, B: SchemaWrite> SchemaWrite for Members2<A, B> {
 
     ghost writing = { pair_write A.writing B.writing };
 
-    ghost whole = { false };
+    ghost in_one_piece = { false };
 
     fn type_meta() -> TypeMeta {
         joined_meta(A::type_meta(), B::type_meta())
     }
 
     fn size_of(src: &(A::Src, B::Src)) -> WriteResult<usize> {
-        let first = A::size_of(&src.0)?;
-        let second = B::size_of(&src.1)?;
-        match first.checked_add(second) {
-            Some(size) => Ok(size),
-            None => Err(write_length_encoding_overflow("usize::MAX")),
-        }
+        add_size(A::size_of(&src.0)?, B::size_of(&src.1)?)
     }
 
     fn write<W: Writer>(writer: &mut W, src: &(A::Src, B::Src)) -> WriteResult<()> {
@@ -72,7 +82,7 @@ impl<A: SchemaWrite, B: SchemaWrite> SchemaWrite for Members2<A, B> {
         B::write(writer, &src.1)
     }
 
-    ghost write_laws = { write_laws_by (λ t. (t.0, t.1)) _ _ _ (pair_write_laws A.proper B.proper A.seen B.seen A.writing B.writing A.write_laws B.write_laws) };
+    ghost write_laws = { pair_write_laws A.write_laws B.write_laws };
 }
 
 impl<L: Lending, A: SchemaRead<L>, B: SchemaRead<L>> SchemaRead<L> for Members2<A, B> {
@@ -107,11 +117,11 @@ impl<L: Lending, A: SchemaRead<L>, B: SchemaRead<L>> SchemaRead<L> for Members2<
         Ok(())
     }
 
-    ghost read_laws = { pair_read_laws A.proper B.proper A.reading B.reading A.read_laws B.read_laws };
+    ghost read_laws = { pair_read_laws A.read_laws B.read_laws };
 }
 
 /// A member, which is written by reference.
-struct Member<T>(PhantomData<T>);
+pub struct Member<T>(PhantomData<T>);
 
 impl<'a, U: 'a, T: SchemaWrite<Src = U>> SchemaWrite for &'a Member<T> {
     type Src = &'a U;
@@ -124,7 +134,7 @@ impl<'a, U: 'a, T: SchemaWrite<Src = U>> SchemaWrite for &'a Member<T> {
 
     ghost writing = { T.writing };
 
-    ghost whole = { T.whole };
+    ghost in_one_piece = { T.in_one_piece };
 
     fn type_meta() -> TypeMeta
         ensures { result ≡ T.writing.meta }
@@ -140,49 +150,95 @@ impl<'a, U: 'a, T: SchemaWrite<Src = U>> SchemaWrite for &'a Member<T> {
         T::write::<W>(writer, *src)
     }
 
-    ghost write_laws = { write_laws_by (λ r. r.now) T.proper T.seen T.writing T.write_laws };
+    ghost write_laws = { write_laws_by (λ r. r.now) T.write_laws };
+}
+
+/// The size of 2 members, each seen by a schema of its own: that of a tuple of them.
+pub fn size_of_members_2<A: SchemaWrite, B: SchemaWrite>(
+    a: &A::Src,
+    b: &B::Src,
+) -> WriteResult<usize>
+    ensures ok { let tuple = ⟦<(A, B) as SchemaWrite>⟧ in IfOk result
+        (IsSized tuple.writing (tuple.seen (a.now, b.now))) }
+    ensures err { let tuple = ⟦<(A, B) as SchemaWrite>⟧ in IfErr result
+        (IsSizeRefused tuple.writing (tuple.seen (a.now, b.now))) }
+{
+    add_size(A::size_of(a)?, B::size_of(b)?)
+}
+
+/// Writes 2 members through one window where all have one size.
+fn write_2<A: SchemaWrite, B: SchemaWrite, W: Writer>(
+    writer: &mut W,
+    src: &(A::Src, B::Src),
+) -> WriteResult<()>
+    ensures ok { let members = ⟦<Members2<A, B> as SchemaWrite>⟧ in OnOk result
+        (Wrote members.writing (W.state writer.old) (W.state writer.new) (members.seen src.now)) }
+    ensures value { OnOk result (⟦<Members2<A, B> as SchemaWrite>⟧.proper src.now) }
+    ensures err { let members = ⟦<Members2<A, B> as SchemaWrite>⟧ in IfErr result
+        (Unwritten members.writing (W.state writer.old) (W.state writer.new) (members.seen src.now)) }
+    ensures piece { let members = ⟦<Members2<A, B> as SchemaWrite>⟧ in IfErr result
+        (IsPieceRefused (is_static members.writing.meta) members.writing (W.state writer.old) (W.state writer.new) (members.seen src.now)) }
+{
+    write_in_window::<Members2<A, B>, W>(writer, src)
+}
+
+/// Writes 2 members, each by a schema of its own, as a tuple of them is written.
+pub fn write_members_2<A: SchemaWrite, B: SchemaWrite, W: Writer>(
+    writer: &mut W,
+    a: &A::Src,
+    b: &B::Src,
+) -> WriteResult<()>
+    ensures ok { let tuple = ⟦<(A, B) as SchemaWrite>⟧ in OnOk result
+        (Wrote tuple.writing (W.state writer.old) (W.state writer.new) (tuple.seen (a.now, b.now))) }
+    ensures value { OnOk result (⟦<(A, B) as SchemaWrite>⟧.proper (a.now, b.now)) }
+    ensures err { let tuple = ⟦<(A, B) as SchemaWrite>⟧ in IfErr result
+        (Unwritten tuple.writing (W.state writer.old) (W.state writer.new) (tuple.seen (a.now, b.now))) }
+    ensures piece { let tuple = ⟦<(A, B) as SchemaWrite>⟧ in IfErr result
+        (IsPieceRefused tuple.in_one_piece tuple.writing (W.state writer.old) (W.state writer.new) (tuple.seen (a.now, b.now))) }
+{
+    write_2::<&Member<A>, &Member<B>, W>(writer, &(a, b))
 }
 
 impl<A: SchemaWrite, B: SchemaWrite> SchemaWrite for (A, B) {
     type Src = (A::Src, B::Src);
 
-    ghost Value = { A.Value × B.Value };
+    ghost Value = { ⟦<Members2<A, B> as SchemaWrite>⟧.Value };
 
-    ghost seen = { λ t. (A.seen t.0, B.seen t.1) };
+    ghost seen = { λ t. ⟦<Members2<A, B> as SchemaWrite>⟧.seen (t.0, t.1) };
 
-    ghost proper = { λ t. A.proper t.0 × B.proper t.1 };
+    ghost proper = { λ t. ⟦<Members2<A, B> as SchemaWrite>⟧.proper (t.0, t.1) };
 
-    ghost writing = { pair_write A.writing B.writing };
+    ghost writing = { ⟦<Members2<A, B> as SchemaWrite>⟧.writing };
 
-    ghost whole = { is_static (pair_meta A.writing.meta B.writing.meta) };
+    ghost in_one_piece = { is_static ⟦<Members2<A, B> as SchemaWrite>⟧.writing.meta };
 
     fn type_meta() -> TypeMeta {
         <Members2<A, B> as SchemaWrite>::type_meta()
     }
 
     fn size_of(src: &Self::Src) -> WriteResult<usize> {
-        <Members2<A, B> as SchemaWrite>::size_of(src)
+        size_of_members_2::<A, B>(&src.0, &src.1)
     }
 
     fn write<W: Writer>(writer: &mut W, src: &Self::Src) -> WriteResult<()> {
-        write_whole::<Members2<A, B>, W>(writer, src)
+        write_members_2::<A, B, W>(writer, &src.0, &src.1)
     }
 
-    ghost write_laws = { write_laws_by (λ t. (t.0, t.1)) _ _ _ (pair_write_laws A.proper B.proper A.seen B.seen A.writing B.writing A.write_laws B.write_laws) };
+    ghost write_laws = { write_laws_by (λ t. (t.0, t.1)) (pair_write_laws A.write_laws B.write_laws) };
 }
 
 impl<L: Lending, A: SchemaRead<L>, B: SchemaRead<L>> SchemaRead<L> for (A, B) {
     type Dst = (A::Dst, B::Dst);
 
-    ghost Value = { A.Value × B.Value };
+    ghost Value = { ⟦<Members2<A, B> as SchemaRead<L>>⟧.Value };
 
-    ghost seen = { λ t. (A.seen t.0, B.seen t.1) };
+    ghost seen = { λ t. ⟦<Members2<A, B> as SchemaRead<L>>⟧.seen (t.0, t.1) };
 
-    ghost proper = { λ v. A.proper v.0 × B.proper v.1 };
+    ghost proper = { ⟦<Members2<A, B> as SchemaRead<L>>⟧.proper };
 
-    ghost reading = { pair_read A.reading B.reading };
+    ghost reading = { ⟦<Members2<A, B> as SchemaRead<L>>⟧.reading };
 
-    ghost refusal = { IsPlaced (pair_meta A.reading.meta B.reading.meta) };
+    ghost refusal = { IsStaticRefused ⟦<Members2<A, B> as SchemaRead<L>>⟧.reading.meta };
 
     fn type_meta() -> TypeMeta {
         <Members2<A, B> as SchemaRead<L>>::type_meta()
@@ -197,12 +253,12 @@ impl<L: Lending, A: SchemaRead<L>, B: SchemaRead<L>> SchemaRead<L> for (A, B) {
         reader: &mut R,
         dst: &mut Option<Self::Dst>,
     ) -> ReadResult<()> {
-        let (a, b) = get_whole::<L, Members2<A, B>, R>(alloc, reader)?;
+        let (a, b) = get_in_window::<L, Members2<A, B>, R>(alloc, reader)?;
         *dst = Some((a, b));
         Ok(())
     }
 
-    ghost read_laws = { pair_read_laws A.proper B.proper A.reading B.reading A.read_laws B.read_laws };
+    ghost read_laws = { pair_read_laws A.read_laws B.read_laws };
 }
 
 impl<L: Lending, A: RoundTrip<L>, B: RoundTrip<L>> RoundTrip<L> for (A, B)
@@ -210,75 +266,100 @@ where
     A::Src: Drop,
     B::Src: Drop,
 {
-    ghost reads_back = { reads_back_by (λ t. (t.0, t.1)) _ _ _ _ _ (pair_reads_back _ _ _ _ _ _ _ _ _ _ A.reads_back B.reads_back) };
+    ghost reads_back = { reads_back_by (λ t. (t.0, t.1)) (pair_reads_back A.reads_back B.reads_back) };
 }
 
-type Members3<A, B, C> = Members2<A, Members2<B, C>>;
+pub type Members3<A, B, C> = Members2<A, Members2<B, C>>;
 
-/// The size of 3 members, each seen by a schema of its own.
-fn size_of_3<A: SchemaWrite, B: SchemaWrite, C: SchemaWrite>(
-    src: &(A::Src, (B::Src, C::Src)),
+/// The size of 3 members, each seen by a schema of its own: that of a tuple of them.
+pub fn size_of_members_3<A: SchemaWrite, B: SchemaWrite, C: SchemaWrite>(
+    a: &A::Src,
+    b: &B::Src,
+    c: &C::Src,
 ) -> WriteResult<usize>
-    ensures ok { IfOk result (λ n. (pair_write A.writing (pair_write B.writing C.writing)).can (A.seen src.now.0, (B.seen src.now.1.0, C.seen src.now.1.1)) × (n ≡ (pair_write A.writing (pair_write B.writing C.writing)).size (A.seen src.now.0, (B.seen src.now.1.0, C.seen src.now.1.1)))) }
-    ensures err { IfErr result (IsSizeRefused (pair_write A.writing (pair_write B.writing C.writing)) (A.seen src.now.0, (B.seen src.now.1.0, C.seen src.now.1.1))) }
+    ensures ok { let tuple = ⟦<(A, B, C) as SchemaWrite>⟧ in IfOk result
+        (IsSized tuple.writing (tuple.seen (a.now, b.now, c.now))) }
+    ensures err { let tuple = ⟦<(A, B, C) as SchemaWrite>⟧ in IfErr result
+        (IsSizeRefused tuple.writing (tuple.seen (a.now, b.now, c.now))) }
 {
-    <Members3<A, B, C> as SchemaWrite>::size_of(src)
+    add_size(A::size_of(a)?, size_of_members_2::<B, C>(b, c)?)
 }
 
-/// Writes 3 members, each by a schema of its own, through one window where all have one size.
+/// Writes 3 members through one window where all have one size.
 fn write_3<A: SchemaWrite, B: SchemaWrite, C: SchemaWrite, W: Writer>(
     writer: &mut W,
     src: &(A::Src, (B::Src, C::Src)),
 ) -> WriteResult<()>
-    ensures ok { OnOk result (Wrote W.put W.room (pair_write A.writing (pair_write B.writing C.writing)) (W.state writer.old) (W.state writer.new) (A.seen src.now.0, (B.seen src.now.1.0, C.seen src.now.1.1))) }
-    ensures value { OnOk result (A.proper src.now.0 × (B.proper src.now.1.0 × C.proper src.now.1.1)) }
-    ensures err { IfErr result (Unwritten W.put W.room (pair_write A.writing (pair_write B.writing C.writing)) (W.state writer.old) (W.state writer.new) (A.seen src.now.0, (B.seen src.now.1.0, C.seen src.now.1.1)) (W.steady (W.kept writer.old)) (W.failures writer.new)) }
-    ensures whole { IfErr result (IsWholeRefused (is_static (pair_meta A.writing.meta (pair_meta B.writing.meta C.writing.meta))) W.room (pair_write A.writing (pair_write B.writing C.writing)) (W.state writer.old) (W.state writer.new) (A.seen src.now.0, (B.seen src.now.1.0, C.seen src.now.1.1)) (W.steady (W.kept writer.old)) (W.failures writer.new)) }
-    ensures kept { W.kept writer.new ≡ W.kept writer.old }
+    ensures ok { let members = ⟦<Members3<A, B, C> as SchemaWrite>⟧ in OnOk result
+        (Wrote members.writing (W.state writer.old) (W.state writer.new) (members.seen src.now)) }
+    ensures value { OnOk result (⟦<Members3<A, B, C> as SchemaWrite>⟧.proper src.now) }
+    ensures err { let members = ⟦<Members3<A, B, C> as SchemaWrite>⟧ in IfErr result
+        (Unwritten members.writing (W.state writer.old) (W.state writer.new) (members.seen src.now)) }
+    ensures piece { let members = ⟦<Members3<A, B, C> as SchemaWrite>⟧ in IfErr result
+        (IsPieceRefused (is_static members.writing.meta) members.writing (W.state writer.old) (W.state writer.new) (members.seen src.now)) }
 {
-    write_whole::<Members3<A, B, C>, W>(writer, src)
+    write_in_window::<Members3<A, B, C>, W>(writer, src)
+}
+
+/// Writes 3 members, each by a schema of its own, as a tuple of them is written.
+pub fn write_members_3<A: SchemaWrite, B: SchemaWrite, C: SchemaWrite, W: Writer>(
+    writer: &mut W,
+    a: &A::Src,
+    b: &B::Src,
+    c: &C::Src,
+) -> WriteResult<()>
+    ensures ok { let tuple = ⟦<(A, B, C) as SchemaWrite>⟧ in OnOk result
+        (Wrote tuple.writing (W.state writer.old) (W.state writer.new) (tuple.seen (a.now, b.now, c.now))) }
+    ensures value { OnOk result (⟦<(A, B, C) as SchemaWrite>⟧.proper (a.now, b.now, c.now)) }
+    ensures err { let tuple = ⟦<(A, B, C) as SchemaWrite>⟧ in IfErr result
+        (Unwritten tuple.writing (W.state writer.old) (W.state writer.new) (tuple.seen (a.now, b.now, c.now))) }
+    ensures piece { let tuple = ⟦<(A, B, C) as SchemaWrite>⟧ in IfErr result
+        (IsPieceRefused tuple.in_one_piece tuple.writing (W.state writer.old) (W.state writer.new) (tuple.seen (a.now, b.now, c.now))) }
+{
+    write_3::<&Member<A>, &Member<B>, &Member<C>, W>(writer, &(a, (b, c)))
 }
 
 impl<A: SchemaWrite, B: SchemaWrite, C: SchemaWrite> SchemaWrite for (A, B, C) {
     type Src = (A::Src, B::Src, C::Src);
 
-    ghost Value = { A.Value × (B.Value × C.Value) };
+    ghost Value = { ⟦<Members3<A, B, C> as SchemaWrite>⟧.Value };
 
-    ghost seen = { λ t. (A.seen t.0, (B.seen t.1, C.seen t.2)) };
+    ghost seen = { λ t. ⟦<Members3<A, B, C> as SchemaWrite>⟧.seen (t.0, (t.1, t.2)) };
 
-    ghost proper = { λ t. A.proper t.0 × (B.proper t.1 × C.proper t.2) };
+    ghost proper = { λ t. ⟦<Members3<A, B, C> as SchemaWrite>⟧.proper (t.0, (t.1, t.2)) };
 
-    ghost writing = { pair_write A.writing (pair_write B.writing C.writing) };
+    ghost writing = { ⟦<Members3<A, B, C> as SchemaWrite>⟧.writing };
 
-    ghost whole = { is_static (pair_meta A.writing.meta (pair_meta B.writing.meta C.writing.meta)) };
+    ghost in_one_piece = { is_static ⟦<Members3<A, B, C> as SchemaWrite>⟧.writing.meta };
 
     fn type_meta() -> TypeMeta {
         <Members3<A, B, C> as SchemaWrite>::type_meta()
     }
 
     fn size_of(src: &Self::Src) -> WriteResult<usize> {
-        size_of_3::<&Member<A>, &Member<B>, &Member<C>>(&(&src.0, (&src.1, &src.2)))
+        size_of_members_3::<A, B, C>(&src.0, &src.1, &src.2)
     }
 
     fn write<W: Writer>(writer: &mut W, src: &Self::Src) -> WriteResult<()> {
-        write_3::<&Member<A>, &Member<B>, &Member<C>, W>(writer, &(&src.0, (&src.1, &src.2)))
+        write_members_3::<A, B, C, W>(writer, &src.0, &src.1, &src.2)
     }
 
-    ghost write_laws = { write_laws_by (λ t. (t.0, (t.1, t.2))) _ _ _ (pair_write_laws A.proper _ A.seen _ A.writing _ A.write_laws (pair_write_laws B.proper C.proper B.seen C.seen B.writing C.writing B.write_laws C.write_laws)) };
+    ghost write_laws = { write_laws_by (λ t. (t.0, (t.1, t.2))) (pair_write_laws A.write_laws (pair_write_laws
+        B.write_laws C.write_laws)) };
 }
 
 impl<L: Lending, A: SchemaRead<L>, B: SchemaRead<L>, C: SchemaRead<L>> SchemaRead<L> for (A, B, C) {
     type Dst = (A::Dst, B::Dst, C::Dst);
 
-    ghost Value = { A.Value × (B.Value × C.Value) };
+    ghost Value = { ⟦<Members3<A, B, C> as SchemaRead<L>>⟧.Value };
 
-    ghost seen = { λ t. (A.seen t.0, (B.seen t.1, C.seen t.2)) };
+    ghost seen = { λ t. ⟦<Members3<A, B, C> as SchemaRead<L>>⟧.seen (t.0, (t.1, t.2)) };
 
-    ghost proper = { λ v. A.proper v.0 × (B.proper v.1.0 × C.proper v.1.1) };
+    ghost proper = { ⟦<Members3<A, B, C> as SchemaRead<L>>⟧.proper };
 
-    ghost reading = { pair_read A.reading (pair_read B.reading C.reading) };
+    ghost reading = { ⟦<Members3<A, B, C> as SchemaRead<L>>⟧.reading };
 
-    ghost refusal = { IsPlaced (pair_meta A.reading.meta (pair_meta B.reading.meta C.reading.meta)) };
+    ghost refusal = { IsStaticRefused ⟦<Members3<A, B, C> as SchemaRead<L>>⟧.reading.meta };
 
     fn type_meta() -> TypeMeta {
         <Members3<A, B, C> as SchemaRead<L>>::type_meta()
@@ -293,12 +374,12 @@ impl<L: Lending, A: SchemaRead<L>, B: SchemaRead<L>, C: SchemaRead<L>> SchemaRea
         reader: &mut R,
         dst: &mut Option<Self::Dst>,
     ) -> ReadResult<()> {
-        let (a, (b, c)) = get_whole::<L, Members3<A, B, C>, R>(alloc, reader)?;
+        let (a, (b, c)) = get_in_window::<L, Members3<A, B, C>, R>(alloc, reader)?;
         *dst = Some((a, b, c));
         Ok(())
     }
 
-    ghost read_laws = { pair_read_laws A.proper _ A.reading _ A.read_laws (pair_read_laws B.proper C.proper B.reading C.reading B.read_laws C.read_laws) };
+    ghost read_laws = { pair_read_laws A.read_laws (pair_read_laws B.read_laws C.read_laws) };
 }
 
 impl<L: Lending, A: RoundTrip<L>, B: RoundTrip<L>, C: RoundTrip<L>> RoundTrip<L> for (A, B, C)
@@ -307,67 +388,89 @@ where
     B::Src: Drop,
     C::Src: Drop,
 {
-    ghost reads_back = { reads_back_by (λ t. (t.0, (t.1, t.2))) _ _ _ _ _ (pair_reads_back _ _ _ _ _ _ _ _ _ _ A.reads_back (pair_reads_back _ _ _ _ _ _ _ _ _ _ B.reads_back C.reads_back)) };
+    ghost reads_back = { reads_back_by (λ t. (t.0, (t.1, t.2))) (pair_reads_back A.reads_back (pair_reads_back
+        B.reads_back C.reads_back)) };
 }
 
-type Members4<A, B, C, D> = Members2<A, Members3<B, C, D>>;
+pub type Members4<A, B, C, D> = Members2<A, Members3<B, C, D>>;
 
-/// The size of 4 members, each seen by a schema of its own.
-fn size_of_4<A: SchemaWrite, B: SchemaWrite, C: SchemaWrite, D: SchemaWrite>(
-    src: &(A::Src, (B::Src, (C::Src, D::Src))),
+/// The size of 4 members, each seen by a schema of its own: that of a tuple of them.
+pub fn size_of_members_4<A: SchemaWrite, B: SchemaWrite, C: SchemaWrite, D: SchemaWrite>(
+    a: &A::Src,
+    b: &B::Src,
+    c: &C::Src,
+    d: &D::Src,
 ) -> WriteResult<usize>
-    ensures ok { IfOk result (λ n. (pair_write A.writing (pair_write B.writing (pair_write C.writing D.writing))).can (A.seen src.now.0, (B.seen src.now.1.0, (C.seen src.now.1.1.0, D.seen src.now.1.1.1))) × (n ≡ (pair_write A.writing (pair_write B.writing (pair_write C.writing D.writing))).size (A.seen src.now.0, (B.seen src.now.1.0, (C.seen src.now.1.1.0, D.seen src.now.1.1.1))))) }
-    ensures err { IfErr result (IsSizeRefused (pair_write A.writing (pair_write B.writing (pair_write C.writing D.writing))) (A.seen src.now.0, (B.seen src.now.1.0, (C.seen src.now.1.1.0, D.seen src.now.1.1.1)))) }
+    ensures ok { let tuple = ⟦<(A, B, C, D) as SchemaWrite>⟧ in IfOk result
+        (IsSized tuple.writing (tuple.seen (a.now, b.now, c.now, d.now))) }
+    ensures err { let tuple = ⟦<(A, B, C, D) as SchemaWrite>⟧ in IfErr result
+        (IsSizeRefused tuple.writing (tuple.seen (a.now, b.now, c.now, d.now))) }
 {
-    <Members4<A, B, C, D> as SchemaWrite>::size_of(src)
+    add_size(A::size_of(a)?, size_of_members_3::<B, C, D>(b, c, d)?)
 }
 
-/// Writes 4 members, each by a schema of its own, through one window where all have one size.
+/// Writes 4 members through one window where all have one size.
 fn write_4<A: SchemaWrite, B: SchemaWrite, C: SchemaWrite, D: SchemaWrite, W: Writer>(
     writer: &mut W,
     src: &(A::Src, (B::Src, (C::Src, D::Src))),
 ) -> WriteResult<()>
-    ensures ok { OnOk result (Wrote W.put W.room (pair_write A.writing (pair_write B.writing (pair_write C.writing D.writing))) (W.state writer.old) (W.state writer.new) (A.seen src.now.0, (B.seen src.now.1.0, (C.seen src.now.1.1.0, D.seen src.now.1.1.1)))) }
-    ensures value { OnOk result (A.proper src.now.0 × (B.proper src.now.1.0 × (C.proper src.now.1.1.0 × D.proper src.now.1.1.1))) }
-    ensures err { IfErr result (Unwritten W.put W.room (pair_write A.writing (pair_write B.writing (pair_write C.writing D.writing))) (W.state writer.old) (W.state writer.new) (A.seen src.now.0, (B.seen src.now.1.0, (C.seen src.now.1.1.0, D.seen src.now.1.1.1))) (W.steady (W.kept writer.old)) (W.failures writer.new)) }
-    ensures whole { IfErr result (IsWholeRefused (is_static (pair_meta A.writing.meta (pair_meta B.writing.meta (pair_meta C.writing.meta D.writing.meta)))) W.room (pair_write A.writing (pair_write B.writing (pair_write C.writing D.writing))) (W.state writer.old) (W.state writer.new) (A.seen src.now.0, (B.seen src.now.1.0, (C.seen src.now.1.1.0, D.seen src.now.1.1.1))) (W.steady (W.kept writer.old)) (W.failures writer.new)) }
-    ensures kept { W.kept writer.new ≡ W.kept writer.old }
+    ensures ok { let members = ⟦<Members4<A, B, C, D> as SchemaWrite>⟧ in OnOk result
+        (Wrote members.writing (W.state writer.old) (W.state writer.new) (members.seen src.now)) }
+    ensures value { OnOk result (⟦<Members4<A, B, C, D> as SchemaWrite>⟧.proper src.now) }
+    ensures err { let members = ⟦<Members4<A, B, C, D> as SchemaWrite>⟧ in IfErr result
+        (Unwritten members.writing (W.state writer.old) (W.state writer.new) (members.seen src.now)) }
+    ensures piece { let members = ⟦<Members4<A, B, C, D> as SchemaWrite>⟧ in IfErr result
+        (IsPieceRefused (is_static members.writing.meta) members.writing (W.state writer.old) (W.state writer.new) (members.seen src.now)) }
 {
-    write_whole::<Members4<A, B, C, D>, W>(writer, src)
+    write_in_window::<Members4<A, B, C, D>, W>(writer, src)
+}
+
+/// Writes 4 members, each by a schema of its own, as a tuple of them is written.
+pub fn write_members_4<A: SchemaWrite, B: SchemaWrite, C: SchemaWrite, D: SchemaWrite, W: Writer>(
+    writer: &mut W,
+    a: &A::Src,
+    b: &B::Src,
+    c: &C::Src,
+    d: &D::Src,
+) -> WriteResult<()>
+    ensures ok { let tuple = ⟦<(A, B, C, D) as SchemaWrite>⟧ in OnOk result
+        (Wrote tuple.writing (W.state writer.old) (W.state writer.new) (tuple.seen (a.now, b.now, c.now, d.now))) }
+    ensures value { OnOk result (⟦<(A, B, C, D) as SchemaWrite>⟧.proper (a.now, b.now, c.now, d.now)) }
+    ensures err { let tuple = ⟦<(A, B, C, D) as SchemaWrite>⟧ in IfErr result
+        (Unwritten tuple.writing (W.state writer.old) (W.state writer.new) (tuple.seen (a.now, b.now, c.now, d.now))) }
+    ensures piece { let tuple = ⟦<(A, B, C, D) as SchemaWrite>⟧ in IfErr result
+        (IsPieceRefused tuple.in_one_piece tuple.writing (W.state writer.old) (W.state writer.new) (tuple.seen (a.now, b.now, c.now, d.now))) }
+{
+    write_4::<&Member<A>, &Member<B>, &Member<C>, &Member<D>, W>(writer, &(a, (b, (c, d))))
 }
 
 impl<A: SchemaWrite, B: SchemaWrite, C: SchemaWrite, D: SchemaWrite> SchemaWrite for (A, B, C, D) {
     type Src = (A::Src, B::Src, C::Src, D::Src);
 
-    ghost Value = { A.Value × (B.Value × (C.Value × D.Value)) };
+    ghost Value = { ⟦<Members4<A, B, C, D> as SchemaWrite>⟧.Value };
 
-    ghost seen = { λ t. (A.seen t.0, (B.seen t.1, (C.seen t.2, D.seen t.3))) };
+    ghost seen = { λ t. ⟦<Members4<A, B, C, D> as SchemaWrite>⟧.seen (t.0, (t.1, (t.2, t.3))) };
 
-    ghost proper = { λ t. A.proper t.0 × (B.proper t.1 × (C.proper t.2 × D.proper t.3)) };
+    ghost proper = { λ t. ⟦<Members4<A, B, C, D> as SchemaWrite>⟧.proper (t.0, (t.1, (t.2, t.3))) };
 
-    ghost writing = { pair_write A.writing (pair_write B.writing (pair_write C.writing D.writing)) };
+    ghost writing = { ⟦<Members4<A, B, C, D> as SchemaWrite>⟧.writing };
 
-    ghost whole = { is_static (pair_meta A.writing.meta (pair_meta B.writing.meta (pair_meta C.writing.meta D.writing.meta))) };
+    ghost in_one_piece = { is_static ⟦<Members4<A, B, C, D> as SchemaWrite>⟧.writing.meta };
 
     fn type_meta() -> TypeMeta {
         <Members4<A, B, C, D> as SchemaWrite>::type_meta()
     }
 
     fn size_of(src: &Self::Src) -> WriteResult<usize> {
-        size_of_4::<&Member<A>, &Member<B>, &Member<C>, &Member<D>>(&(
-            &src.0,
-            (&src.1, (&src.2, &src.3)),
-        ))
+        size_of_members_4::<A, B, C, D>(&src.0, &src.1, &src.2, &src.3)
     }
 
     fn write<W: Writer>(writer: &mut W, src: &Self::Src) -> WriteResult<()> {
-        write_4::<&Member<A>, &Member<B>, &Member<C>, &Member<D>, W>(
-            writer,
-            &(&src.0, (&src.1, (&src.2, &src.3))),
-        )
+        write_members_4::<A, B, C, D, W>(writer, &src.0, &src.1, &src.2, &src.3)
     }
 
-    ghost write_laws = { write_laws_by (λ t. (t.0, (t.1, (t.2, t.3)))) _ _ _ (pair_write_laws A.proper _ A.seen _ A.writing _ A.write_laws (pair_write_laws B.proper _ B.seen _ B.writing _ B.write_laws (pair_write_laws C.proper D.proper C.seen D.seen C.writing D.writing C.write_laws D.write_laws))) };
+    ghost write_laws = { write_laws_by (λ t. (t.0, (t.1, (t.2, t.3)))) (pair_write_laws A.write_laws (pair_write_laws
+        B.write_laws (pair_write_laws C.write_laws D.write_laws))) };
 }
 
 impl<L: Lending, A: SchemaRead<L>, B: SchemaRead<L>, C: SchemaRead<L>, D: SchemaRead<L>> SchemaRead<
@@ -375,15 +478,15 @@ impl<L: Lending, A: SchemaRead<L>, B: SchemaRead<L>, C: SchemaRead<L>, D: Schema
 > for (A, B, C, D) {
     type Dst = (A::Dst, B::Dst, C::Dst, D::Dst);
 
-    ghost Value = { A.Value × (B.Value × (C.Value × D.Value)) };
+    ghost Value = { ⟦<Members4<A, B, C, D> as SchemaRead<L>>⟧.Value };
 
-    ghost seen = { λ t. (A.seen t.0, (B.seen t.1, (C.seen t.2, D.seen t.3))) };
+    ghost seen = { λ t. ⟦<Members4<A, B, C, D> as SchemaRead<L>>⟧.seen (t.0, (t.1, (t.2, t.3))) };
 
-    ghost proper = { λ v. A.proper v.0 × (B.proper v.1.0 × (C.proper v.1.1.0 × D.proper v.1.1.1)) };
+    ghost proper = { ⟦<Members4<A, B, C, D> as SchemaRead<L>>⟧.proper };
 
-    ghost reading = { pair_read A.reading (pair_read B.reading (pair_read C.reading D.reading)) };
+    ghost reading = { ⟦<Members4<A, B, C, D> as SchemaRead<L>>⟧.reading };
 
-    ghost refusal = { IsPlaced (pair_meta A.reading.meta (pair_meta B.reading.meta (pair_meta C.reading.meta D.reading.meta))) };
+    ghost refusal = { IsStaticRefused ⟦<Members4<A, B, C, D> as SchemaRead<L>>⟧.reading.meta };
 
     fn type_meta() -> TypeMeta {
         <Members4<A, B, C, D> as SchemaRead<L>>::type_meta()
@@ -398,12 +501,13 @@ impl<L: Lending, A: SchemaRead<L>, B: SchemaRead<L>, C: SchemaRead<L>, D: Schema
         reader: &mut R,
         dst: &mut Option<Self::Dst>,
     ) -> ReadResult<()> {
-        let (a, (b, (c, d))) = get_whole::<L, Members4<A, B, C, D>, R>(alloc, reader)?;
+        let (a, (b, (c, d))) = get_in_window::<L, Members4<A, B, C, D>, R>(alloc, reader)?;
         *dst = Some((a, b, c, d));
         Ok(())
     }
 
-    ghost read_laws = { pair_read_laws A.proper _ A.reading _ A.read_laws (pair_read_laws B.proper _ B.reading _ B.read_laws (pair_read_laws C.proper D.proper C.reading D.reading C.read_laws D.read_laws)) };
+    ghost read_laws = { pair_read_laws A.read_laws (pair_read_laws B.read_laws (pair_read_laws C.read_laws
+        D.read_laws)) };
 }
 
 impl<L: Lending, A: RoundTrip<L>, B: RoundTrip<L>, C: RoundTrip<L>, D: RoundTrip<L>> RoundTrip<L>
@@ -414,22 +518,29 @@ where
     C::Src: Drop,
     D::Src: Drop,
 {
-    ghost reads_back = { reads_back_by (λ t. (t.0, (t.1, (t.2, t.3)))) _ _ _ _ _ (pair_reads_back _ _ _ _ _ _ _ _ _ _ A.reads_back (pair_reads_back _ _ _ _ _ _ _ _ _ _ B.reads_back (pair_reads_back _ _ _ _ _ _ _ _ _ _ C.reads_back D.reads_back))) };
+    ghost reads_back = { reads_back_by (λ t. (t.0, (t.1, (t.2, t.3)))) (pair_reads_back A.reads_back (pair_reads_back
+        B.reads_back (pair_reads_back C.reads_back D.reads_back))) };
 }
 
-type Members5<A, B, C, D, E> = Members2<A, Members4<B, C, D, E>>;
+pub type Members5<A, B, C, D, E> = Members2<A, Members4<B, C, D, E>>;
 
-/// The size of 5 members, each seen by a schema of its own.
-fn size_of_5<A: SchemaWrite, B: SchemaWrite, C: SchemaWrite, D: SchemaWrite, E: SchemaWrite>(
-    src: &(A::Src, (B::Src, (C::Src, (D::Src, E::Src)))),
-) -> WriteResult<usize>
-    ensures ok { IfOk result (λ n. (pair_write A.writing (pair_write B.writing (pair_write C.writing (pair_write D.writing E.writing)))).can (A.seen src.now.0, (B.seen src.now.1.0, (C.seen src.now.1.1.0, (D.seen src.now.1.1.1.0, E.seen src.now.1.1.1.1)))) × (n ≡ (pair_write A.writing (pair_write B.writing (pair_write C.writing (pair_write D.writing E.writing)))).size (A.seen src.now.0, (B.seen src.now.1.0, (C.seen src.now.1.1.0, (D.seen src.now.1.1.1.0, E.seen src.now.1.1.1.1)))))) }
-    ensures err { IfErr result (IsSizeRefused (pair_write A.writing (pair_write B.writing (pair_write C.writing (pair_write D.writing E.writing)))) (A.seen src.now.0, (B.seen src.now.1.0, (C.seen src.now.1.1.0, (D.seen src.now.1.1.1.0, E.seen src.now.1.1.1.1))))) }
+/// The size of 5 members, each seen by a schema of its own: that of a tuple of them.
+pub fn size_of_members_5<
+    A: SchemaWrite,
+    B: SchemaWrite,
+    C: SchemaWrite,
+    D: SchemaWrite,
+    E: SchemaWrite,
+>(a: &A::Src, b: &B::Src, c: &C::Src, d: &D::Src, e: &E::Src) -> WriteResult<usize>
+    ensures ok { let tuple = ⟦<(A, B, C, D, E) as SchemaWrite>⟧ in IfOk result
+        (IsSized tuple.writing (tuple.seen (a.now, b.now, c.now, d.now, e.now))) }
+    ensures err { let tuple = ⟦<(A, B, C, D, E) as SchemaWrite>⟧ in IfErr result
+        (IsSizeRefused tuple.writing (tuple.seen (a.now, b.now, c.now, d.now, e.now))) }
 {
-    <Members5<A, B, C, D, E> as SchemaWrite>::size_of(src)
+    add_size(A::size_of(a)?, size_of_members_4::<B, C, D, E>(b, c, d, e)?)
 }
 
-/// Writes 5 members, each by a schema of its own, through one window where all have one size.
+/// Writes 5 members through one window where all have one size.
 fn write_5<
     A: SchemaWrite,
     B: SchemaWrite,
@@ -438,48 +549,68 @@ fn write_5<
     E: SchemaWrite,
     W: Writer,
 >(writer: &mut W, src: &(A::Src, (B::Src, (C::Src, (D::Src, E::Src))))) -> WriteResult<()>
-    ensures ok { OnOk result (Wrote W.put W.room (pair_write A.writing (pair_write B.writing (pair_write C.writing (pair_write D.writing E.writing)))) (W.state writer.old) (W.state writer.new) (A.seen src.now.0, (B.seen src.now.1.0, (C.seen src.now.1.1.0, (D.seen src.now.1.1.1.0, E.seen src.now.1.1.1.1))))) }
-    ensures value { OnOk result (A.proper src.now.0 × (B.proper src.now.1.0 × (C.proper src.now.1.1.0 × (D.proper src.now.1.1.1.0 × E.proper src.now.1.1.1.1)))) }
-    ensures err { IfErr result (Unwritten W.put W.room (pair_write A.writing (pair_write B.writing (pair_write C.writing (pair_write D.writing E.writing)))) (W.state writer.old) (W.state writer.new) (A.seen src.now.0, (B.seen src.now.1.0, (C.seen src.now.1.1.0, (D.seen src.now.1.1.1.0, E.seen src.now.1.1.1.1)))) (W.steady (W.kept writer.old)) (W.failures writer.new)) }
-    ensures whole { IfErr result (IsWholeRefused (is_static (pair_meta A.writing.meta (pair_meta B.writing.meta (pair_meta C.writing.meta (pair_meta D.writing.meta E.writing.meta))))) W.room (pair_write A.writing (pair_write B.writing (pair_write C.writing (pair_write D.writing E.writing)))) (W.state writer.old) (W.state writer.new) (A.seen src.now.0, (B.seen src.now.1.0, (C.seen src.now.1.1.0, (D.seen src.now.1.1.1.0, E.seen src.now.1.1.1.1)))) (W.steady (W.kept writer.old)) (W.failures writer.new)) }
-    ensures kept { W.kept writer.new ≡ W.kept writer.old }
+    ensures ok { let members = ⟦<Members5<A, B, C, D, E> as SchemaWrite>⟧ in OnOk result
+        (Wrote members.writing (W.state writer.old) (W.state writer.new) (members.seen src.now)) }
+    ensures value { OnOk result (⟦<Members5<A, B, C, D, E> as SchemaWrite>⟧.proper src.now) }
+    ensures err { let members = ⟦<Members5<A, B, C, D, E> as SchemaWrite>⟧ in IfErr result
+        (Unwritten members.writing (W.state writer.old) (W.state writer.new) (members.seen src.now)) }
+    ensures piece { let members = ⟦<Members5<A, B, C, D, E> as SchemaWrite>⟧ in IfErr result
+        (IsPieceRefused (is_static members.writing.meta) members.writing (W.state writer.old) (W.state writer.new) (members.seen src.now)) }
 {
-    write_whole::<Members5<A, B, C, D, E>, W>(writer, src)
+    write_in_window::<Members5<A, B, C, D, E>, W>(writer, src)
+}
+
+/// Writes 5 members, each by a schema of its own, as a tuple of them is written.
+pub fn write_members_5<
+    A: SchemaWrite,
+    B: SchemaWrite,
+    C: SchemaWrite,
+    D: SchemaWrite,
+    E: SchemaWrite,
+    W: Writer,
+>(writer: &mut W, a: &A::Src, b: &B::Src, c: &C::Src, d: &D::Src, e: &E::Src) -> WriteResult<()>
+    ensures ok { let tuple = ⟦<(A, B, C, D, E) as SchemaWrite>⟧ in OnOk result
+        (Wrote tuple.writing (W.state writer.old) (W.state writer.new) (tuple.seen (a.now, b.now, c.now, d.now, e.now))) }
+    ensures value { OnOk result (⟦<(A, B, C, D, E) as SchemaWrite>⟧.proper (a.now, b.now, c.now, d.now, e.now)) }
+    ensures err { let tuple = ⟦<(A, B, C, D, E) as SchemaWrite>⟧ in IfErr result
+        (Unwritten tuple.writing (W.state writer.old) (W.state writer.new) (tuple.seen (a.now, b.now, c.now, d.now, e.now))) }
+    ensures piece { let tuple = ⟦<(A, B, C, D, E) as SchemaWrite>⟧ in IfErr result
+        (IsPieceRefused tuple.in_one_piece tuple.writing (W.state writer.old) (W.state writer.new) (tuple.seen (a.now, b.now, c.now, d.now, e.now))) }
+{
+    write_5::<&Member<A>, &Member<B>, &Member<C>, &Member<D>, &Member<E>, W>(
+        writer,
+        &(a, (b, (c, (d, e)))),
+    )
 }
 
 impl<A: SchemaWrite, B: SchemaWrite, C: SchemaWrite, D: SchemaWrite, E: SchemaWrite> SchemaWrite
     for (A, B, C, D, E) {
     type Src = (A::Src, B::Src, C::Src, D::Src, E::Src);
 
-    ghost Value = { A.Value × (B.Value × (C.Value × (D.Value × E.Value))) };
+    ghost Value = { ⟦<Members5<A, B, C, D, E> as SchemaWrite>⟧.Value };
 
-    ghost seen = { λ t. (A.seen t.0, (B.seen t.1, (C.seen t.2, (D.seen t.3, E.seen t.4)))) };
+    ghost seen = { λ t. ⟦<Members5<A, B, C, D, E> as SchemaWrite>⟧.seen (t.0, (t.1, (t.2, (t.3, t.4)))) };
 
-    ghost proper = { λ t. A.proper t.0 × (B.proper t.1 × (C.proper t.2 × (D.proper t.3 × E.proper t.4))) };
+    ghost proper = { λ t. ⟦<Members5<A, B, C, D, E> as SchemaWrite>⟧.proper (t.0, (t.1, (t.2, (t.3, t.4)))) };
 
-    ghost writing = { pair_write A.writing (pair_write B.writing (pair_write C.writing (pair_write D.writing E.writing))) };
+    ghost writing = { ⟦<Members5<A, B, C, D, E> as SchemaWrite>⟧.writing };
 
-    ghost whole = { is_static (pair_meta A.writing.meta (pair_meta B.writing.meta (pair_meta C.writing.meta (pair_meta D.writing.meta E.writing.meta)))) };
+    ghost in_one_piece = { is_static ⟦<Members5<A, B, C, D, E> as SchemaWrite>⟧.writing.meta };
 
     fn type_meta() -> TypeMeta {
         <Members5<A, B, C, D, E> as SchemaWrite>::type_meta()
     }
 
     fn size_of(src: &Self::Src) -> WriteResult<usize> {
-        size_of_5::<&Member<A>, &Member<B>, &Member<C>, &Member<D>, &Member<E>>(&(
-            &src.0,
-            (&src.1, (&src.2, (&src.3, &src.4))),
-        ))
+        size_of_members_5::<A, B, C, D, E>(&src.0, &src.1, &src.2, &src.3, &src.4)
     }
 
     fn write<W: Writer>(writer: &mut W, src: &Self::Src) -> WriteResult<()> {
-        write_5::<&Member<A>, &Member<B>, &Member<C>, &Member<D>, &Member<E>, W>(
-            writer,
-            &(&src.0, (&src.1, (&src.2, (&src.3, &src.4)))),
-        )
+        write_members_5::<A, B, C, D, E, W>(writer, &src.0, &src.1, &src.2, &src.3, &src.4)
     }
 
-    ghost write_laws = { write_laws_by (λ t. (t.0, (t.1, (t.2, (t.3, t.4))))) _ _ _ (pair_write_laws A.proper _ A.seen _ A.writing _ A.write_laws (pair_write_laws B.proper _ B.seen _ B.writing _ B.write_laws (pair_write_laws C.proper _ C.seen _ C.writing _ C.write_laws (pair_write_laws D.proper E.proper D.seen E.seen D.writing E.writing D.write_laws E.write_laws)))) };
+    ghost write_laws = { write_laws_by (λ t. (t.0, (t.1, (t.2, (t.3, t.4))))) (pair_write_laws A.write_laws
+        (pair_write_laws B.write_laws (pair_write_laws C.write_laws (pair_write_laws D.write_laws E.write_laws)))) };
 }
 
 impl<
@@ -492,15 +623,15 @@ impl<
 > SchemaRead<L> for (A, B, C, D, E) {
     type Dst = (A::Dst, B::Dst, C::Dst, D::Dst, E::Dst);
 
-    ghost Value = { A.Value × (B.Value × (C.Value × (D.Value × E.Value))) };
+    ghost Value = { ⟦<Members5<A, B, C, D, E> as SchemaRead<L>>⟧.Value };
 
-    ghost seen = { λ t. (A.seen t.0, (B.seen t.1, (C.seen t.2, (D.seen t.3, E.seen t.4)))) };
+    ghost seen = { λ t. ⟦<Members5<A, B, C, D, E> as SchemaRead<L>>⟧.seen (t.0, (t.1, (t.2, (t.3, t.4)))) };
 
-    ghost proper = { λ v. A.proper v.0 × (B.proper v.1.0 × (C.proper v.1.1.0 × (D.proper v.1.1.1.0 × E.proper v.1.1.1.1))) };
+    ghost proper = { ⟦<Members5<A, B, C, D, E> as SchemaRead<L>>⟧.proper };
 
-    ghost reading = { pair_read A.reading (pair_read B.reading (pair_read C.reading (pair_read D.reading E.reading))) };
+    ghost reading = { ⟦<Members5<A, B, C, D, E> as SchemaRead<L>>⟧.reading };
 
-    ghost refusal = { IsPlaced (pair_meta A.reading.meta (pair_meta B.reading.meta (pair_meta C.reading.meta (pair_meta D.reading.meta E.reading.meta)))) };
+    ghost refusal = { IsStaticRefused ⟦<Members5<A, B, C, D, E> as SchemaRead<L>>⟧.reading.meta };
 
     fn type_meta() -> TypeMeta {
         <Members5<A, B, C, D, E> as SchemaRead<L>>::type_meta()
@@ -515,12 +646,13 @@ impl<
         reader: &mut R,
         dst: &mut Option<Self::Dst>,
     ) -> ReadResult<()> {
-        let (a, (b, (c, (d, e)))) = get_whole::<L, Members5<A, B, C, D, E>, R>(alloc, reader)?;
+        let (a, (b, (c, (d, e)))) = get_in_window::<L, Members5<A, B, C, D, E>, R>(alloc, reader)?;
         *dst = Some((a, b, c, d, e));
         Ok(())
     }
 
-    ghost read_laws = { pair_read_laws A.proper _ A.reading _ A.read_laws (pair_read_laws B.proper _ B.reading _ B.read_laws (pair_read_laws C.proper _ C.reading _ C.read_laws (pair_read_laws D.proper E.proper D.reading E.reading D.read_laws E.read_laws))) };
+    ghost read_laws = { pair_read_laws A.read_laws (pair_read_laws B.read_laws (pair_read_laws C.read_laws
+        (pair_read_laws D.read_laws E.read_laws))) };
 }
 
 impl<
@@ -538,27 +670,33 @@ where
     D::Src: Drop,
     E::Src: Drop,
 {
-    ghost reads_back = { reads_back_by (λ t. (t.0, (t.1, (t.2, (t.3, t.4))))) _ _ _ _ _ (pair_reads_back _ _ _ _ _ _ _ _ _ _ A.reads_back (pair_reads_back _ _ _ _ _ _ _ _ _ _ B.reads_back (pair_reads_back _ _ _ _ _ _ _ _ _ _ C.reads_back (pair_reads_back _ _ _ _ _ _ _ _ _ _ D.reads_back E.reads_back)))) };
+    ghost reads_back = { reads_back_by (λ t. (t.0, (t.1, (t.2, (t.3, t.4))))) (pair_reads_back A.reads_back
+        (pair_reads_back B.reads_back (pair_reads_back C.reads_back (pair_reads_back D.reads_back E.reads_back)))) };
 }
 
-type Members6<A, B, C, D, E, F> = Members2<A, Members5<B, C, D, E, F>>;
+pub type Members6<A, B, C, D, E, F> = Members2<A, Members5<B, C, D, E, F>>;
 
-/// The size of 6 members, each seen by a schema of its own.
-fn size_of_6<
+/// The size of 6 members, each seen by a schema of its own: that of a tuple of them.
+pub fn size_of_members_6<
     A: SchemaWrite,
     B: SchemaWrite,
     C: SchemaWrite,
     D: SchemaWrite,
     E: SchemaWrite,
     F: SchemaWrite,
->(src: &(A::Src, (B::Src, (C::Src, (D::Src, (E::Src, F::Src)))))) -> WriteResult<usize>
-    ensures ok { IfOk result (λ n. (pair_write A.writing (pair_write B.writing (pair_write C.writing (pair_write D.writing (pair_write E.writing F.writing))))).can (A.seen src.now.0, (B.seen src.now.1.0, (C.seen src.now.1.1.0, (D.seen src.now.1.1.1.0, (E.seen src.now.1.1.1.1.0, F.seen src.now.1.1.1.1.1))))) × (n ≡ (pair_write A.writing (pair_write B.writing (pair_write C.writing (pair_write D.writing (pair_write E.writing F.writing))))).size (A.seen src.now.0, (B.seen src.now.1.0, (C.seen src.now.1.1.0, (D.seen src.now.1.1.1.0, (E.seen src.now.1.1.1.1.0, F.seen src.now.1.1.1.1.1))))))) }
-    ensures err { IfErr result (IsSizeRefused (pair_write A.writing (pair_write B.writing (pair_write C.writing (pair_write D.writing (pair_write E.writing F.writing))))) (A.seen src.now.0, (B.seen src.now.1.0, (C.seen src.now.1.1.0, (D.seen src.now.1.1.1.0, (E.seen src.now.1.1.1.1.0, F.seen src.now.1.1.1.1.1)))))) }
+>(a: &A::Src, b: &B::Src, c: &C::Src, d: &D::Src, e: &E::Src, f: &F::Src) -> WriteResult<usize>
+    ensures ok { let tuple = ⟦<(A, B, C, D, E, F) as SchemaWrite>⟧ in IfOk result
+        (IsSized tuple.writing (tuple.seen (a.now, b.now, c.now, d.now, e.now, f.now))) }
+    ensures err { let tuple = ⟦<(A, B, C, D, E, F) as SchemaWrite>⟧ in IfErr result
+        (IsSizeRefused tuple.writing (tuple.seen (a.now, b.now, c.now, d.now, e.now, f.now))) }
 {
-    <Members6<A, B, C, D, E, F> as SchemaWrite>::size_of(src)
+    add_size(
+        A::size_of(a)?,
+        size_of_members_5::<B, C, D, E, F>(b, c, d, e, f)?,
+    )
 }
 
-/// Writes 6 members, each by a schema of its own, through one window where all have one size.
+/// Writes 6 members through one window where all have one size.
 fn write_6<
     A: SchemaWrite,
     B: SchemaWrite,
@@ -568,13 +706,47 @@ fn write_6<
     F: SchemaWrite,
     W: Writer,
 >(writer: &mut W, src: &(A::Src, (B::Src, (C::Src, (D::Src, (E::Src, F::Src)))))) -> WriteResult<()>
-    ensures ok { OnOk result (Wrote W.put W.room (pair_write A.writing (pair_write B.writing (pair_write C.writing (pair_write D.writing (pair_write E.writing F.writing))))) (W.state writer.old) (W.state writer.new) (A.seen src.now.0, (B.seen src.now.1.0, (C.seen src.now.1.1.0, (D.seen src.now.1.1.1.0, (E.seen src.now.1.1.1.1.0, F.seen src.now.1.1.1.1.1)))))) }
-    ensures value { OnOk result (A.proper src.now.0 × (B.proper src.now.1.0 × (C.proper src.now.1.1.0 × (D.proper src.now.1.1.1.0 × (E.proper src.now.1.1.1.1.0 × F.proper src.now.1.1.1.1.1))))) }
-    ensures err { IfErr result (Unwritten W.put W.room (pair_write A.writing (pair_write B.writing (pair_write C.writing (pair_write D.writing (pair_write E.writing F.writing))))) (W.state writer.old) (W.state writer.new) (A.seen src.now.0, (B.seen src.now.1.0, (C.seen src.now.1.1.0, (D.seen src.now.1.1.1.0, (E.seen src.now.1.1.1.1.0, F.seen src.now.1.1.1.1.1))))) (W.steady (W.kept writer.old)) (W.failures writer.new)) }
-    ensures whole { IfErr result (IsWholeRefused (is_static (pair_meta A.writing.meta (pair_meta B.writing.meta (pair_meta C.writing.meta (pair_meta D.writing.meta (pair_meta E.writing.meta F.writing.meta)))))) W.room (pair_write A.writing (pair_write B.writing (pair_write C.writing (pair_write D.writing (pair_write E.writing F.writing))))) (W.state writer.old) (W.state writer.new) (A.seen src.now.0, (B.seen src.now.1.0, (C.seen src.now.1.1.0, (D.seen src.now.1.1.1.0, (E.seen src.now.1.1.1.1.0, F.seen src.now.1.1.1.1.1))))) (W.steady (W.kept writer.old)) (W.failures writer.new)) }
-    ensures kept { W.kept writer.new ≡ W.kept writer.old }
+    ensures ok { let members = ⟦<Members6<A, B, C, D, E, F> as SchemaWrite>⟧ in OnOk result
+        (Wrote members.writing (W.state writer.old) (W.state writer.new) (members.seen src.now)) }
+    ensures value { OnOk result (⟦<Members6<A, B, C, D, E, F> as SchemaWrite>⟧.proper src.now) }
+    ensures err { let members = ⟦<Members6<A, B, C, D, E, F> as SchemaWrite>⟧ in IfErr result
+        (Unwritten members.writing (W.state writer.old) (W.state writer.new) (members.seen src.now)) }
+    ensures piece { let members = ⟦<Members6<A, B, C, D, E, F> as SchemaWrite>⟧ in IfErr result
+        (IsPieceRefused (is_static members.writing.meta) members.writing (W.state writer.old) (W.state writer.new) (members.seen src.now)) }
 {
-    write_whole::<Members6<A, B, C, D, E, F>, W>(writer, src)
+    write_in_window::<Members6<A, B, C, D, E, F>, W>(writer, src)
+}
+
+/// Writes 6 members, each by a schema of its own, as a tuple of them is written.
+pub fn write_members_6<
+    A: SchemaWrite,
+    B: SchemaWrite,
+    C: SchemaWrite,
+    D: SchemaWrite,
+    E: SchemaWrite,
+    F: SchemaWrite,
+    W: Writer,
+>(
+    writer: &mut W,
+    a: &A::Src,
+    b: &B::Src,
+    c: &C::Src,
+    d: &D::Src,
+    e: &E::Src,
+    f: &F::Src,
+) -> WriteResult<()>
+    ensures ok { let tuple = ⟦<(A, B, C, D, E, F) as SchemaWrite>⟧ in OnOk result
+        (Wrote tuple.writing (W.state writer.old) (W.state writer.new) (tuple.seen (a.now, b.now, c.now, d.now, e.now, f.now))) }
+    ensures value { OnOk result (⟦<(A, B, C, D, E, F) as SchemaWrite>⟧.proper (a.now, b.now, c.now, d.now, e.now, f.now)) }
+    ensures err { let tuple = ⟦<(A, B, C, D, E, F) as SchemaWrite>⟧ in IfErr result
+        (Unwritten tuple.writing (W.state writer.old) (W.state writer.new) (tuple.seen (a.now, b.now, c.now, d.now, e.now, f.now))) }
+    ensures piece { let tuple = ⟦<(A, B, C, D, E, F) as SchemaWrite>⟧ in IfErr result
+        (IsPieceRefused tuple.in_one_piece tuple.writing (W.state writer.old) (W.state writer.new) (tuple.seen (a.now, b.now, c.now, d.now, e.now, f.now))) }
+{
+    write_6::<&Member<A>, &Member<B>, &Member<C>, &Member<D>, &Member<E>, &Member<F>, W>(
+        writer,
+        &(a, (b, (c, (d, (e, f))))),
+    )
 }
 
 impl<
@@ -587,35 +759,33 @@ impl<
 > SchemaWrite for (A, B, C, D, E, F) {
     type Src = (A::Src, B::Src, C::Src, D::Src, E::Src, F::Src);
 
-    ghost Value = { A.Value × (B.Value × (C.Value × (D.Value × (E.Value × F.Value)))) };
+    ghost Value = { ⟦<Members6<A, B, C, D, E, F> as SchemaWrite>⟧.Value };
 
-    ghost seen = { λ t. (A.seen t.0, (B.seen t.1, (C.seen t.2, (D.seen t.3, (E.seen t.4, F.seen t.5))))) };
+    ghost seen = { λ t. ⟦<Members6<A, B, C, D, E, F> as SchemaWrite>⟧.seen (t.0, (t.1, (t.2, (t.3, (t.4, t.5))))) };
 
-    ghost proper = { λ t. A.proper t.0 × (B.proper t.1 × (C.proper t.2 × (D.proper t.3 × (E.proper t.4 × F.proper t.5)))) };
+    ghost proper = { λ t. ⟦<Members6<A, B, C, D, E, F> as SchemaWrite>⟧.proper (t.0, (t.1, (t.2, (t.3, (t.4, t.5))))) };
 
-    ghost writing = { pair_write A.writing (pair_write B.writing (pair_write C.writing (pair_write D.writing (pair_write E.writing F.writing)))) };
+    ghost writing = { ⟦<Members6<A, B, C, D, E, F> as SchemaWrite>⟧.writing };
 
-    ghost whole = { is_static (pair_meta A.writing.meta (pair_meta B.writing.meta (pair_meta C.writing.meta (pair_meta D.writing.meta (pair_meta E.writing.meta F.writing.meta))))) };
+    ghost in_one_piece = { is_static ⟦<Members6<A, B, C, D, E, F> as SchemaWrite>⟧.writing.meta };
 
     fn type_meta() -> TypeMeta {
         <Members6<A, B, C, D, E, F> as SchemaWrite>::type_meta()
     }
 
     fn size_of(src: &Self::Src) -> WriteResult<usize> {
-        size_of_6::<&Member<A>, &Member<B>, &Member<C>, &Member<D>, &Member<E>, &Member<F>>(&(
-            &src.0,
-            (&src.1, (&src.2, (&src.3, (&src.4, &src.5)))),
-        ))
+        size_of_members_6::<A, B, C, D, E, F>(&src.0, &src.1, &src.2, &src.3, &src.4, &src.5)
     }
 
     fn write<W: Writer>(writer: &mut W, src: &Self::Src) -> WriteResult<()> {
-        write_6::<&Member<A>, &Member<B>, &Member<C>, &Member<D>, &Member<E>, &Member<F>, W>(
-            writer,
-            &(&src.0, (&src.1, (&src.2, (&src.3, (&src.4, &src.5))))),
+        write_members_6::<A, B, C, D, E, F, W>(
+            writer, &src.0, &src.1, &src.2, &src.3, &src.4, &src.5,
         )
     }
 
-    ghost write_laws = { write_laws_by (λ t. (t.0, (t.1, (t.2, (t.3, (t.4, t.5)))))) _ _ _ (pair_write_laws A.proper _ A.seen _ A.writing _ A.write_laws (pair_write_laws B.proper _ B.seen _ B.writing _ B.write_laws (pair_write_laws C.proper _ C.seen _ C.writing _ C.write_laws (pair_write_laws D.proper _ D.seen _ D.writing _ D.write_laws (pair_write_laws E.proper F.proper E.seen F.seen E.writing F.writing E.write_laws F.write_laws))))) };
+    ghost write_laws = { write_laws_by (λ t. (t.0, (t.1, (t.2, (t.3, (t.4, t.5)))))) (pair_write_laws A.write_laws
+        (pair_write_laws B.write_laws (pair_write_laws C.write_laws (pair_write_laws D.write_laws (pair_write_laws
+        E.write_laws F.write_laws))))) };
 }
 
 impl<
@@ -629,15 +799,15 @@ impl<
 > SchemaRead<L> for (A, B, C, D, E, F) {
     type Dst = (A::Dst, B::Dst, C::Dst, D::Dst, E::Dst, F::Dst);
 
-    ghost Value = { A.Value × (B.Value × (C.Value × (D.Value × (E.Value × F.Value)))) };
+    ghost Value = { ⟦<Members6<A, B, C, D, E, F> as SchemaRead<L>>⟧.Value };
 
-    ghost seen = { λ t. (A.seen t.0, (B.seen t.1, (C.seen t.2, (D.seen t.3, (E.seen t.4, F.seen t.5))))) };
+    ghost seen = { λ t. ⟦<Members6<A, B, C, D, E, F> as SchemaRead<L>>⟧.seen (t.0, (t.1, (t.2, (t.3, (t.4, t.5))))) };
 
-    ghost proper = { λ v. A.proper v.0 × (B.proper v.1.0 × (C.proper v.1.1.0 × (D.proper v.1.1.1.0 × (E.proper v.1.1.1.1.0 × F.proper v.1.1.1.1.1)))) };
+    ghost proper = { ⟦<Members6<A, B, C, D, E, F> as SchemaRead<L>>⟧.proper };
 
-    ghost reading = { pair_read A.reading (pair_read B.reading (pair_read C.reading (pair_read D.reading (pair_read E.reading F.reading)))) };
+    ghost reading = { ⟦<Members6<A, B, C, D, E, F> as SchemaRead<L>>⟧.reading };
 
-    ghost refusal = { IsPlaced (pair_meta A.reading.meta (pair_meta B.reading.meta (pair_meta C.reading.meta (pair_meta D.reading.meta (pair_meta E.reading.meta F.reading.meta))))) };
+    ghost refusal = { IsStaticRefused ⟦<Members6<A, B, C, D, E, F> as SchemaRead<L>>⟧.reading.meta };
 
     fn type_meta() -> TypeMeta {
         <Members6<A, B, C, D, E, F> as SchemaRead<L>>::type_meta()
@@ -652,14 +822,15 @@ impl<
         reader: &mut R,
         dst: &mut Option<Self::Dst>,
     ) -> ReadResult<()> {
-        let (a, (b, (c, (d, (e, f))))) = get_whole::<L, Members6<A, B, C, D, E, F>, R>(
+        let (a, (b, (c, (d, (e, f))))) = get_in_window::<L, Members6<A, B, C, D, E, F>, R>(
             alloc, reader,
         )?;
         *dst = Some((a, b, c, d, e, f));
         Ok(())
     }
 
-    ghost read_laws = { pair_read_laws A.proper _ A.reading _ A.read_laws (pair_read_laws B.proper _ B.reading _ B.read_laws (pair_read_laws C.proper _ C.reading _ C.read_laws (pair_read_laws D.proper _ D.reading _ D.read_laws (pair_read_laws E.proper F.proper E.reading F.reading E.read_laws F.read_laws)))) };
+    ghost read_laws = { pair_read_laws A.read_laws (pair_read_laws B.read_laws (pair_read_laws C.read_laws
+        (pair_read_laws D.read_laws (pair_read_laws E.read_laws F.read_laws)))) };
 }
 
 impl<
@@ -679,13 +850,15 @@ where
     E::Src: Drop,
     F::Src: Drop,
 {
-    ghost reads_back = { reads_back_by (λ t. (t.0, (t.1, (t.2, (t.3, (t.4, t.5)))))) _ _ _ _ _ (pair_reads_back _ _ _ _ _ _ _ _ _ _ A.reads_back (pair_reads_back _ _ _ _ _ _ _ _ _ _ B.reads_back (pair_reads_back _ _ _ _ _ _ _ _ _ _ C.reads_back (pair_reads_back _ _ _ _ _ _ _ _ _ _ D.reads_back (pair_reads_back _ _ _ _ _ _ _ _ _ _ E.reads_back F.reads_back))))) };
+    ghost reads_back = { reads_back_by (λ t. (t.0, (t.1, (t.2, (t.3, (t.4, t.5)))))) (pair_reads_back A.reads_back
+        (pair_reads_back B.reads_back (pair_reads_back C.reads_back (pair_reads_back D.reads_back (pair_reads_back
+        E.reads_back F.reads_back))))) };
 }
 
-type Members7<A, B, C, D, E, F, G> = Members2<A, Members6<B, C, D, E, F, G>>;
+pub type Members7<A, B, C, D, E, F, G> = Members2<A, Members6<B, C, D, E, F, G>>;
 
-/// The size of 7 members, each seen by a schema of its own.
-fn size_of_7<
+/// The size of 7 members, each seen by a schema of its own: that of a tuple of them.
+pub fn size_of_members_7<
     A: SchemaWrite,
     B: SchemaWrite,
     C: SchemaWrite,
@@ -694,18 +867,26 @@ fn size_of_7<
     F: SchemaWrite,
     G: SchemaWrite,
 >(
-    src: &(
-        A::Src,
-        (B::Src, (C::Src, (D::Src, (E::Src, (F::Src, G::Src))))),
-    ),
+    a: &A::Src,
+    b: &B::Src,
+    c: &C::Src,
+    d: &D::Src,
+    e: &E::Src,
+    f: &F::Src,
+    g: &G::Src,
 ) -> WriteResult<usize>
-    ensures ok { IfOk result (λ n. (pair_write A.writing (pair_write B.writing (pair_write C.writing (pair_write D.writing (pair_write E.writing (pair_write F.writing G.writing)))))).can (A.seen src.now.0, (B.seen src.now.1.0, (C.seen src.now.1.1.0, (D.seen src.now.1.1.1.0, (E.seen src.now.1.1.1.1.0, (F.seen src.now.1.1.1.1.1.0, G.seen src.now.1.1.1.1.1.1)))))) × (n ≡ (pair_write A.writing (pair_write B.writing (pair_write C.writing (pair_write D.writing (pair_write E.writing (pair_write F.writing G.writing)))))).size (A.seen src.now.0, (B.seen src.now.1.0, (C.seen src.now.1.1.0, (D.seen src.now.1.1.1.0, (E.seen src.now.1.1.1.1.0, (F.seen src.now.1.1.1.1.1.0, G.seen src.now.1.1.1.1.1.1)))))))) }
-    ensures err { IfErr result (IsSizeRefused (pair_write A.writing (pair_write B.writing (pair_write C.writing (pair_write D.writing (pair_write E.writing (pair_write F.writing G.writing)))))) (A.seen src.now.0, (B.seen src.now.1.0, (C.seen src.now.1.1.0, (D.seen src.now.1.1.1.0, (E.seen src.now.1.1.1.1.0, (F.seen src.now.1.1.1.1.1.0, G.seen src.now.1.1.1.1.1.1))))))) }
+    ensures ok { let tuple = ⟦<(A, B, C, D, E, F, G) as SchemaWrite>⟧ in IfOk result
+        (IsSized tuple.writing (tuple.seen (a.now, b.now, c.now, d.now, e.now, f.now, g.now))) }
+    ensures err { let tuple = ⟦<(A, B, C, D, E, F, G) as SchemaWrite>⟧ in IfErr result
+        (IsSizeRefused tuple.writing (tuple.seen (a.now, b.now, c.now, d.now, e.now, f.now, g.now))) }
 {
-    <Members7<A, B, C, D, E, F, G> as SchemaWrite>::size_of(src)
+    add_size(
+        A::size_of(a)?,
+        size_of_members_6::<B, C, D, E, F, G>(b, c, d, e, f, g)?,
+    )
 }
 
-/// Writes 7 members, each by a schema of its own, through one window where all have one size.
+/// Writes 7 members through one window where all have one size.
 fn write_7<
     A: SchemaWrite,
     B: SchemaWrite,
@@ -722,13 +903,55 @@ fn write_7<
         (B::Src, (C::Src, (D::Src, (E::Src, (F::Src, G::Src))))),
     ),
 ) -> WriteResult<()>
-    ensures ok { OnOk result (Wrote W.put W.room (pair_write A.writing (pair_write B.writing (pair_write C.writing (pair_write D.writing (pair_write E.writing (pair_write F.writing G.writing)))))) (W.state writer.old) (W.state writer.new) (A.seen src.now.0, (B.seen src.now.1.0, (C.seen src.now.1.1.0, (D.seen src.now.1.1.1.0, (E.seen src.now.1.1.1.1.0, (F.seen src.now.1.1.1.1.1.0, G.seen src.now.1.1.1.1.1.1))))))) }
-    ensures value { OnOk result (A.proper src.now.0 × (B.proper src.now.1.0 × (C.proper src.now.1.1.0 × (D.proper src.now.1.1.1.0 × (E.proper src.now.1.1.1.1.0 × (F.proper src.now.1.1.1.1.1.0 × G.proper src.now.1.1.1.1.1.1)))))) }
-    ensures err { IfErr result (Unwritten W.put W.room (pair_write A.writing (pair_write B.writing (pair_write C.writing (pair_write D.writing (pair_write E.writing (pair_write F.writing G.writing)))))) (W.state writer.old) (W.state writer.new) (A.seen src.now.0, (B.seen src.now.1.0, (C.seen src.now.1.1.0, (D.seen src.now.1.1.1.0, (E.seen src.now.1.1.1.1.0, (F.seen src.now.1.1.1.1.1.0, G.seen src.now.1.1.1.1.1.1)))))) (W.steady (W.kept writer.old)) (W.failures writer.new)) }
-    ensures whole { IfErr result (IsWholeRefused (is_static (pair_meta A.writing.meta (pair_meta B.writing.meta (pair_meta C.writing.meta (pair_meta D.writing.meta (pair_meta E.writing.meta (pair_meta F.writing.meta G.writing.meta))))))) W.room (pair_write A.writing (pair_write B.writing (pair_write C.writing (pair_write D.writing (pair_write E.writing (pair_write F.writing G.writing)))))) (W.state writer.old) (W.state writer.new) (A.seen src.now.0, (B.seen src.now.1.0, (C.seen src.now.1.1.0, (D.seen src.now.1.1.1.0, (E.seen src.now.1.1.1.1.0, (F.seen src.now.1.1.1.1.1.0, G.seen src.now.1.1.1.1.1.1)))))) (W.steady (W.kept writer.old)) (W.failures writer.new)) }
-    ensures kept { W.kept writer.new ≡ W.kept writer.old }
+    ensures ok { let members = ⟦<Members7<A, B, C, D, E, F, G> as SchemaWrite>⟧ in OnOk result
+        (Wrote members.writing (W.state writer.old) (W.state writer.new) (members.seen src.now)) }
+    ensures value { OnOk result (⟦<Members7<A, B, C, D, E, F, G> as SchemaWrite>⟧.proper src.now) }
+    ensures err { let members = ⟦<Members7<A, B, C, D, E, F, G> as SchemaWrite>⟧ in IfErr result
+        (Unwritten members.writing (W.state writer.old) (W.state writer.new) (members.seen src.now)) }
+    ensures piece { let members = ⟦<Members7<A, B, C, D, E, F, G> as SchemaWrite>⟧ in IfErr result
+        (IsPieceRefused (is_static members.writing.meta) members.writing (W.state writer.old) (W.state writer.new) (members.seen src.now)) }
 {
-    write_whole::<Members7<A, B, C, D, E, F, G>, W>(writer, src)
+    write_in_window::<Members7<A, B, C, D, E, F, G>, W>(writer, src)
+}
+
+/// Writes 7 members, each by a schema of its own, as a tuple of them is written.
+pub fn write_members_7<
+    A: SchemaWrite,
+    B: SchemaWrite,
+    C: SchemaWrite,
+    D: SchemaWrite,
+    E: SchemaWrite,
+    F: SchemaWrite,
+    G: SchemaWrite,
+    W: Writer,
+>(
+    writer: &mut W,
+    a: &A::Src,
+    b: &B::Src,
+    c: &C::Src,
+    d: &D::Src,
+    e: &E::Src,
+    f: &F::Src,
+    g: &G::Src,
+) -> WriteResult<()>
+    ensures ok { let tuple = ⟦<(A, B, C, D, E, F, G) as SchemaWrite>⟧ in OnOk result
+        (Wrote tuple.writing (W.state writer.old) (W.state writer.new) (tuple.seen (a.now, b.now, c.now, d.now, e.now, f.now, g.now))) }
+    ensures value { OnOk result (⟦<(A, B, C, D, E, F, G) as SchemaWrite>⟧.proper (a.now, b.now, c.now, d.now, e.now, f.now, g.now)) }
+    ensures err { let tuple = ⟦<(A, B, C, D, E, F, G) as SchemaWrite>⟧ in IfErr result
+        (Unwritten tuple.writing (W.state writer.old) (W.state writer.new) (tuple.seen (a.now, b.now, c.now, d.now, e.now, f.now, g.now))) }
+    ensures piece { let tuple = ⟦<(A, B, C, D, E, F, G) as SchemaWrite>⟧ in IfErr result
+        (IsPieceRefused tuple.in_one_piece tuple.writing (W.state writer.old) (W.state writer.new) (tuple.seen (a.now, b.now, c.now, d.now, e.now, f.now, g.now))) }
+{
+    write_7::<
+        &Member<A>,
+        &Member<B>,
+        &Member<C>,
+        &Member<D>,
+        &Member<E>,
+        &Member<F>,
+        &Member<G>,
+        W,
+    >(writer, &(a, (b, (c, (d, (e, (f, g)))))))
 }
 
 impl<
@@ -742,55 +965,35 @@ impl<
 > SchemaWrite for (A, B, C, D, E, F, G) {
     type Src = (A::Src, B::Src, C::Src, D::Src, E::Src, F::Src, G::Src);
 
-    ghost Value = { A.Value × (B.Value × (C.Value × (D.Value × (E.Value × (F.Value × G.Value))))) };
+    ghost Value = { ⟦<Members7<A, B, C, D, E, F, G> as SchemaWrite>⟧.Value };
 
-    ghost seen = { λ t. (A.seen t.0, (B.seen t.1, (C.seen t.2, (D.seen t.3, (E.seen t.4, (F.seen t.5, G.seen t.6)))))) };
+    ghost seen = { λ t. ⟦<Members7<A, B, C, D, E, F, G> as SchemaWrite>⟧.seen (t.0, (t.1, (t.2, (t.3, (t.4, (t.5, t.6)))))) };
 
-    ghost proper = { λ t. A.proper t.0 × (B.proper t.1 × (C.proper t.2 × (D.proper t.3 × (E.proper t.4 × (F.proper t.5 × G.proper t.6))))) };
+    ghost proper = { λ t. ⟦<Members7<A, B, C, D, E, F, G> as SchemaWrite>⟧.proper (t.0, (t.1, (t.2, (t.3, (t.4, (t.5, t.6)))))) };
 
-    ghost writing = { pair_write A.writing (pair_write B.writing (pair_write C.writing (pair_write D.writing (pair_write E.writing (pair_write F.writing G.writing))))) };
+    ghost writing = { ⟦<Members7<A, B, C, D, E, F, G> as SchemaWrite>⟧.writing };
 
-    ghost whole = { is_static (pair_meta A.writing.meta (pair_meta B.writing.meta (pair_meta C.writing.meta (pair_meta D.writing.meta (pair_meta E.writing.meta (pair_meta F.writing.meta G.writing.meta)))))) };
+    ghost in_one_piece = { is_static ⟦<Members7<A, B, C, D, E, F, G> as SchemaWrite>⟧.writing.meta };
 
     fn type_meta() -> TypeMeta {
         <Members7<A, B, C, D, E, F, G> as SchemaWrite>::type_meta()
     }
 
     fn size_of(src: &Self::Src) -> WriteResult<usize> {
-        size_of_7::<
-            &Member<A>,
-            &Member<B>,
-            &Member<C>,
-            &Member<D>,
-            &Member<E>,
-            &Member<F>,
-            &Member<G>,
-        >(&(
-            &src.0,
-            (&src.1, (&src.2, (&src.3, (&src.4, (&src.5, &src.6))))),
-        ))
-    }
-
-    fn write<W: Writer>(writer: &mut W, src: &Self::Src) -> WriteResult<()> {
-        write_7::<
-            &Member<A>,
-            &Member<B>,
-            &Member<C>,
-            &Member<D>,
-            &Member<E>,
-            &Member<F>,
-            &Member<G>,
-            W,
-        >(
-            writer,
-            &(
-                &src.0,
-                (&src.1, (&src.2, (&src.3, (&src.4, (&src.5, &src.6))))),
-            ),
+        size_of_members_7::<A, B, C, D, E, F, G>(
+            &src.0, &src.1, &src.2, &src.3, &src.4, &src.5, &src.6,
         )
     }
 
-    ghost write_laws = { write_laws_by (λ t. (t.0, (t.1, (t.2, (t.3, (t.4, (t.5, t.6))))))) _ _ _ (pair_write_laws A.proper _ A.seen _ A.writing _ A.write_laws (pair_write_laws B.proper _ B.seen _ B.writing _ B.write_laws (pair_write_laws C.proper _ C.seen _ C.writing _ C.write_laws (pair_write_laws D.proper _ D.seen _ D.writing _ D.write_laws (pair_write_laws E.proper _ E.seen _ E.writing _ E.write_laws (pair_write_laws F.proper G.proper F.seen G.seen F.writing G.writing F.write_laws G.write_laws)))))) };
+    fn write<W: Writer>(writer: &mut W, src: &Self::Src) -> WriteResult<()> {
+        write_members_7::<A, B, C, D, E, F, G, W>(
+            writer, &src.0, &src.1, &src.2, &src.3, &src.4, &src.5, &src.6,
+        )
+    }
+
+    ghost write_laws = { write_laws_by (λ t. (t.0, (t.1, (t.2, (t.3, (t.4, (t.5, t.6))))))) (pair_write_laws
+        A.write_laws (pair_write_laws B.write_laws (pair_write_laws C.write_laws (pair_write_laws D.write_laws
+        (pair_write_laws E.write_laws (pair_write_laws F.write_laws G.write_laws)))))) };
 }
 
 impl<
@@ -805,15 +1008,15 @@ impl<
 > SchemaRead<L> for (A, B, C, D, E, F, G) {
     type Dst = (A::Dst, B::Dst, C::Dst, D::Dst, E::Dst, F::Dst, G::Dst);
 
-    ghost Value = { A.Value × (B.Value × (C.Value × (D.Value × (E.Value × (F.Value × G.Value))))) };
+    ghost Value = { ⟦<Members7<A, B, C, D, E, F, G> as SchemaRead<L>>⟧.Value };
 
-    ghost seen = { λ t. (A.seen t.0, (B.seen t.1, (C.seen t.2, (D.seen t.3, (E.seen t.4, (F.seen t.5, G.seen t.6)))))) };
+    ghost seen = { λ t. ⟦<Members7<A, B, C, D, E, F, G> as SchemaRead<L>>⟧.seen (t.0, (t.1, (t.2, (t.3, (t.4, (t.5, t.6)))))) };
 
-    ghost proper = { λ v. A.proper v.0 × (B.proper v.1.0 × (C.proper v.1.1.0 × (D.proper v.1.1.1.0 × (E.proper v.1.1.1.1.0 × (F.proper v.1.1.1.1.1.0 × G.proper v.1.1.1.1.1.1))))) };
+    ghost proper = { ⟦<Members7<A, B, C, D, E, F, G> as SchemaRead<L>>⟧.proper };
 
-    ghost reading = { pair_read A.reading (pair_read B.reading (pair_read C.reading (pair_read D.reading (pair_read E.reading (pair_read F.reading G.reading))))) };
+    ghost reading = { ⟦<Members7<A, B, C, D, E, F, G> as SchemaRead<L>>⟧.reading };
 
-    ghost refusal = { IsPlaced (pair_meta A.reading.meta (pair_meta B.reading.meta (pair_meta C.reading.meta (pair_meta D.reading.meta (pair_meta E.reading.meta (pair_meta F.reading.meta G.reading.meta)))))) };
+    ghost refusal = { IsStaticRefused ⟦<Members7<A, B, C, D, E, F, G> as SchemaRead<L>>⟧.reading.meta };
 
     fn type_meta() -> TypeMeta {
         <Members7<A, B, C, D, E, F, G> as SchemaRead<L>>::type_meta()
@@ -828,14 +1031,15 @@ impl<
         reader: &mut R,
         dst: &mut Option<Self::Dst>,
     ) -> ReadResult<()> {
-        let (a, (b, (c, (d, (e, (f, g)))))) = get_whole::<L, Members7<A, B, C, D, E, F, G>, R>(
+        let (a, (b, (c, (d, (e, (f, g)))))) = get_in_window::<L, Members7<A, B, C, D, E, F, G>, R>(
             alloc, reader,
         )?;
         *dst = Some((a, b, c, d, e, f, g));
         Ok(())
     }
 
-    ghost read_laws = { pair_read_laws A.proper _ A.reading _ A.read_laws (pair_read_laws B.proper _ B.reading _ B.read_laws (pair_read_laws C.proper _ C.reading _ C.read_laws (pair_read_laws D.proper _ D.reading _ D.read_laws (pair_read_laws E.proper _ E.reading _ E.read_laws (pair_read_laws F.proper G.proper F.reading G.reading F.read_laws G.read_laws))))) };
+    ghost read_laws = { pair_read_laws A.read_laws (pair_read_laws B.read_laws (pair_read_laws C.read_laws
+        (pair_read_laws D.read_laws (pair_read_laws E.read_laws (pair_read_laws F.read_laws G.read_laws))))) };
 }
 
 impl<
@@ -857,13 +1061,15 @@ where
     F::Src: Drop,
     G::Src: Drop,
 {
-    ghost reads_back = { reads_back_by (λ t. (t.0, (t.1, (t.2, (t.3, (t.4, (t.5, t.6))))))) _ _ _ _ _ (pair_reads_back _ _ _ _ _ _ _ _ _ _ A.reads_back (pair_reads_back _ _ _ _ _ _ _ _ _ _ B.reads_back (pair_reads_back _ _ _ _ _ _ _ _ _ _ C.reads_back (pair_reads_back _ _ _ _ _ _ _ _ _ _ D.reads_back (pair_reads_back _ _ _ _ _ _ _ _ _ _ E.reads_back (pair_reads_back _ _ _ _ _ _ _ _ _ _ F.reads_back G.reads_back)))))) };
+    ghost reads_back = { reads_back_by (λ t. (t.0, (t.1, (t.2, (t.3, (t.4, (t.5, t.6))))))) (pair_reads_back
+        A.reads_back (pair_reads_back B.reads_back (pair_reads_back C.reads_back (pair_reads_back D.reads_back
+        (pair_reads_back E.reads_back (pair_reads_back F.reads_back G.reads_back)))))) };
 }
 
-type Members8<A, B, C, D, E, F, G, H> = Members2<A, Members7<B, C, D, E, F, G, H>>;
+pub type Members8<A, B, C, D, E, F, G, H> = Members2<A, Members7<B, C, D, E, F, G, H>>;
 
-/// The size of 8 members, each seen by a schema of its own.
-fn size_of_8<
+/// The size of 8 members, each seen by a schema of its own: that of a tuple of them.
+pub fn size_of_members_8<
     A: SchemaWrite,
     B: SchemaWrite,
     C: SchemaWrite,
@@ -873,21 +1079,27 @@ fn size_of_8<
     G: SchemaWrite,
     H: SchemaWrite,
 >(
-    src: &(
-        A::Src,
-        (
-            B::Src,
-            (C::Src, (D::Src, (E::Src, (F::Src, (G::Src, H::Src))))),
-        ),
-    ),
+    a: &A::Src,
+    b: &B::Src,
+    c: &C::Src,
+    d: &D::Src,
+    e: &E::Src,
+    f: &F::Src,
+    g: &G::Src,
+    h: &H::Src,
 ) -> WriteResult<usize>
-    ensures ok { IfOk result (λ n. (pair_write A.writing (pair_write B.writing (pair_write C.writing (pair_write D.writing (pair_write E.writing (pair_write F.writing (pair_write G.writing H.writing))))))).can (A.seen src.now.0, (B.seen src.now.1.0, (C.seen src.now.1.1.0, (D.seen src.now.1.1.1.0, (E.seen src.now.1.1.1.1.0, (F.seen src.now.1.1.1.1.1.0, (G.seen src.now.1.1.1.1.1.1.0, H.seen src.now.1.1.1.1.1.1.1))))))) × (n ≡ (pair_write A.writing (pair_write B.writing (pair_write C.writing (pair_write D.writing (pair_write E.writing (pair_write F.writing (pair_write G.writing H.writing))))))).size (A.seen src.now.0, (B.seen src.now.1.0, (C.seen src.now.1.1.0, (D.seen src.now.1.1.1.0, (E.seen src.now.1.1.1.1.0, (F.seen src.now.1.1.1.1.1.0, (G.seen src.now.1.1.1.1.1.1.0, H.seen src.now.1.1.1.1.1.1.1))))))))) }
-    ensures err { IfErr result (IsSizeRefused (pair_write A.writing (pair_write B.writing (pair_write C.writing (pair_write D.writing (pair_write E.writing (pair_write F.writing (pair_write G.writing H.writing))))))) (A.seen src.now.0, (B.seen src.now.1.0, (C.seen src.now.1.1.0, (D.seen src.now.1.1.1.0, (E.seen src.now.1.1.1.1.0, (F.seen src.now.1.1.1.1.1.0, (G.seen src.now.1.1.1.1.1.1.0, H.seen src.now.1.1.1.1.1.1.1)))))))) }
+    ensures ok { let tuple = ⟦<(A, B, C, D, E, F, G, H) as SchemaWrite>⟧ in IfOk result
+        (IsSized tuple.writing (tuple.seen (a.now, b.now, c.now, d.now, e.now, f.now, g.now, h.now))) }
+    ensures err { let tuple = ⟦<(A, B, C, D, E, F, G, H) as SchemaWrite>⟧ in IfErr result
+        (IsSizeRefused tuple.writing (tuple.seen (a.now, b.now, c.now, d.now, e.now, f.now, g.now, h.now))) }
 {
-    <Members8<A, B, C, D, E, F, G, H> as SchemaWrite>::size_of(src)
+    add_size(
+        A::size_of(a)?,
+        size_of_members_7::<B, C, D, E, F, G, H>(b, c, d, e, f, g, h)?,
+    )
 }
 
-/// Writes 8 members, each by a schema of its own, through one window where all have one size.
+/// Writes 8 members through one window where all have one size.
 fn write_8<
     A: SchemaWrite,
     B: SchemaWrite,
@@ -908,13 +1120,58 @@ fn write_8<
         ),
     ),
 ) -> WriteResult<()>
-    ensures ok { OnOk result (Wrote W.put W.room (pair_write A.writing (pair_write B.writing (pair_write C.writing (pair_write D.writing (pair_write E.writing (pair_write F.writing (pair_write G.writing H.writing))))))) (W.state writer.old) (W.state writer.new) (A.seen src.now.0, (B.seen src.now.1.0, (C.seen src.now.1.1.0, (D.seen src.now.1.1.1.0, (E.seen src.now.1.1.1.1.0, (F.seen src.now.1.1.1.1.1.0, (G.seen src.now.1.1.1.1.1.1.0, H.seen src.now.1.1.1.1.1.1.1)))))))) }
-    ensures value { OnOk result (A.proper src.now.0 × (B.proper src.now.1.0 × (C.proper src.now.1.1.0 × (D.proper src.now.1.1.1.0 × (E.proper src.now.1.1.1.1.0 × (F.proper src.now.1.1.1.1.1.0 × (G.proper src.now.1.1.1.1.1.1.0 × H.proper src.now.1.1.1.1.1.1.1))))))) }
-    ensures err { IfErr result (Unwritten W.put W.room (pair_write A.writing (pair_write B.writing (pair_write C.writing (pair_write D.writing (pair_write E.writing (pair_write F.writing (pair_write G.writing H.writing))))))) (W.state writer.old) (W.state writer.new) (A.seen src.now.0, (B.seen src.now.1.0, (C.seen src.now.1.1.0, (D.seen src.now.1.1.1.0, (E.seen src.now.1.1.1.1.0, (F.seen src.now.1.1.1.1.1.0, (G.seen src.now.1.1.1.1.1.1.0, H.seen src.now.1.1.1.1.1.1.1))))))) (W.steady (W.kept writer.old)) (W.failures writer.new)) }
-    ensures whole { IfErr result (IsWholeRefused (is_static (pair_meta A.writing.meta (pair_meta B.writing.meta (pair_meta C.writing.meta (pair_meta D.writing.meta (pair_meta E.writing.meta (pair_meta F.writing.meta (pair_meta G.writing.meta H.writing.meta)))))))) W.room (pair_write A.writing (pair_write B.writing (pair_write C.writing (pair_write D.writing (pair_write E.writing (pair_write F.writing (pair_write G.writing H.writing))))))) (W.state writer.old) (W.state writer.new) (A.seen src.now.0, (B.seen src.now.1.0, (C.seen src.now.1.1.0, (D.seen src.now.1.1.1.0, (E.seen src.now.1.1.1.1.0, (F.seen src.now.1.1.1.1.1.0, (G.seen src.now.1.1.1.1.1.1.0, H.seen src.now.1.1.1.1.1.1.1))))))) (W.steady (W.kept writer.old)) (W.failures writer.new)) }
-    ensures kept { W.kept writer.new ≡ W.kept writer.old }
+    ensures ok { let members = ⟦<Members8<A, B, C, D, E, F, G, H> as SchemaWrite>⟧ in OnOk result
+        (Wrote members.writing (W.state writer.old) (W.state writer.new) (members.seen src.now)) }
+    ensures value { OnOk result (⟦<Members8<A, B, C, D, E, F, G, H> as SchemaWrite>⟧.proper src.now) }
+    ensures err { let members = ⟦<Members8<A, B, C, D, E, F, G, H> as SchemaWrite>⟧ in IfErr result
+        (Unwritten members.writing (W.state writer.old) (W.state writer.new) (members.seen src.now)) }
+    ensures piece { let members = ⟦<Members8<A, B, C, D, E, F, G, H> as SchemaWrite>⟧ in IfErr result
+        (IsPieceRefused (is_static members.writing.meta) members.writing (W.state writer.old) (W.state writer.new) (members.seen src.now)) }
 {
-    write_whole::<Members8<A, B, C, D, E, F, G, H>, W>(writer, src)
+    write_in_window::<Members8<A, B, C, D, E, F, G, H>, W>(writer, src)
+}
+
+/// Writes 8 members, each by a schema of its own, as a tuple of them is written.
+pub fn write_members_8<
+    A: SchemaWrite,
+    B: SchemaWrite,
+    C: SchemaWrite,
+    D: SchemaWrite,
+    E: SchemaWrite,
+    F: SchemaWrite,
+    G: SchemaWrite,
+    H: SchemaWrite,
+    W: Writer,
+>(
+    writer: &mut W,
+    a: &A::Src,
+    b: &B::Src,
+    c: &C::Src,
+    d: &D::Src,
+    e: &E::Src,
+    f: &F::Src,
+    g: &G::Src,
+    h: &H::Src,
+) -> WriteResult<()>
+    ensures ok { let tuple = ⟦<(A, B, C, D, E, F, G, H) as SchemaWrite>⟧ in OnOk result
+        (Wrote tuple.writing (W.state writer.old) (W.state writer.new) (tuple.seen (a.now, b.now, c.now, d.now, e.now, f.now, g.now, h.now))) }
+    ensures value { OnOk result (⟦<(A, B, C, D, E, F, G, H) as SchemaWrite>⟧.proper (a.now, b.now, c.now, d.now, e.now, f.now, g.now, h.now)) }
+    ensures err { let tuple = ⟦<(A, B, C, D, E, F, G, H) as SchemaWrite>⟧ in IfErr result
+        (Unwritten tuple.writing (W.state writer.old) (W.state writer.new) (tuple.seen (a.now, b.now, c.now, d.now, e.now, f.now, g.now, h.now))) }
+    ensures piece { let tuple = ⟦<(A, B, C, D, E, F, G, H) as SchemaWrite>⟧ in IfErr result
+        (IsPieceRefused tuple.in_one_piece tuple.writing (W.state writer.old) (W.state writer.new) (tuple.seen (a.now, b.now, c.now, d.now, e.now, f.now, g.now, h.now))) }
+{
+    write_8::<
+        &Member<A>,
+        &Member<B>,
+        &Member<C>,
+        &Member<D>,
+        &Member<E>,
+        &Member<F>,
+        &Member<G>,
+        &Member<H>,
+        W,
+    >(writer, &(a, (b, (c, (d, (e, (f, (g, h))))))))
 }
 
 impl<
@@ -938,63 +1195,35 @@ impl<
         H::Src,
     );
 
-    ghost Value = { A.Value × (B.Value × (C.Value × (D.Value × (E.Value × (F.Value × (G.Value × H.Value)))))) };
+    ghost Value = { ⟦<Members8<A, B, C, D, E, F, G, H> as SchemaWrite>⟧.Value };
 
-    ghost seen = { λ t. (A.seen t.0, (B.seen t.1, (C.seen t.2, (D.seen t.3, (E.seen t.4, (F.seen t.5, (G.seen t.6, H.seen t.7))))))) };
+    ghost seen = { λ t. ⟦<Members8<A, B, C, D, E, F, G, H> as SchemaWrite>⟧.seen (t.0, (t.1, (t.2, (t.3, (t.4, (t.5, (t.6, t.7))))))) };
 
-    ghost proper = { λ t. A.proper t.0 × (B.proper t.1 × (C.proper t.2 × (D.proper t.3 × (E.proper t.4 × (F.proper t.5 × (G.proper t.6 × H.proper t.7)))))) };
+    ghost proper = { λ t. ⟦<Members8<A, B, C, D, E, F, G, H> as SchemaWrite>⟧.proper (t.0, (t.1, (t.2, (t.3, (t.4, (t.5, (t.6, t.7))))))) };
 
-    ghost writing = { pair_write A.writing (pair_write B.writing (pair_write C.writing (pair_write D.writing (pair_write E.writing (pair_write F.writing (pair_write G.writing H.writing)))))) };
+    ghost writing = { ⟦<Members8<A, B, C, D, E, F, G, H> as SchemaWrite>⟧.writing };
 
-    ghost whole = { is_static (pair_meta A.writing.meta (pair_meta B.writing.meta (pair_meta C.writing.meta (pair_meta D.writing.meta (pair_meta E.writing.meta (pair_meta F.writing.meta (pair_meta G.writing.meta H.writing.meta))))))) };
+    ghost in_one_piece = { is_static ⟦<Members8<A, B, C, D, E, F, G, H> as SchemaWrite>⟧.writing.meta };
 
     fn type_meta() -> TypeMeta {
         <Members8<A, B, C, D, E, F, G, H> as SchemaWrite>::type_meta()
     }
 
     fn size_of(src: &Self::Src) -> WriteResult<usize> {
-        size_of_8::<
-            &Member<A>,
-            &Member<B>,
-            &Member<C>,
-            &Member<D>,
-            &Member<E>,
-            &Member<F>,
-            &Member<G>,
-            &Member<H>,
-        >(&(
-            &src.0,
-            (
-                &src.1,
-                (&src.2, (&src.3, (&src.4, (&src.5, (&src.6, &src.7))))),
-            ),
-        ))
-    }
-
-    fn write<W: Writer>(writer: &mut W, src: &Self::Src) -> WriteResult<()> {
-        write_8::<
-            &Member<A>,
-            &Member<B>,
-            &Member<C>,
-            &Member<D>,
-            &Member<E>,
-            &Member<F>,
-            &Member<G>,
-            &Member<H>,
-            W,
-        >(
-            writer,
-            &(
-                &src.0,
-                (
-                    &src.1,
-                    (&src.2, (&src.3, (&src.4, (&src.5, (&src.6, &src.7))))),
-                ),
-            ),
+        size_of_members_8::<A, B, C, D, E, F, G, H>(
+            &src.0, &src.1, &src.2, &src.3, &src.4, &src.5, &src.6, &src.7,
         )
     }
 
-    ghost write_laws = { write_laws_by (λ t. (t.0, (t.1, (t.2, (t.3, (t.4, (t.5, (t.6, t.7)))))))) _ _ _ (pair_write_laws A.proper _ A.seen _ A.writing _ A.write_laws (pair_write_laws B.proper _ B.seen _ B.writing _ B.write_laws (pair_write_laws C.proper _ C.seen _ C.writing _ C.write_laws (pair_write_laws D.proper _ D.seen _ D.writing _ D.write_laws (pair_write_laws E.proper _ E.seen _ E.writing _ E.write_laws (pair_write_laws F.proper _ F.seen _ F.writing _ F.write_laws (pair_write_laws G.proper H.proper G.seen H.seen G.writing H.writing G.write_laws H.write_laws))))))) };
+    fn write<W: Writer>(writer: &mut W, src: &Self::Src) -> WriteResult<()> {
+        write_members_8::<A, B, C, D, E, F, G, H, W>(
+            writer, &src.0, &src.1, &src.2, &src.3, &src.4, &src.5, &src.6, &src.7,
+        )
+    }
+
+    ghost write_laws = { write_laws_by (λ t. (t.0, (t.1, (t.2, (t.3, (t.4, (t.5, (t.6, t.7)))))))) (pair_write_laws
+        A.write_laws (pair_write_laws B.write_laws (pair_write_laws C.write_laws (pair_write_laws D.write_laws
+        (pair_write_laws E.write_laws (pair_write_laws F.write_laws (pair_write_laws G.write_laws H.write_laws))))))) };
 }
 
 impl<
@@ -1019,15 +1248,15 @@ impl<
         H::Dst,
     );
 
-    ghost Value = { A.Value × (B.Value × (C.Value × (D.Value × (E.Value × (F.Value × (G.Value × H.Value)))))) };
+    ghost Value = { ⟦<Members8<A, B, C, D, E, F, G, H> as SchemaRead<L>>⟧.Value };
 
-    ghost seen = { λ t. (A.seen t.0, (B.seen t.1, (C.seen t.2, (D.seen t.3, (E.seen t.4, (F.seen t.5, (G.seen t.6, H.seen t.7))))))) };
+    ghost seen = { λ t. ⟦<Members8<A, B, C, D, E, F, G, H> as SchemaRead<L>>⟧.seen (t.0, (t.1, (t.2, (t.3, (t.4, (t.5, (t.6, t.7))))))) };
 
-    ghost proper = { λ v. A.proper v.0 × (B.proper v.1.0 × (C.proper v.1.1.0 × (D.proper v.1.1.1.0 × (E.proper v.1.1.1.1.0 × (F.proper v.1.1.1.1.1.0 × (G.proper v.1.1.1.1.1.1.0 × H.proper v.1.1.1.1.1.1.1)))))) };
+    ghost proper = { ⟦<Members8<A, B, C, D, E, F, G, H> as SchemaRead<L>>⟧.proper };
 
-    ghost reading = { pair_read A.reading (pair_read B.reading (pair_read C.reading (pair_read D.reading (pair_read E.reading (pair_read F.reading (pair_read G.reading H.reading)))))) };
+    ghost reading = { ⟦<Members8<A, B, C, D, E, F, G, H> as SchemaRead<L>>⟧.reading };
 
-    ghost refusal = { IsPlaced (pair_meta A.reading.meta (pair_meta B.reading.meta (pair_meta C.reading.meta (pair_meta D.reading.meta (pair_meta E.reading.meta (pair_meta F.reading.meta (pair_meta G.reading.meta H.reading.meta))))))) };
+    ghost refusal = { IsStaticRefused ⟦<Members8<A, B, C, D, E, F, G, H> as SchemaRead<L>>⟧.reading.meta };
 
     fn type_meta() -> TypeMeta {
         <Members8<A, B, C, D, E, F, G, H> as SchemaRead<L>>::type_meta()
@@ -1042,7 +1271,7 @@ impl<
         reader: &mut R,
         dst: &mut Option<Self::Dst>,
     ) -> ReadResult<()> {
-        let (a, (b, (c, (d, (e, (f, (g, h))))))) = get_whole::<
+        let (a, (b, (c, (d, (e, (f, (g, h))))))) = get_in_window::<
             L,
             Members8<A, B, C, D, E, F, G, H>,
             R,
@@ -1051,7 +1280,9 @@ impl<
         Ok(())
     }
 
-    ghost read_laws = { pair_read_laws A.proper _ A.reading _ A.read_laws (pair_read_laws B.proper _ B.reading _ B.read_laws (pair_read_laws C.proper _ C.reading _ C.read_laws (pair_read_laws D.proper _ D.reading _ D.read_laws (pair_read_laws E.proper _ E.reading _ E.read_laws (pair_read_laws F.proper _ F.reading _ F.read_laws (pair_read_laws G.proper H.proper G.reading H.reading G.read_laws H.read_laws)))))) };
+    ghost read_laws = { pair_read_laws A.read_laws (pair_read_laws B.read_laws (pair_read_laws C.read_laws
+        (pair_read_laws D.read_laws (pair_read_laws E.read_laws (pair_read_laws F.read_laws (pair_read_laws
+        G.read_laws H.read_laws)))))) };
 }
 
 impl<
@@ -1075,5 +1306,7 @@ where
     G::Src: Drop,
     H::Src: Drop,
 {
-    ghost reads_back = { reads_back_by (λ t. (t.0, (t.1, (t.2, (t.3, (t.4, (t.5, (t.6, t.7)))))))) _ _ _ _ _ (pair_reads_back _ _ _ _ _ _ _ _ _ _ A.reads_back (pair_reads_back _ _ _ _ _ _ _ _ _ _ B.reads_back (pair_reads_back _ _ _ _ _ _ _ _ _ _ C.reads_back (pair_reads_back _ _ _ _ _ _ _ _ _ _ D.reads_back (pair_reads_back _ _ _ _ _ _ _ _ _ _ E.reads_back (pair_reads_back _ _ _ _ _ _ _ _ _ _ F.reads_back (pair_reads_back _ _ _ _ _ _ _ _ _ _ G.reads_back H.reads_back))))))) };
+    ghost reads_back = { reads_back_by (λ t. (t.0, (t.1, (t.2, (t.3, (t.4, (t.5, (t.6, t.7)))))))) (pair_reads_back
+        A.reads_back (pair_reads_back B.reads_back (pair_reads_back C.reads_back (pair_reads_back D.reads_back
+        (pair_reads_back E.reads_back (pair_reads_back F.reads_back (pair_reads_back G.reads_back H.reads_back))))))) };
 }

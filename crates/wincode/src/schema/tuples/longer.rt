@@ -1,22 +1,21 @@
-//! Tuples of nine members and more, of the same shape as the shorter ones.
-ghost use Rattle.std.specs.Prelude.{◌≡◌, IfOk, IfErr, OnOk};
-ghost use Rattle.wincode.specs.Pairs.{pair_meta, pair_read, pair_write};
+//! Schemas of tuples of 9 to 12 members.
+ghost use Rattle.std.specs.Prelude.{IfOk, IfErr, OnOk};
 ghost use Rattle.wincode.specs.PairLaws.{pair_read_laws, pair_write_laws, pair_reads_back, write_laws_by, reads_back_by};
-ghost use Rattle.wincode.specs.Outcomes.{Wrote, Unwritten, IsWholeRefused, IsSizeRefused};
-ghost use Rattle.wincode.specs.Wholes.{IsPlaced, is_static};
+ghost use Rattle.wincode.specs.Outcomes.{IsSized, Wrote, Unwritten, IsPieceRefused, IsSizeRefused};
+ghost use Rattle.wincode.specs.InWindow.{IsStaticRefused, is_static};
 
-use super::{Member, Members2, Members8};
+use super::{Member, Members2, Members8, add_size, size_of_members_8};
 use crate::error::{ReadResult, WriteResult};
 use crate::io::{Lending, Reader, Writer};
 use crate::meta::TypeMeta;
-use crate::schema::whole::{get_whole, write_whole};
+use crate::schema::in_window::{get_in_window, write_in_window};
 use crate::schema::{RoundTrip, SchemaRead, SchemaWrite};
 use std::alloc::Global;
 
-type Members9<A, B, C, D, E, F, G, H, I> = Members2<A, Members8<B, C, D, E, F, G, H, I>>;
+pub type Members9<A, B, C, D, E, F, G, H, I> = Members2<A, Members8<B, C, D, E, F, G, H, I>>;
 
-/// The size of 9 members, each seen by a schema of its own.
-fn size_of_9<
+/// The size of 9 members, each seen by a schema of its own: that of a tuple of them.
+pub fn size_of_members_9<
     A: SchemaWrite,
     B: SchemaWrite,
     C: SchemaWrite,
@@ -27,24 +26,28 @@ fn size_of_9<
     H: SchemaWrite,
     I: SchemaWrite,
 >(
-    src: &(
-        A::Src,
-        (
-            B::Src,
-            (
-                C::Src,
-                (D::Src, (E::Src, (F::Src, (G::Src, (H::Src, I::Src))))),
-            ),
-        ),
-    ),
+    a: &A::Src,
+    b: &B::Src,
+    c: &C::Src,
+    d: &D::Src,
+    e: &E::Src,
+    f: &F::Src,
+    g: &G::Src,
+    h: &H::Src,
+    i: &I::Src,
 ) -> WriteResult<usize>
-    ensures ok { IfOk result (λ n. (pair_write A.writing (pair_write B.writing (pair_write C.writing (pair_write D.writing (pair_write E.writing (pair_write F.writing (pair_write G.writing (pair_write H.writing I.writing)))))))).can (A.seen src.now.0, (B.seen src.now.1.0, (C.seen src.now.1.1.0, (D.seen src.now.1.1.1.0, (E.seen src.now.1.1.1.1.0, (F.seen src.now.1.1.1.1.1.0, (G.seen src.now.1.1.1.1.1.1.0, (H.seen src.now.1.1.1.1.1.1.1.0, I.seen src.now.1.1.1.1.1.1.1.1)))))))) × (n ≡ (pair_write A.writing (pair_write B.writing (pair_write C.writing (pair_write D.writing (pair_write E.writing (pair_write F.writing (pair_write G.writing (pair_write H.writing I.writing)))))))).size (A.seen src.now.0, (B.seen src.now.1.0, (C.seen src.now.1.1.0, (D.seen src.now.1.1.1.0, (E.seen src.now.1.1.1.1.0, (F.seen src.now.1.1.1.1.1.0, (G.seen src.now.1.1.1.1.1.1.0, (H.seen src.now.1.1.1.1.1.1.1.0, I.seen src.now.1.1.1.1.1.1.1.1)))))))))) }
-    ensures err { IfErr result (IsSizeRefused (pair_write A.writing (pair_write B.writing (pair_write C.writing (pair_write D.writing (pair_write E.writing (pair_write F.writing (pair_write G.writing (pair_write H.writing I.writing)))))))) (A.seen src.now.0, (B.seen src.now.1.0, (C.seen src.now.1.1.0, (D.seen src.now.1.1.1.0, (E.seen src.now.1.1.1.1.0, (F.seen src.now.1.1.1.1.1.0, (G.seen src.now.1.1.1.1.1.1.0, (H.seen src.now.1.1.1.1.1.1.1.0, I.seen src.now.1.1.1.1.1.1.1.1))))))))) }
+    ensures ok { let tuple = ⟦<(A, B, C, D, E, F, G, H, I) as SchemaWrite>⟧ in IfOk result
+        (IsSized tuple.writing (tuple.seen (a.now, b.now, c.now, d.now, e.now, f.now, g.now, h.now, i.now))) }
+    ensures err { let tuple = ⟦<(A, B, C, D, E, F, G, H, I) as SchemaWrite>⟧ in IfErr result
+        (IsSizeRefused tuple.writing (tuple.seen (a.now, b.now, c.now, d.now, e.now, f.now, g.now, h.now, i.now))) }
 {
-    <Members9<A, B, C, D, E, F, G, H, I> as SchemaWrite>::size_of(src)
+    add_size(
+        A::size_of(a)?,
+        size_of_members_8::<B, C, D, E, F, G, H, I>(b, c, d, e, f, g, h, i)?,
+    )
 }
 
-/// Writes 9 members, each by a schema of its own, through one window where all have one size.
+/// Writes 9 members through one window where all have one size.
 fn write_9<
     A: SchemaWrite,
     B: SchemaWrite,
@@ -69,13 +72,61 @@ fn write_9<
         ),
     ),
 ) -> WriteResult<()>
-    ensures ok { OnOk result (Wrote W.put W.room (pair_write A.writing (pair_write B.writing (pair_write C.writing (pair_write D.writing (pair_write E.writing (pair_write F.writing (pair_write G.writing (pair_write H.writing I.writing)))))))) (W.state writer.old) (W.state writer.new) (A.seen src.now.0, (B.seen src.now.1.0, (C.seen src.now.1.1.0, (D.seen src.now.1.1.1.0, (E.seen src.now.1.1.1.1.0, (F.seen src.now.1.1.1.1.1.0, (G.seen src.now.1.1.1.1.1.1.0, (H.seen src.now.1.1.1.1.1.1.1.0, I.seen src.now.1.1.1.1.1.1.1.1))))))))) }
-    ensures value { OnOk result (A.proper src.now.0 × (B.proper src.now.1.0 × (C.proper src.now.1.1.0 × (D.proper src.now.1.1.1.0 × (E.proper src.now.1.1.1.1.0 × (F.proper src.now.1.1.1.1.1.0 × (G.proper src.now.1.1.1.1.1.1.0 × (H.proper src.now.1.1.1.1.1.1.1.0 × I.proper src.now.1.1.1.1.1.1.1.1)))))))) }
-    ensures err { IfErr result (Unwritten W.put W.room (pair_write A.writing (pair_write B.writing (pair_write C.writing (pair_write D.writing (pair_write E.writing (pair_write F.writing (pair_write G.writing (pair_write H.writing I.writing)))))))) (W.state writer.old) (W.state writer.new) (A.seen src.now.0, (B.seen src.now.1.0, (C.seen src.now.1.1.0, (D.seen src.now.1.1.1.0, (E.seen src.now.1.1.1.1.0, (F.seen src.now.1.1.1.1.1.0, (G.seen src.now.1.1.1.1.1.1.0, (H.seen src.now.1.1.1.1.1.1.1.0, I.seen src.now.1.1.1.1.1.1.1.1)))))))) (W.steady (W.kept writer.old)) (W.failures writer.new)) }
-    ensures whole { IfErr result (IsWholeRefused (is_static (pair_meta A.writing.meta (pair_meta B.writing.meta (pair_meta C.writing.meta (pair_meta D.writing.meta (pair_meta E.writing.meta (pair_meta F.writing.meta (pair_meta G.writing.meta (pair_meta H.writing.meta I.writing.meta))))))))) W.room (pair_write A.writing (pair_write B.writing (pair_write C.writing (pair_write D.writing (pair_write E.writing (pair_write F.writing (pair_write G.writing (pair_write H.writing I.writing)))))))) (W.state writer.old) (W.state writer.new) (A.seen src.now.0, (B.seen src.now.1.0, (C.seen src.now.1.1.0, (D.seen src.now.1.1.1.0, (E.seen src.now.1.1.1.1.0, (F.seen src.now.1.1.1.1.1.0, (G.seen src.now.1.1.1.1.1.1.0, (H.seen src.now.1.1.1.1.1.1.1.0, I.seen src.now.1.1.1.1.1.1.1.1)))))))) (W.steady (W.kept writer.old)) (W.failures writer.new)) }
-    ensures kept { W.kept writer.new ≡ W.kept writer.old }
+    ensures ok { let members = ⟦<Members9<A, B, C, D, E, F, G, H, I> as SchemaWrite>⟧ in OnOk result
+        (Wrote members.writing (W.state writer.old) (W.state writer.new) (members.seen src.now)) }
+    ensures value { OnOk result (⟦<Members9<A, B, C, D, E, F, G, H, I> as SchemaWrite>⟧.proper src.now) }
+    ensures err { let members = ⟦<Members9<A, B, C, D, E, F, G, H, I> as SchemaWrite>⟧ in IfErr result
+        (Unwritten members.writing (W.state writer.old) (W.state writer.new) (members.seen src.now)) }
+    ensures piece { let members = ⟦<Members9<A, B, C, D, E, F, G, H, I> as SchemaWrite>⟧ in IfErr result
+        (IsPieceRefused (is_static members.writing.meta) members.writing (W.state writer.old) (W.state writer.new) (members.seen src.now)) }
 {
-    write_whole::<Members9<A, B, C, D, E, F, G, H, I>, W>(writer, src)
+    write_in_window::<Members9<A, B, C, D, E, F, G, H, I>, W>(writer, src)
+}
+
+/// Writes 9 members, each by a schema of its own, as a tuple of them is written.
+pub fn write_members_9<
+    A: SchemaWrite,
+    B: SchemaWrite,
+    C: SchemaWrite,
+    D: SchemaWrite,
+    E: SchemaWrite,
+    F: SchemaWrite,
+    G: SchemaWrite,
+    H: SchemaWrite,
+    I: SchemaWrite,
+    W: Writer,
+>(
+    writer: &mut W,
+    a: &A::Src,
+    b: &B::Src,
+    c: &C::Src,
+    d: &D::Src,
+    e: &E::Src,
+    f: &F::Src,
+    g: &G::Src,
+    h: &H::Src,
+    i: &I::Src,
+) -> WriteResult<()>
+    ensures ok { let tuple = ⟦<(A, B, C, D, E, F, G, H, I) as SchemaWrite>⟧ in OnOk result
+        (Wrote tuple.writing (W.state writer.old) (W.state writer.new) (tuple.seen (a.now, b.now, c.now, d.now, e.now, f.now, g.now, h.now, i.now))) }
+    ensures value { OnOk result (⟦<(A, B, C, D, E, F, G, H, I) as SchemaWrite>⟧.proper (a.now, b.now, c.now, d.now, e.now, f.now, g.now, h.now, i.now)) }
+    ensures err { let tuple = ⟦<(A, B, C, D, E, F, G, H, I) as SchemaWrite>⟧ in IfErr result
+        (Unwritten tuple.writing (W.state writer.old) (W.state writer.new) (tuple.seen (a.now, b.now, c.now, d.now, e.now, f.now, g.now, h.now, i.now))) }
+    ensures piece { let tuple = ⟦<(A, B, C, D, E, F, G, H, I) as SchemaWrite>⟧ in IfErr result
+        (IsPieceRefused tuple.in_one_piece tuple.writing (W.state writer.old) (W.state writer.new) (tuple.seen (a.now, b.now, c.now, d.now, e.now, f.now, g.now, h.now, i.now))) }
+{
+    write_9::<
+        &Member<A>,
+        &Member<B>,
+        &Member<C>,
+        &Member<D>,
+        &Member<E>,
+        &Member<F>,
+        &Member<G>,
+        &Member<H>,
+        &Member<I>,
+        W,
+    >(writer, &(a, (b, (c, (d, (e, (f, (g, (h, i)))))))))
 }
 
 impl<
@@ -101,71 +152,36 @@ impl<
         I::Src,
     );
 
-    ghost Value = { A.Value × (B.Value × (C.Value × (D.Value × (E.Value × (F.Value × (G.Value × (H.Value × I.Value))))))) };
+    ghost Value = { ⟦<Members9<A, B, C, D, E, F, G, H, I> as SchemaWrite>⟧.Value };
 
-    ghost seen = { λ t. (A.seen t.0, (B.seen t.1, (C.seen t.2, (D.seen t.3, (E.seen t.4, (F.seen t.5, (G.seen t.6, (H.seen t.7, I.seen t.8)))))))) };
+    ghost seen = { λ t. ⟦<Members9<A, B, C, D, E, F, G, H, I> as SchemaWrite>⟧.seen (t.0, (t.1, (t.2, (t.3, (t.4, (t.5, (t.6, (t.7, t.8)))))))) };
 
-    ghost proper = { λ t. A.proper t.0 × (B.proper t.1 × (C.proper t.2 × (D.proper t.3 × (E.proper t.4 × (F.proper t.5 × (G.proper t.6 × (H.proper t.7 × I.proper t.8))))))) };
+    ghost proper = { λ t. ⟦<Members9<A, B, C, D, E, F, G, H, I> as SchemaWrite>⟧.proper (t.0, (t.1, (t.2, (t.3, (t.4, (t.5, (t.6, (t.7, t.8)))))))) };
 
-    ghost writing = { pair_write A.writing (pair_write B.writing (pair_write C.writing (pair_write D.writing (pair_write E.writing (pair_write F.writing (pair_write G.writing (pair_write H.writing I.writing))))))) };
+    ghost writing = { ⟦<Members9<A, B, C, D, E, F, G, H, I> as SchemaWrite>⟧.writing };
 
-    ghost whole = { is_static (pair_meta A.writing.meta (pair_meta B.writing.meta (pair_meta C.writing.meta (pair_meta D.writing.meta (pair_meta E.writing.meta (pair_meta F.writing.meta (pair_meta G.writing.meta (pair_meta H.writing.meta I.writing.meta)))))))) };
+    ghost in_one_piece = { is_static ⟦<Members9<A, B, C, D, E, F, G, H, I> as SchemaWrite>⟧.writing.meta };
 
     fn type_meta() -> TypeMeta {
         <Members9<A, B, C, D, E, F, G, H, I> as SchemaWrite>::type_meta()
     }
 
     fn size_of(src: &Self::Src) -> WriteResult<usize> {
-        size_of_9::<
-            &Member<A>,
-            &Member<B>,
-            &Member<C>,
-            &Member<D>,
-            &Member<E>,
-            &Member<F>,
-            &Member<G>,
-            &Member<H>,
-            &Member<I>,
-        >(&(
-            &src.0,
-            (
-                &src.1,
-                (
-                    &src.2,
-                    (&src.3, (&src.4, (&src.5, (&src.6, (&src.7, &src.8))))),
-                ),
-            ),
-        ))
-    }
-
-    fn write<W: Writer>(writer: &mut W, src: &Self::Src) -> WriteResult<()> {
-        write_9::<
-            &Member<A>,
-            &Member<B>,
-            &Member<C>,
-            &Member<D>,
-            &Member<E>,
-            &Member<F>,
-            &Member<G>,
-            &Member<H>,
-            &Member<I>,
-            W,
-        >(
-            writer,
-            &(
-                &src.0,
-                (
-                    &src.1,
-                    (
-                        &src.2,
-                        (&src.3, (&src.4, (&src.5, (&src.6, (&src.7, &src.8))))),
-                    ),
-                ),
-            ),
+        size_of_members_9::<A, B, C, D, E, F, G, H, I>(
+            &src.0, &src.1, &src.2, &src.3, &src.4, &src.5, &src.6, &src.7, &src.8,
         )
     }
 
-    ghost write_laws = { write_laws_by (λ t. (t.0, (t.1, (t.2, (t.3, (t.4, (t.5, (t.6, (t.7, t.8))))))))) _ _ _ (pair_write_laws A.proper _ A.seen _ A.writing _ A.write_laws (pair_write_laws B.proper _ B.seen _ B.writing _ B.write_laws (pair_write_laws C.proper _ C.seen _ C.writing _ C.write_laws (pair_write_laws D.proper _ D.seen _ D.writing _ D.write_laws (pair_write_laws E.proper _ E.seen _ E.writing _ E.write_laws (pair_write_laws F.proper _ F.seen _ F.writing _ F.write_laws (pair_write_laws G.proper _ G.seen _ G.writing _ G.write_laws (pair_write_laws H.proper I.proper H.seen I.seen H.writing I.writing H.write_laws I.write_laws)))))))) };
+    fn write<W: Writer>(writer: &mut W, src: &Self::Src) -> WriteResult<()> {
+        write_members_9::<A, B, C, D, E, F, G, H, I, W>(
+            writer, &src.0, &src.1, &src.2, &src.3, &src.4, &src.5, &src.6, &src.7, &src.8,
+        )
+    }
+
+    ghost write_laws = { write_laws_by (λ t. (t.0, (t.1, (t.2, (t.3, (t.4, (t.5, (t.6, (t.7, t.8)))))))))
+        (pair_write_laws A.write_laws (pair_write_laws B.write_laws (pair_write_laws C.write_laws (pair_write_laws
+        D.write_laws (pair_write_laws E.write_laws (pair_write_laws F.write_laws (pair_write_laws G.write_laws
+        (pair_write_laws H.write_laws I.write_laws)))))))) };
 }
 
 impl<
@@ -192,15 +208,15 @@ impl<
         I::Dst,
     );
 
-    ghost Value = { A.Value × (B.Value × (C.Value × (D.Value × (E.Value × (F.Value × (G.Value × (H.Value × I.Value))))))) };
+    ghost Value = { ⟦<Members9<A, B, C, D, E, F, G, H, I> as SchemaRead<L>>⟧.Value };
 
-    ghost seen = { λ t. (A.seen t.0, (B.seen t.1, (C.seen t.2, (D.seen t.3, (E.seen t.4, (F.seen t.5, (G.seen t.6, (H.seen t.7, I.seen t.8)))))))) };
+    ghost seen = { λ t. ⟦<Members9<A, B, C, D, E, F, G, H, I> as SchemaRead<L>>⟧.seen (t.0, (t.1, (t.2, (t.3, (t.4, (t.5, (t.6, (t.7, t.8)))))))) };
 
-    ghost proper = { λ v. A.proper v.0 × (B.proper v.1.0 × (C.proper v.1.1.0 × (D.proper v.1.1.1.0 × (E.proper v.1.1.1.1.0 × (F.proper v.1.1.1.1.1.0 × (G.proper v.1.1.1.1.1.1.0 × (H.proper v.1.1.1.1.1.1.1.0 × I.proper v.1.1.1.1.1.1.1.1))))))) };
+    ghost proper = { ⟦<Members9<A, B, C, D, E, F, G, H, I> as SchemaRead<L>>⟧.proper };
 
-    ghost reading = { pair_read A.reading (pair_read B.reading (pair_read C.reading (pair_read D.reading (pair_read E.reading (pair_read F.reading (pair_read G.reading (pair_read H.reading I.reading))))))) };
+    ghost reading = { ⟦<Members9<A, B, C, D, E, F, G, H, I> as SchemaRead<L>>⟧.reading };
 
-    ghost refusal = { IsPlaced (pair_meta A.reading.meta (pair_meta B.reading.meta (pair_meta C.reading.meta (pair_meta D.reading.meta (pair_meta E.reading.meta (pair_meta F.reading.meta (pair_meta G.reading.meta (pair_meta H.reading.meta I.reading.meta)))))))) };
+    ghost refusal = { IsStaticRefused ⟦<Members9<A, B, C, D, E, F, G, H, I> as SchemaRead<L>>⟧.reading.meta };
 
     fn type_meta() -> TypeMeta {
         <Members9<A, B, C, D, E, F, G, H, I> as SchemaRead<L>>::type_meta()
@@ -215,7 +231,7 @@ impl<
         reader: &mut R,
         dst: &mut Option<Self::Dst>,
     ) -> ReadResult<()> {
-        let (a, (b, (c, (d, (e, (f, (g, (h, i)))))))) = get_whole::<
+        let (a, (b, (c, (d, (e, (f, (g, (h, i)))))))) = get_in_window::<
             L,
             Members9<A, B, C, D, E, F, G, H, I>,
             R,
@@ -224,7 +240,9 @@ impl<
         Ok(())
     }
 
-    ghost read_laws = { pair_read_laws A.proper _ A.reading _ A.read_laws (pair_read_laws B.proper _ B.reading _ B.read_laws (pair_read_laws C.proper _ C.reading _ C.read_laws (pair_read_laws D.proper _ D.reading _ D.read_laws (pair_read_laws E.proper _ E.reading _ E.read_laws (pair_read_laws F.proper _ F.reading _ F.read_laws (pair_read_laws G.proper _ G.reading _ G.read_laws (pair_read_laws H.proper I.proper H.reading I.reading H.read_laws I.read_laws))))))) };
+    ghost read_laws = { pair_read_laws A.read_laws (pair_read_laws B.read_laws (pair_read_laws C.read_laws
+        (pair_read_laws D.read_laws (pair_read_laws E.read_laws (pair_read_laws F.read_laws (pair_read_laws
+        G.read_laws (pair_read_laws H.read_laws I.read_laws))))))) };
 }
 
 impl<
@@ -250,13 +268,16 @@ where
     H::Src: Drop,
     I::Src: Drop,
 {
-    ghost reads_back = { reads_back_by (λ t. (t.0, (t.1, (t.2, (t.3, (t.4, (t.5, (t.6, (t.7, t.8))))))))) _ _ _ _ _ (pair_reads_back _ _ _ _ _ _ _ _ _ _ A.reads_back (pair_reads_back _ _ _ _ _ _ _ _ _ _ B.reads_back (pair_reads_back _ _ _ _ _ _ _ _ _ _ C.reads_back (pair_reads_back _ _ _ _ _ _ _ _ _ _ D.reads_back (pair_reads_back _ _ _ _ _ _ _ _ _ _ E.reads_back (pair_reads_back _ _ _ _ _ _ _ _ _ _ F.reads_back (pair_reads_back _ _ _ _ _ _ _ _ _ _ G.reads_back (pair_reads_back _ _ _ _ _ _ _ _ _ _ H.reads_back I.reads_back)))))))) };
+    ghost reads_back = { reads_back_by (λ t. (t.0, (t.1, (t.2, (t.3, (t.4, (t.5, (t.6, (t.7, t.8)))))))))
+        (pair_reads_back A.reads_back (pair_reads_back B.reads_back (pair_reads_back C.reads_back (pair_reads_back
+        D.reads_back (pair_reads_back E.reads_back (pair_reads_back F.reads_back (pair_reads_back G.reads_back
+        (pair_reads_back H.reads_back I.reads_back)))))))) };
 }
 
-type Members10<A, B, C, D, E, F, G, H, I, J> = Members2<A, Members9<B, C, D, E, F, G, H, I, J>>;
+pub type Members10<A, B, C, D, E, F, G, H, I, J> = Members2<A, Members9<B, C, D, E, F, G, H, I, J>>;
 
-/// The size of 10 members, each seen by a schema of its own.
-fn size_of_10<
+/// The size of 10 members, each seen by a schema of its own: that of a tuple of them.
+pub fn size_of_members_10<
     A: SchemaWrite,
     B: SchemaWrite,
     C: SchemaWrite,
@@ -268,27 +289,29 @@ fn size_of_10<
     I: SchemaWrite,
     J: SchemaWrite,
 >(
-    src: &(
-        A::Src,
-        (
-            B::Src,
-            (
-                C::Src,
-                (
-                    D::Src,
-                    (E::Src, (F::Src, (G::Src, (H::Src, (I::Src, J::Src))))),
-                ),
-            ),
-        ),
-    ),
+    a: &A::Src,
+    b: &B::Src,
+    c: &C::Src,
+    d: &D::Src,
+    e: &E::Src,
+    f: &F::Src,
+    g: &G::Src,
+    h: &H::Src,
+    i: &I::Src,
+    j: &J::Src,
 ) -> WriteResult<usize>
-    ensures ok { IfOk result (λ n. (pair_write A.writing (pair_write B.writing (pair_write C.writing (pair_write D.writing (pair_write E.writing (pair_write F.writing (pair_write G.writing (pair_write H.writing (pair_write I.writing J.writing))))))))).can (A.seen src.now.0, (B.seen src.now.1.0, (C.seen src.now.1.1.0, (D.seen src.now.1.1.1.0, (E.seen src.now.1.1.1.1.0, (F.seen src.now.1.1.1.1.1.0, (G.seen src.now.1.1.1.1.1.1.0, (H.seen src.now.1.1.1.1.1.1.1.0, (I.seen src.now.1.1.1.1.1.1.1.1.0, J.seen src.now.1.1.1.1.1.1.1.1.1))))))))) × (n ≡ (pair_write A.writing (pair_write B.writing (pair_write C.writing (pair_write D.writing (pair_write E.writing (pair_write F.writing (pair_write G.writing (pair_write H.writing (pair_write I.writing J.writing))))))))).size (A.seen src.now.0, (B.seen src.now.1.0, (C.seen src.now.1.1.0, (D.seen src.now.1.1.1.0, (E.seen src.now.1.1.1.1.0, (F.seen src.now.1.1.1.1.1.0, (G.seen src.now.1.1.1.1.1.1.0, (H.seen src.now.1.1.1.1.1.1.1.0, (I.seen src.now.1.1.1.1.1.1.1.1.0, J.seen src.now.1.1.1.1.1.1.1.1.1))))))))))) }
-    ensures err { IfErr result (IsSizeRefused (pair_write A.writing (pair_write B.writing (pair_write C.writing (pair_write D.writing (pair_write E.writing (pair_write F.writing (pair_write G.writing (pair_write H.writing (pair_write I.writing J.writing))))))))) (A.seen src.now.0, (B.seen src.now.1.0, (C.seen src.now.1.1.0, (D.seen src.now.1.1.1.0, (E.seen src.now.1.1.1.1.0, (F.seen src.now.1.1.1.1.1.0, (G.seen src.now.1.1.1.1.1.1.0, (H.seen src.now.1.1.1.1.1.1.1.0, (I.seen src.now.1.1.1.1.1.1.1.1.0, J.seen src.now.1.1.1.1.1.1.1.1.1)))))))))) }
+    ensures ok { let tuple = ⟦<(A, B, C, D, E, F, G, H, I, J) as SchemaWrite>⟧ in IfOk result
+        (IsSized tuple.writing (tuple.seen (a.now, b.now, c.now, d.now, e.now, f.now, g.now, h.now, i.now, j.now))) }
+    ensures err { let tuple = ⟦<(A, B, C, D, E, F, G, H, I, J) as SchemaWrite>⟧ in IfErr result
+        (IsSizeRefused tuple.writing (tuple.seen (a.now, b.now, c.now, d.now, e.now, f.now, g.now, h.now, i.now, j.now))) }
 {
-    <Members10<A, B, C, D, E, F, G, H, I, J> as SchemaWrite>::size_of(src)
+    add_size(
+        A::size_of(a)?,
+        size_of_members_9::<B, C, D, E, F, G, H, I, J>(b, c, d, e, f, g, h, i, j)?,
+    )
 }
 
-/// Writes 10 members, each by a schema of its own, through one window where all have one size.
+/// Writes 10 members through one window where all have one size.
 fn write_10<
     A: SchemaWrite,
     B: SchemaWrite,
@@ -317,13 +340,64 @@ fn write_10<
         ),
     ),
 ) -> WriteResult<()>
-    ensures ok { OnOk result (Wrote W.put W.room (pair_write A.writing (pair_write B.writing (pair_write C.writing (pair_write D.writing (pair_write E.writing (pair_write F.writing (pair_write G.writing (pair_write H.writing (pair_write I.writing J.writing))))))))) (W.state writer.old) (W.state writer.new) (A.seen src.now.0, (B.seen src.now.1.0, (C.seen src.now.1.1.0, (D.seen src.now.1.1.1.0, (E.seen src.now.1.1.1.1.0, (F.seen src.now.1.1.1.1.1.0, (G.seen src.now.1.1.1.1.1.1.0, (H.seen src.now.1.1.1.1.1.1.1.0, (I.seen src.now.1.1.1.1.1.1.1.1.0, J.seen src.now.1.1.1.1.1.1.1.1.1)))))))))) }
-    ensures value { OnOk result (A.proper src.now.0 × (B.proper src.now.1.0 × (C.proper src.now.1.1.0 × (D.proper src.now.1.1.1.0 × (E.proper src.now.1.1.1.1.0 × (F.proper src.now.1.1.1.1.1.0 × (G.proper src.now.1.1.1.1.1.1.0 × (H.proper src.now.1.1.1.1.1.1.1.0 × (I.proper src.now.1.1.1.1.1.1.1.1.0 × J.proper src.now.1.1.1.1.1.1.1.1.1))))))))) }
-    ensures err { IfErr result (Unwritten W.put W.room (pair_write A.writing (pair_write B.writing (pair_write C.writing (pair_write D.writing (pair_write E.writing (pair_write F.writing (pair_write G.writing (pair_write H.writing (pair_write I.writing J.writing))))))))) (W.state writer.old) (W.state writer.new) (A.seen src.now.0, (B.seen src.now.1.0, (C.seen src.now.1.1.0, (D.seen src.now.1.1.1.0, (E.seen src.now.1.1.1.1.0, (F.seen src.now.1.1.1.1.1.0, (G.seen src.now.1.1.1.1.1.1.0, (H.seen src.now.1.1.1.1.1.1.1.0, (I.seen src.now.1.1.1.1.1.1.1.1.0, J.seen src.now.1.1.1.1.1.1.1.1.1))))))))) (W.steady (W.kept writer.old)) (W.failures writer.new)) }
-    ensures whole { IfErr result (IsWholeRefused (is_static (pair_meta A.writing.meta (pair_meta B.writing.meta (pair_meta C.writing.meta (pair_meta D.writing.meta (pair_meta E.writing.meta (pair_meta F.writing.meta (pair_meta G.writing.meta (pair_meta H.writing.meta (pair_meta I.writing.meta J.writing.meta)))))))))) W.room (pair_write A.writing (pair_write B.writing (pair_write C.writing (pair_write D.writing (pair_write E.writing (pair_write F.writing (pair_write G.writing (pair_write H.writing (pair_write I.writing J.writing))))))))) (W.state writer.old) (W.state writer.new) (A.seen src.now.0, (B.seen src.now.1.0, (C.seen src.now.1.1.0, (D.seen src.now.1.1.1.0, (E.seen src.now.1.1.1.1.0, (F.seen src.now.1.1.1.1.1.0, (G.seen src.now.1.1.1.1.1.1.0, (H.seen src.now.1.1.1.1.1.1.1.0, (I.seen src.now.1.1.1.1.1.1.1.1.0, J.seen src.now.1.1.1.1.1.1.1.1.1))))))))) (W.steady (W.kept writer.old)) (W.failures writer.new)) }
-    ensures kept { W.kept writer.new ≡ W.kept writer.old }
+    ensures ok { let members = ⟦<Members10<A, B, C, D, E, F, G, H, I, J> as SchemaWrite>⟧ in OnOk result
+        (Wrote members.writing (W.state writer.old) (W.state writer.new) (members.seen src.now)) }
+    ensures value { OnOk result (⟦<Members10<A, B, C, D, E, F, G, H, I, J> as SchemaWrite>⟧.proper src.now) }
+    ensures err { let members = ⟦<Members10<A, B, C, D, E, F, G, H, I, J> as SchemaWrite>⟧ in IfErr result
+        (Unwritten members.writing (W.state writer.old) (W.state writer.new) (members.seen src.now)) }
+    ensures piece { let members = ⟦<Members10<A, B, C, D, E, F, G, H, I, J> as SchemaWrite>⟧ in IfErr result
+        (IsPieceRefused (is_static members.writing.meta) members.writing (W.state writer.old) (W.state writer.new) (members.seen src.now)) }
 {
-    write_whole::<Members10<A, B, C, D, E, F, G, H, I, J>, W>(writer, src)
+    write_in_window::<Members10<A, B, C, D, E, F, G, H, I, J>, W>(writer, src)
+}
+
+/// Writes 10 members, each by a schema of its own, as a tuple of them is written.
+pub fn write_members_10<
+    A: SchemaWrite,
+    B: SchemaWrite,
+    C: SchemaWrite,
+    D: SchemaWrite,
+    E: SchemaWrite,
+    F: SchemaWrite,
+    G: SchemaWrite,
+    H: SchemaWrite,
+    I: SchemaWrite,
+    J: SchemaWrite,
+    W: Writer,
+>(
+    writer: &mut W,
+    a: &A::Src,
+    b: &B::Src,
+    c: &C::Src,
+    d: &D::Src,
+    e: &E::Src,
+    f: &F::Src,
+    g: &G::Src,
+    h: &H::Src,
+    i: &I::Src,
+    j: &J::Src,
+) -> WriteResult<()>
+    ensures ok { let tuple = ⟦<(A, B, C, D, E, F, G, H, I, J) as SchemaWrite>⟧ in OnOk result
+        (Wrote tuple.writing (W.state writer.old) (W.state writer.new) (tuple.seen (a.now, b.now, c.now, d.now, e.now, f.now, g.now, h.now, i.now, j.now))) }
+    ensures value { OnOk result (⟦<(A, B, C, D, E, F, G, H, I, J) as SchemaWrite>⟧.proper (a.now, b.now, c.now, d.now, e.now, f.now, g.now, h.now, i.now, j.now)) }
+    ensures err { let tuple = ⟦<(A, B, C, D, E, F, G, H, I, J) as SchemaWrite>⟧ in IfErr result
+        (Unwritten tuple.writing (W.state writer.old) (W.state writer.new) (tuple.seen (a.now, b.now, c.now, d.now, e.now, f.now, g.now, h.now, i.now, j.now))) }
+    ensures piece { let tuple = ⟦<(A, B, C, D, E, F, G, H, I, J) as SchemaWrite>⟧ in IfErr result
+        (IsPieceRefused tuple.in_one_piece tuple.writing (W.state writer.old) (W.state writer.new) (tuple.seen (a.now, b.now, c.now, d.now, e.now, f.now, g.now, h.now, i.now, j.now))) }
+{
+    write_10::<
+        &Member<A>,
+        &Member<B>,
+        &Member<C>,
+        &Member<D>,
+        &Member<E>,
+        &Member<F>,
+        &Member<G>,
+        &Member<H>,
+        &Member<I>,
+        &Member<J>,
+        W,
+    >(writer, &(a, (b, (c, (d, (e, (f, (g, (h, (i, j))))))))))
 }
 
 impl<
@@ -351,79 +425,36 @@ impl<
         J::Src,
     );
 
-    ghost Value = { A.Value × (B.Value × (C.Value × (D.Value × (E.Value × (F.Value × (G.Value × (H.Value × (I.Value × J.Value)))))))) };
+    ghost Value = { ⟦<Members10<A, B, C, D, E, F, G, H, I, J> as SchemaWrite>⟧.Value };
 
-    ghost seen = { λ t. (A.seen t.0, (B.seen t.1, (C.seen t.2, (D.seen t.3, (E.seen t.4, (F.seen t.5, (G.seen t.6, (H.seen t.7, (I.seen t.8, J.seen t.9))))))))) };
+    ghost seen = { λ t. ⟦<Members10<A, B, C, D, E, F, G, H, I, J> as SchemaWrite>⟧.seen (t.0, (t.1, (t.2, (t.3, (t.4, (t.5, (t.6, (t.7, (t.8, t.9))))))))) };
 
-    ghost proper = { λ t. A.proper t.0 × (B.proper t.1 × (C.proper t.2 × (D.proper t.3 × (E.proper t.4 × (F.proper t.5 × (G.proper t.6 × (H.proper t.7 × (I.proper t.8 × J.proper t.9)))))))) };
+    ghost proper = { λ t. ⟦<Members10<A, B, C, D, E, F, G, H, I, J> as SchemaWrite>⟧.proper (t.0, (t.1, (t.2, (t.3, (t.4, (t.5, (t.6, (t.7, (t.8, t.9))))))))) };
 
-    ghost writing = { pair_write A.writing (pair_write B.writing (pair_write C.writing (pair_write D.writing (pair_write E.writing (pair_write F.writing (pair_write G.writing (pair_write H.writing (pair_write I.writing J.writing)))))))) };
+    ghost writing = { ⟦<Members10<A, B, C, D, E, F, G, H, I, J> as SchemaWrite>⟧.writing };
 
-    ghost whole = { is_static (pair_meta A.writing.meta (pair_meta B.writing.meta (pair_meta C.writing.meta (pair_meta D.writing.meta (pair_meta E.writing.meta (pair_meta F.writing.meta (pair_meta G.writing.meta (pair_meta H.writing.meta (pair_meta I.writing.meta J.writing.meta))))))))) };
+    ghost in_one_piece = { is_static ⟦<Members10<A, B, C, D, E, F, G, H, I, J> as SchemaWrite>⟧.writing.meta };
 
     fn type_meta() -> TypeMeta {
         <Members10<A, B, C, D, E, F, G, H, I, J> as SchemaWrite>::type_meta()
     }
 
     fn size_of(src: &Self::Src) -> WriteResult<usize> {
-        size_of_10::<
-            &Member<A>,
-            &Member<B>,
-            &Member<C>,
-            &Member<D>,
-            &Member<E>,
-            &Member<F>,
-            &Member<G>,
-            &Member<H>,
-            &Member<I>,
-            &Member<J>,
-        >(&(
-            &src.0,
-            (
-                &src.1,
-                (
-                    &src.2,
-                    (
-                        &src.3,
-                        (&src.4, (&src.5, (&src.6, (&src.7, (&src.8, &src.9))))),
-                    ),
-                ),
-            ),
-        ))
-    }
-
-    fn write<W: Writer>(writer: &mut W, src: &Self::Src) -> WriteResult<()> {
-        write_10::<
-            &Member<A>,
-            &Member<B>,
-            &Member<C>,
-            &Member<D>,
-            &Member<E>,
-            &Member<F>,
-            &Member<G>,
-            &Member<H>,
-            &Member<I>,
-            &Member<J>,
-            W,
-        >(
-            writer,
-            &(
-                &src.0,
-                (
-                    &src.1,
-                    (
-                        &src.2,
-                        (
-                            &src.3,
-                            (&src.4, (&src.5, (&src.6, (&src.7, (&src.8, &src.9))))),
-                        ),
-                    ),
-                ),
-            ),
+        size_of_members_10::<A, B, C, D, E, F, G, H, I, J>(
+            &src.0, &src.1, &src.2, &src.3, &src.4, &src.5, &src.6, &src.7, &src.8, &src.9,
         )
     }
 
-    ghost write_laws = { write_laws_by (λ t. (t.0, (t.1, (t.2, (t.3, (t.4, (t.5, (t.6, (t.7, (t.8, t.9)))))))))) _ _ _ (pair_write_laws A.proper _ A.seen _ A.writing _ A.write_laws (pair_write_laws B.proper _ B.seen _ B.writing _ B.write_laws (pair_write_laws C.proper _ C.seen _ C.writing _ C.write_laws (pair_write_laws D.proper _ D.seen _ D.writing _ D.write_laws (pair_write_laws E.proper _ E.seen _ E.writing _ E.write_laws (pair_write_laws F.proper _ F.seen _ F.writing _ F.write_laws (pair_write_laws G.proper _ G.seen _ G.writing _ G.write_laws (pair_write_laws H.proper _ H.seen _ H.writing _ H.write_laws (pair_write_laws I.proper J.proper I.seen J.seen I.writing J.writing I.write_laws J.write_laws))))))))) };
+    fn write<W: Writer>(writer: &mut W, src: &Self::Src) -> WriteResult<()> {
+        write_members_10::<A, B, C, D, E, F, G, H, I, J, W>(
+            writer, &src.0, &src.1, &src.2, &src.3, &src.4, &src.5, &src.6, &src.7, &src.8, &src.9,
+        )
+    }
+
+    ghost write_laws = { write_laws_by (λ t. (t.0, (t.1, (t.2, (t.3, (t.4, (t.5, (t.6, (t.7, (t.8, t.9))))))))))
+        (pair_write_laws A.write_laws (pair_write_laws B.write_laws (pair_write_laws C.write_laws (pair_write_laws
+        D.write_laws (pair_write_laws E.write_laws (pair_write_laws F.write_laws (pair_write_laws G.write_laws
+        (pair_write_laws H.write_laws (pair_write_laws I.write_laws J.write_laws))))))))) };
 }
 
 impl<
@@ -452,15 +483,15 @@ impl<
         J::Dst,
     );
 
-    ghost Value = { A.Value × (B.Value × (C.Value × (D.Value × (E.Value × (F.Value × (G.Value × (H.Value × (I.Value × J.Value)))))))) };
+    ghost Value = { ⟦<Members10<A, B, C, D, E, F, G, H, I, J> as SchemaRead<L>>⟧.Value };
 
-    ghost seen = { λ t. (A.seen t.0, (B.seen t.1, (C.seen t.2, (D.seen t.3, (E.seen t.4, (F.seen t.5, (G.seen t.6, (H.seen t.7, (I.seen t.8, J.seen t.9))))))))) };
+    ghost seen = { λ t. ⟦<Members10<A, B, C, D, E, F, G, H, I, J> as SchemaRead<L>>⟧.seen (t.0, (t.1, (t.2, (t.3, (t.4, (t.5, (t.6, (t.7, (t.8, t.9))))))))) };
 
-    ghost proper = { λ v. A.proper v.0 × (B.proper v.1.0 × (C.proper v.1.1.0 × (D.proper v.1.1.1.0 × (E.proper v.1.1.1.1.0 × (F.proper v.1.1.1.1.1.0 × (G.proper v.1.1.1.1.1.1.0 × (H.proper v.1.1.1.1.1.1.1.0 × (I.proper v.1.1.1.1.1.1.1.1.0 × J.proper v.1.1.1.1.1.1.1.1.1)))))))) };
+    ghost proper = { ⟦<Members10<A, B, C, D, E, F, G, H, I, J> as SchemaRead<L>>⟧.proper };
 
-    ghost reading = { pair_read A.reading (pair_read B.reading (pair_read C.reading (pair_read D.reading (pair_read E.reading (pair_read F.reading (pair_read G.reading (pair_read H.reading (pair_read I.reading J.reading)))))))) };
+    ghost reading = { ⟦<Members10<A, B, C, D, E, F, G, H, I, J> as SchemaRead<L>>⟧.reading };
 
-    ghost refusal = { IsPlaced (pair_meta A.reading.meta (pair_meta B.reading.meta (pair_meta C.reading.meta (pair_meta D.reading.meta (pair_meta E.reading.meta (pair_meta F.reading.meta (pair_meta G.reading.meta (pair_meta H.reading.meta (pair_meta I.reading.meta J.reading.meta))))))))) };
+    ghost refusal = { IsStaticRefused ⟦<Members10<A, B, C, D, E, F, G, H, I, J> as SchemaRead<L>>⟧.reading.meta };
 
     fn type_meta() -> TypeMeta {
         <Members10<A, B, C, D, E, F, G, H, I, J> as SchemaRead<L>>::type_meta()
@@ -475,7 +506,7 @@ impl<
         reader: &mut R,
         dst: &mut Option<Self::Dst>,
     ) -> ReadResult<()> {
-        let (a, (b, (c, (d, (e, (f, (g, (h, (i, j))))))))) = get_whole::<
+        let (a, (b, (c, (d, (e, (f, (g, (h, (i, j))))))))) = get_in_window::<
             L,
             Members10<A, B, C, D, E, F, G, H, I, J>,
             R,
@@ -484,7 +515,9 @@ impl<
         Ok(())
     }
 
-    ghost read_laws = { pair_read_laws A.proper _ A.reading _ A.read_laws (pair_read_laws B.proper _ B.reading _ B.read_laws (pair_read_laws C.proper _ C.reading _ C.read_laws (pair_read_laws D.proper _ D.reading _ D.read_laws (pair_read_laws E.proper _ E.reading _ E.read_laws (pair_read_laws F.proper _ F.reading _ F.read_laws (pair_read_laws G.proper _ G.reading _ G.read_laws (pair_read_laws H.proper _ H.reading _ H.read_laws (pair_read_laws I.proper J.proper I.reading J.reading I.read_laws J.read_laws)))))))) };
+    ghost read_laws = { pair_read_laws A.read_laws (pair_read_laws B.read_laws (pair_read_laws C.read_laws
+        (pair_read_laws D.read_laws (pair_read_laws E.read_laws (pair_read_laws F.read_laws (pair_read_laws
+        G.read_laws (pair_read_laws H.read_laws (pair_read_laws I.read_laws J.read_laws)))))))) };
 }
 
 impl<
@@ -512,16 +545,19 @@ where
     I::Src: Drop,
     J::Src: Drop,
 {
-    ghost reads_back = { reads_back_by (λ t. (t.0, (t.1, (t.2, (t.3, (t.4, (t.5, (t.6, (t.7, (t.8, t.9)))))))))) _ _ _ _ _ (pair_reads_back _ _ _ _ _ _ _ _ _ _ A.reads_back (pair_reads_back _ _ _ _ _ _ _ _ _ _ B.reads_back (pair_reads_back _ _ _ _ _ _ _ _ _ _ C.reads_back (pair_reads_back _ _ _ _ _ _ _ _ _ _ D.reads_back (pair_reads_back _ _ _ _ _ _ _ _ _ _ E.reads_back (pair_reads_back _ _ _ _ _ _ _ _ _ _ F.reads_back (pair_reads_back _ _ _ _ _ _ _ _ _ _ G.reads_back (pair_reads_back _ _ _ _ _ _ _ _ _ _ H.reads_back (pair_reads_back _ _ _ _ _ _ _ _ _ _ I.reads_back J.reads_back))))))))) };
+    ghost reads_back = { reads_back_by (λ t. (t.0, (t.1, (t.2, (t.3, (t.4, (t.5, (t.6, (t.7, (t.8, t.9))))))))))
+        (pair_reads_back A.reads_back (pair_reads_back B.reads_back (pair_reads_back C.reads_back (pair_reads_back
+        D.reads_back (pair_reads_back E.reads_back (pair_reads_back F.reads_back (pair_reads_back G.reads_back
+        (pair_reads_back H.reads_back (pair_reads_back I.reads_back J.reads_back))))))))) };
 }
 
-type Members11<A, B, C, D, E, F, G, H, I, J, K> = Members2<
+pub type Members11<A, B, C, D, E, F, G, H, I, J, K> = Members2<
     A,
     Members10<B, C, D, E, F, G, H, I, J, K>,
 >;
 
-/// The size of 11 members, each seen by a schema of its own.
-fn size_of_11<
+/// The size of 11 members, each seen by a schema of its own: that of a tuple of them.
+pub fn size_of_members_11<
     A: SchemaWrite,
     B: SchemaWrite,
     C: SchemaWrite,
@@ -534,30 +570,30 @@ fn size_of_11<
     J: SchemaWrite,
     K: SchemaWrite,
 >(
-    src: &(
-        A::Src,
-        (
-            B::Src,
-            (
-                C::Src,
-                (
-                    D::Src,
-                    (
-                        E::Src,
-                        (F::Src, (G::Src, (H::Src, (I::Src, (J::Src, K::Src))))),
-                    ),
-                ),
-            ),
-        ),
-    ),
+    a: &A::Src,
+    b: &B::Src,
+    c: &C::Src,
+    d: &D::Src,
+    e: &E::Src,
+    f: &F::Src,
+    g: &G::Src,
+    h: &H::Src,
+    i: &I::Src,
+    j: &J::Src,
+    k: &K::Src,
 ) -> WriteResult<usize>
-    ensures ok { IfOk result (λ n. (pair_write A.writing (pair_write B.writing (pair_write C.writing (pair_write D.writing (pair_write E.writing (pair_write F.writing (pair_write G.writing (pair_write H.writing (pair_write I.writing (pair_write J.writing K.writing)))))))))).can (A.seen src.now.0, (B.seen src.now.1.0, (C.seen src.now.1.1.0, (D.seen src.now.1.1.1.0, (E.seen src.now.1.1.1.1.0, (F.seen src.now.1.1.1.1.1.0, (G.seen src.now.1.1.1.1.1.1.0, (H.seen src.now.1.1.1.1.1.1.1.0, (I.seen src.now.1.1.1.1.1.1.1.1.0, (J.seen src.now.1.1.1.1.1.1.1.1.1.0, K.seen src.now.1.1.1.1.1.1.1.1.1.1)))))))))) × (n ≡ (pair_write A.writing (pair_write B.writing (pair_write C.writing (pair_write D.writing (pair_write E.writing (pair_write F.writing (pair_write G.writing (pair_write H.writing (pair_write I.writing (pair_write J.writing K.writing)))))))))).size (A.seen src.now.0, (B.seen src.now.1.0, (C.seen src.now.1.1.0, (D.seen src.now.1.1.1.0, (E.seen src.now.1.1.1.1.0, (F.seen src.now.1.1.1.1.1.0, (G.seen src.now.1.1.1.1.1.1.0, (H.seen src.now.1.1.1.1.1.1.1.0, (I.seen src.now.1.1.1.1.1.1.1.1.0, (J.seen src.now.1.1.1.1.1.1.1.1.1.0, K.seen src.now.1.1.1.1.1.1.1.1.1.1)))))))))))) }
-    ensures err { IfErr result (IsSizeRefused (pair_write A.writing (pair_write B.writing (pair_write C.writing (pair_write D.writing (pair_write E.writing (pair_write F.writing (pair_write G.writing (pair_write H.writing (pair_write I.writing (pair_write J.writing K.writing)))))))))) (A.seen src.now.0, (B.seen src.now.1.0, (C.seen src.now.1.1.0, (D.seen src.now.1.1.1.0, (E.seen src.now.1.1.1.1.0, (F.seen src.now.1.1.1.1.1.0, (G.seen src.now.1.1.1.1.1.1.0, (H.seen src.now.1.1.1.1.1.1.1.0, (I.seen src.now.1.1.1.1.1.1.1.1.0, (J.seen src.now.1.1.1.1.1.1.1.1.1.0, K.seen src.now.1.1.1.1.1.1.1.1.1.1))))))))))) }
+    ensures ok { let tuple = ⟦<(A, B, C, D, E, F, G, H, I, J, K) as SchemaWrite>⟧ in IfOk result
+        (IsSized tuple.writing (tuple.seen (a.now, b.now, c.now, d.now, e.now, f.now, g.now, h.now, i.now, j.now, k.now))) }
+    ensures err { let tuple = ⟦<(A, B, C, D, E, F, G, H, I, J, K) as SchemaWrite>⟧ in IfErr result
+        (IsSizeRefused tuple.writing (tuple.seen (a.now, b.now, c.now, d.now, e.now, f.now, g.now, h.now, i.now, j.now, k.now))) }
 {
-    <Members11<A, B, C, D, E, F, G, H, I, J, K> as SchemaWrite>::size_of(src)
+    add_size(
+        A::size_of(a)?,
+        size_of_members_10::<B, C, D, E, F, G, H, I, J, K>(b, c, d, e, f, g, h, i, j, k)?,
+    )
 }
 
-/// Writes 11 members, each by a schema of its own, through one window where all have one size.
+/// Writes 11 members through one window where all have one size.
 fn write_11<
     A: SchemaWrite,
     B: SchemaWrite,
@@ -590,13 +626,67 @@ fn write_11<
         ),
     ),
 ) -> WriteResult<()>
-    ensures ok { OnOk result (Wrote W.put W.room (pair_write A.writing (pair_write B.writing (pair_write C.writing (pair_write D.writing (pair_write E.writing (pair_write F.writing (pair_write G.writing (pair_write H.writing (pair_write I.writing (pair_write J.writing K.writing)))))))))) (W.state writer.old) (W.state writer.new) (A.seen src.now.0, (B.seen src.now.1.0, (C.seen src.now.1.1.0, (D.seen src.now.1.1.1.0, (E.seen src.now.1.1.1.1.0, (F.seen src.now.1.1.1.1.1.0, (G.seen src.now.1.1.1.1.1.1.0, (H.seen src.now.1.1.1.1.1.1.1.0, (I.seen src.now.1.1.1.1.1.1.1.1.0, (J.seen src.now.1.1.1.1.1.1.1.1.1.0, K.seen src.now.1.1.1.1.1.1.1.1.1.1))))))))))) }
-    ensures value { OnOk result (A.proper src.now.0 × (B.proper src.now.1.0 × (C.proper src.now.1.1.0 × (D.proper src.now.1.1.1.0 × (E.proper src.now.1.1.1.1.0 × (F.proper src.now.1.1.1.1.1.0 × (G.proper src.now.1.1.1.1.1.1.0 × (H.proper src.now.1.1.1.1.1.1.1.0 × (I.proper src.now.1.1.1.1.1.1.1.1.0 × (J.proper src.now.1.1.1.1.1.1.1.1.1.0 × K.proper src.now.1.1.1.1.1.1.1.1.1.1)))))))))) }
-    ensures err { IfErr result (Unwritten W.put W.room (pair_write A.writing (pair_write B.writing (pair_write C.writing (pair_write D.writing (pair_write E.writing (pair_write F.writing (pair_write G.writing (pair_write H.writing (pair_write I.writing (pair_write J.writing K.writing)))))))))) (W.state writer.old) (W.state writer.new) (A.seen src.now.0, (B.seen src.now.1.0, (C.seen src.now.1.1.0, (D.seen src.now.1.1.1.0, (E.seen src.now.1.1.1.1.0, (F.seen src.now.1.1.1.1.1.0, (G.seen src.now.1.1.1.1.1.1.0, (H.seen src.now.1.1.1.1.1.1.1.0, (I.seen src.now.1.1.1.1.1.1.1.1.0, (J.seen src.now.1.1.1.1.1.1.1.1.1.0, K.seen src.now.1.1.1.1.1.1.1.1.1.1)))))))))) (W.steady (W.kept writer.old)) (W.failures writer.new)) }
-    ensures whole { IfErr result (IsWholeRefused (is_static (pair_meta A.writing.meta (pair_meta B.writing.meta (pair_meta C.writing.meta (pair_meta D.writing.meta (pair_meta E.writing.meta (pair_meta F.writing.meta (pair_meta G.writing.meta (pair_meta H.writing.meta (pair_meta I.writing.meta (pair_meta J.writing.meta K.writing.meta))))))))))) W.room (pair_write A.writing (pair_write B.writing (pair_write C.writing (pair_write D.writing (pair_write E.writing (pair_write F.writing (pair_write G.writing (pair_write H.writing (pair_write I.writing (pair_write J.writing K.writing)))))))))) (W.state writer.old) (W.state writer.new) (A.seen src.now.0, (B.seen src.now.1.0, (C.seen src.now.1.1.0, (D.seen src.now.1.1.1.0, (E.seen src.now.1.1.1.1.0, (F.seen src.now.1.1.1.1.1.0, (G.seen src.now.1.1.1.1.1.1.0, (H.seen src.now.1.1.1.1.1.1.1.0, (I.seen src.now.1.1.1.1.1.1.1.1.0, (J.seen src.now.1.1.1.1.1.1.1.1.1.0, K.seen src.now.1.1.1.1.1.1.1.1.1.1)))))))))) (W.steady (W.kept writer.old)) (W.failures writer.new)) }
-    ensures kept { W.kept writer.new ≡ W.kept writer.old }
+    ensures ok { let members = ⟦<Members11<A, B, C, D, E, F, G, H, I, J, K> as SchemaWrite>⟧ in OnOk result
+        (Wrote members.writing (W.state writer.old) (W.state writer.new) (members.seen src.now)) }
+    ensures value { OnOk result (⟦<Members11<A, B, C, D, E, F, G, H, I, J, K> as SchemaWrite>⟧.proper src.now) }
+    ensures err { let members = ⟦<Members11<A, B, C, D, E, F, G, H, I, J, K> as SchemaWrite>⟧ in IfErr result
+        (Unwritten members.writing (W.state writer.old) (W.state writer.new) (members.seen src.now)) }
+    ensures piece { let members = ⟦<Members11<A, B, C, D, E, F, G, H, I, J, K> as SchemaWrite>⟧ in IfErr result
+        (IsPieceRefused (is_static members.writing.meta) members.writing (W.state writer.old) (W.state writer.new) (members.seen src.now)) }
 {
-    write_whole::<Members11<A, B, C, D, E, F, G, H, I, J, K>, W>(writer, src)
+    write_in_window::<Members11<A, B, C, D, E, F, G, H, I, J, K>, W>(writer, src)
+}
+
+/// Writes 11 members, each by a schema of its own, as a tuple of them is written.
+pub fn write_members_11<
+    A: SchemaWrite,
+    B: SchemaWrite,
+    C: SchemaWrite,
+    D: SchemaWrite,
+    E: SchemaWrite,
+    F: SchemaWrite,
+    G: SchemaWrite,
+    H: SchemaWrite,
+    I: SchemaWrite,
+    J: SchemaWrite,
+    K: SchemaWrite,
+    W: Writer,
+>(
+    writer: &mut W,
+    a: &A::Src,
+    b: &B::Src,
+    c: &C::Src,
+    d: &D::Src,
+    e: &E::Src,
+    f: &F::Src,
+    g: &G::Src,
+    h: &H::Src,
+    i: &I::Src,
+    j: &J::Src,
+    k: &K::Src,
+) -> WriteResult<()>
+    ensures ok { let tuple = ⟦<(A, B, C, D, E, F, G, H, I, J, K) as SchemaWrite>⟧ in OnOk result
+        (Wrote tuple.writing (W.state writer.old) (W.state writer.new) (tuple.seen (a.now, b.now, c.now, d.now, e.now, f.now, g.now, h.now, i.now, j.now, k.now))) }
+    ensures value { OnOk result (⟦<(A, B, C, D, E, F, G, H, I, J, K) as SchemaWrite>⟧.proper (a.now, b.now, c.now, d.now, e.now, f.now, g.now, h.now, i.now, j.now, k.now)) }
+    ensures err { let tuple = ⟦<(A, B, C, D, E, F, G, H, I, J, K) as SchemaWrite>⟧ in IfErr result
+        (Unwritten tuple.writing (W.state writer.old) (W.state writer.new) (tuple.seen (a.now, b.now, c.now, d.now, e.now, f.now, g.now, h.now, i.now, j.now, k.now))) }
+    ensures piece { let tuple = ⟦<(A, B, C, D, E, F, G, H, I, J, K) as SchemaWrite>⟧ in IfErr result
+        (IsPieceRefused tuple.in_one_piece tuple.writing (W.state writer.old) (W.state writer.new) (tuple.seen (a.now, b.now, c.now, d.now, e.now, f.now, g.now, h.now, i.now, j.now, k.now))) }
+{
+    write_11::<
+        &Member<A>,
+        &Member<B>,
+        &Member<C>,
+        &Member<D>,
+        &Member<E>,
+        &Member<F>,
+        &Member<G>,
+        &Member<H>,
+        &Member<I>,
+        &Member<J>,
+        &Member<K>,
+        W,
+    >(writer, &(a, (b, (c, (d, (e, (f, (g, (h, (i, (j, k)))))))))))
 }
 
 impl<
@@ -626,87 +716,67 @@ impl<
         K::Src,
     );
 
-    ghost Value = { A.Value × (B.Value × (C.Value × (D.Value × (E.Value × (F.Value × (G.Value × (H.Value × (I.Value × (J.Value × K.Value))))))))) };
+    ghost Value = { ⟦<Members11<A, B, C, D, E, F, G, H, I, J, K> as SchemaWrite>⟧.Value };
 
-    ghost seen = { λ t. (A.seen t.0, (B.seen t.1, (C.seen t.2, (D.seen t.3, (E.seen t.4, (F.seen t.5, (G.seen t.6, (H.seen t.7, (I.seen t.8, (J.seen t.9, K.seen t.10)))))))))) };
+    ghost seen = { λ t. ⟦<Members11<A, B, C, D, E, F, G, H, I, J, K> as SchemaWrite>⟧.seen (t.0, (t.1, (t.2, (t.3, (t.4, (t.5, (t.6, (t.7, (t.8, (t.9, t.10)))))))))) };
 
-    ghost proper = { λ t. A.proper t.0 × (B.proper t.1 × (C.proper t.2 × (D.proper t.3 × (E.proper t.4 × (F.proper t.5 × (G.proper t.6 × (H.proper t.7 × (I.proper t.8 × (J.proper t.9 × K.proper t.10))))))))) };
+    ghost proper = { λ t. ⟦<Members11<A, B, C, D, E, F, G, H, I, J, K> as SchemaWrite>⟧.proper (t.0, (t.1, (t.2, (t.3, (t.4, (t.5, (t.6, (t.7, (t.8, (t.9, t.10)))))))))) };
 
-    ghost writing = { pair_write A.writing (pair_write B.writing (pair_write C.writing (pair_write D.writing (pair_write E.writing (pair_write F.writing (pair_write G.writing (pair_write H.writing (pair_write I.writing (pair_write J.writing K.writing))))))))) };
+    ghost writing = { ⟦<Members11<A, B, C, D, E, F, G, H, I, J, K> as SchemaWrite>⟧.writing };
 
-    ghost whole = { is_static (pair_meta A.writing.meta (pair_meta B.writing.meta (pair_meta C.writing.meta (pair_meta D.writing.meta (pair_meta E.writing.meta (pair_meta F.writing.meta (pair_meta G.writing.meta (pair_meta H.writing.meta (pair_meta I.writing.meta (pair_meta J.writing.meta K.writing.meta)))))))))) };
+    ghost in_one_piece = { is_static ⟦<Members11<A, B, C, D, E, F, G, H, I, J, K> as SchemaWrite>⟧.writing.meta };
 
     fn type_meta() -> TypeMeta {
         <Members11<A, B, C, D, E, F, G, H, I, J, K> as SchemaWrite>::type_meta()
     }
 
     fn size_of(src: &Self::Src) -> WriteResult<usize> {
-        size_of_11::<
-            &Member<A>,
-            &Member<B>,
-            &Member<C>,
-            &Member<D>,
-            &Member<E>,
-            &Member<F>,
-            &Member<G>,
-            &Member<H>,
-            &Member<I>,
-            &Member<J>,
-            &Member<K>,
-        >(&(
-            &src.0,
-            (
-                &src.1,
-                (
-                    &src.2,
-                    (
-                        &src.3,
-                        (
-                            &src.4,
-                            (&src.5, (&src.6, (&src.7, (&src.8, (&src.9, &src.10))))),
-                        ),
-                    ),
-                ),
-            ),
-        ))
-    }
-
-    fn write<W: Writer>(writer: &mut W, src: &Self::Src) -> WriteResult<()> {
-        write_11::<
-            &Member<A>,
-            &Member<B>,
-            &Member<C>,
-            &Member<D>,
-            &Member<E>,
-            &Member<F>,
-            &Member<G>,
-            &Member<H>,
-            &Member<I>,
-            &Member<J>,
-            &Member<K>,
-            W,
-        >(
-            writer,
-            &(
-                &src.0,
-                (
-                    &src.1,
-                    (
-                        &src.2,
-                        (
-                            &src.3,
-                            (
-                                &src.4,
-                                (&src.5, (&src.6, (&src.7, (&src.8, (&src.9, &src.10))))),
-                            ),
-                        ),
-                    ),
-                ),
-            ),
+        size_of_members_11::<A, B, C, D, E, F, G, H, I, J, K>(
+            &src.0, &src.1, &src.2, &src.3, &src.4, &src.5, &src.6, &src.7, &src.8, &src.9, &src.10,
         )
     }
 
-    ghost write_laws = { write_laws_by (λ t. (t.0, (t.1, (t.2, (t.3, (t.4, (t.5, (t.6, (t.7, (t.8, (t.9, t.10))))))))))) _ _ _ (pair_write_laws A.proper _ A.seen _ A.writing _ A.write_laws (pair_write_laws B.proper _ B.seen _ B.writing _ B.write_laws (pair_write_laws C.proper _ C.seen _ C.writing _ C.write_laws (pair_write_laws D.proper _ D.seen _ D.writing _ D.write_laws (pair_write_laws E.proper _ E.seen _ E.writing _ E.write_laws (pair_write_laws F.proper _ F.seen _ F.writing _ F.write_laws (pair_write_laws G.proper _ G.seen _ G.writing _ G.write_laws (pair_write_laws H.proper _ H.seen _ H.writing _ H.write_laws (pair_write_laws I.proper _ I.seen _ I.writing _ I.write_laws (pair_write_laws J.proper K.proper J.seen K.seen J.writing K.writing J.write_laws K.write_laws)))))))))) };
+    fn write<W: Writer>(writer: &mut W, src: &Self::Src) -> WriteResult<()> {
+        write_members_11::<A, B, C, D, E, F, G, H, I, J, K, W>(
+            writer, &src.0, &src.1, &src.2, &src.3, &src.4, &src.5, &src.6, &src.7, &src.8, &src.9,
+            &src.10,
+        )
+    }
+
+    ghost write_laws = { write_laws_by (λ t. (
+      t.0,
+      (
+        t.1,
+        (
+          t.2,
+          (
+            t.3,
+            (
+              t.4,
+              (
+                t.5,
+                (
+                  t.6,
+                  (
+                    t.7,
+                    (
+                      t.8,
+                      (
+                        t.9,
+                        t.10,
+                      ),
+                    ),
+                  ),
+                ),
+              ),
+            ),
+          ),
+        ),
+      ),
+    )) (pair_write_laws A.write_laws (pair_write_laws B.write_laws (pair_write_laws C.write_laws
+        (pair_write_laws D.write_laws (pair_write_laws E.write_laws (pair_write_laws F.write_laws (pair_write_laws
+        G.write_laws (pair_write_laws H.write_laws (pair_write_laws I.write_laws (pair_write_laws J.write_laws
+        K.write_laws)))))))))) };
 }
 
 impl<
@@ -737,15 +807,15 @@ impl<
         K::Dst,
     );
 
-    ghost Value = { A.Value × (B.Value × (C.Value × (D.Value × (E.Value × (F.Value × (G.Value × (H.Value × (I.Value × (J.Value × K.Value))))))))) };
+    ghost Value = { ⟦<Members11<A, B, C, D, E, F, G, H, I, J, K> as SchemaRead<L>>⟧.Value };
 
-    ghost seen = { λ t. (A.seen t.0, (B.seen t.1, (C.seen t.2, (D.seen t.3, (E.seen t.4, (F.seen t.5, (G.seen t.6, (H.seen t.7, (I.seen t.8, (J.seen t.9, K.seen t.10)))))))))) };
+    ghost seen = { λ t. ⟦<Members11<A, B, C, D, E, F, G, H, I, J, K> as SchemaRead<L>>⟧.seen (t.0, (t.1, (t.2, (t.3, (t.4, (t.5, (t.6, (t.7, (t.8, (t.9, t.10)))))))))) };
 
-    ghost proper = { λ v. A.proper v.0 × (B.proper v.1.0 × (C.proper v.1.1.0 × (D.proper v.1.1.1.0 × (E.proper v.1.1.1.1.0 × (F.proper v.1.1.1.1.1.0 × (G.proper v.1.1.1.1.1.1.0 × (H.proper v.1.1.1.1.1.1.1.0 × (I.proper v.1.1.1.1.1.1.1.1.0 × (J.proper v.1.1.1.1.1.1.1.1.1.0 × K.proper v.1.1.1.1.1.1.1.1.1.1))))))))) };
+    ghost proper = { ⟦<Members11<A, B, C, D, E, F, G, H, I, J, K> as SchemaRead<L>>⟧.proper };
 
-    ghost reading = { pair_read A.reading (pair_read B.reading (pair_read C.reading (pair_read D.reading (pair_read E.reading (pair_read F.reading (pair_read G.reading (pair_read H.reading (pair_read I.reading (pair_read J.reading K.reading))))))))) };
+    ghost reading = { ⟦<Members11<A, B, C, D, E, F, G, H, I, J, K> as SchemaRead<L>>⟧.reading };
 
-    ghost refusal = { IsPlaced (pair_meta A.reading.meta (pair_meta B.reading.meta (pair_meta C.reading.meta (pair_meta D.reading.meta (pair_meta E.reading.meta (pair_meta F.reading.meta (pair_meta G.reading.meta (pair_meta H.reading.meta (pair_meta I.reading.meta (pair_meta J.reading.meta K.reading.meta)))))))))) };
+    ghost refusal = { IsStaticRefused ⟦<Members11<A, B, C, D, E, F, G, H, I, J, K> as SchemaRead<L>>⟧.reading.meta };
 
     fn type_meta() -> TypeMeta {
         <Members11<A, B, C, D, E, F, G, H, I, J, K> as SchemaRead<L>>::type_meta()
@@ -760,7 +830,7 @@ impl<
         reader: &mut R,
         dst: &mut Option<Self::Dst>,
     ) -> ReadResult<()> {
-        let (a, (b, (c, (d, (e, (f, (g, (h, (i, (j, k)))))))))) = get_whole::<
+        let (a, (b, (c, (d, (e, (f, (g, (h, (i, (j, k)))))))))) = get_in_window::<
             L,
             Members11<A, B, C, D, E, F, G, H, I, J, K>,
             R,
@@ -769,7 +839,10 @@ impl<
         Ok(())
     }
 
-    ghost read_laws = { pair_read_laws A.proper _ A.reading _ A.read_laws (pair_read_laws B.proper _ B.reading _ B.read_laws (pair_read_laws C.proper _ C.reading _ C.read_laws (pair_read_laws D.proper _ D.reading _ D.read_laws (pair_read_laws E.proper _ E.reading _ E.read_laws (pair_read_laws F.proper _ F.reading _ F.read_laws (pair_read_laws G.proper _ G.reading _ G.read_laws (pair_read_laws H.proper _ H.reading _ H.read_laws (pair_read_laws I.proper _ I.reading _ I.read_laws (pair_read_laws J.proper K.proper J.reading K.reading J.read_laws K.read_laws))))))))) };
+    ghost read_laws = { pair_read_laws A.read_laws (pair_read_laws B.read_laws (pair_read_laws C.read_laws
+        (pair_read_laws D.read_laws (pair_read_laws E.read_laws (pair_read_laws F.read_laws (pair_read_laws
+        G.read_laws (pair_read_laws H.read_laws (pair_read_laws I.read_laws (pair_read_laws J.read_laws
+        K.read_laws))))))))) };
 }
 
 impl<
@@ -799,16 +872,49 @@ where
     J::Src: Drop,
     K::Src: Drop,
 {
-    ghost reads_back = { reads_back_by (λ t. (t.0, (t.1, (t.2, (t.3, (t.4, (t.5, (t.6, (t.7, (t.8, (t.9, t.10))))))))))) _ _ _ _ _ (pair_reads_back _ _ _ _ _ _ _ _ _ _ A.reads_back (pair_reads_back _ _ _ _ _ _ _ _ _ _ B.reads_back (pair_reads_back _ _ _ _ _ _ _ _ _ _ C.reads_back (pair_reads_back _ _ _ _ _ _ _ _ _ _ D.reads_back (pair_reads_back _ _ _ _ _ _ _ _ _ _ E.reads_back (pair_reads_back _ _ _ _ _ _ _ _ _ _ F.reads_back (pair_reads_back _ _ _ _ _ _ _ _ _ _ G.reads_back (pair_reads_back _ _ _ _ _ _ _ _ _ _ H.reads_back (pair_reads_back _ _ _ _ _ _ _ _ _ _ I.reads_back (pair_reads_back _ _ _ _ _ _ _ _ _ _ J.reads_back K.reads_back)))))))))) };
+    ghost reads_back = { reads_back_by (λ t. (
+      t.0,
+      (
+        t.1,
+        (
+          t.2,
+          (
+            t.3,
+            (
+              t.4,
+              (
+                t.5,
+                (
+                  t.6,
+                  (
+                    t.7,
+                    (
+                      t.8,
+                      (
+                        t.9,
+                        t.10,
+                      ),
+                    ),
+                  ),
+                ),
+              ),
+            ),
+          ),
+        ),
+      ),
+    )) (pair_reads_back A.reads_back (pair_reads_back B.reads_back (pair_reads_back C.reads_back
+        (pair_reads_back D.reads_back (pair_reads_back E.reads_back (pair_reads_back F.reads_back (pair_reads_back
+        G.reads_back (pair_reads_back H.reads_back (pair_reads_back I.reads_back (pair_reads_back J.reads_back
+        K.reads_back)))))))))) };
 }
 
-type Members12<A, B, C, D, E, F, G, H, I, J, K, M> = Members2<
+pub type Members12<A, B, C, D, E, F, G, H, I, J, K, M> = Members2<
     A,
     Members11<B, C, D, E, F, G, H, I, J, K, M>,
 >;
 
-/// The size of 12 members, each seen by a schema of its own.
-fn size_of_12<
+/// The size of 12 members, each seen by a schema of its own: that of a tuple of them.
+pub fn size_of_members_12<
     A: SchemaWrite,
     B: SchemaWrite,
     C: SchemaWrite,
@@ -822,33 +928,31 @@ fn size_of_12<
     K: SchemaWrite,
     M: SchemaWrite,
 >(
-    src: &(
-        A::Src,
-        (
-            B::Src,
-            (
-                C::Src,
-                (
-                    D::Src,
-                    (
-                        E::Src,
-                        (
-                            F::Src,
-                            (G::Src, (H::Src, (I::Src, (J::Src, (K::Src, M::Src))))),
-                        ),
-                    ),
-                ),
-            ),
-        ),
-    ),
+    a: &A::Src,
+    b: &B::Src,
+    c: &C::Src,
+    d: &D::Src,
+    e: &E::Src,
+    f: &F::Src,
+    g: &G::Src,
+    h: &H::Src,
+    i: &I::Src,
+    j: &J::Src,
+    k: &K::Src,
+    m: &M::Src,
 ) -> WriteResult<usize>
-    ensures ok { IfOk result (λ n. (pair_write A.writing (pair_write B.writing (pair_write C.writing (pair_write D.writing (pair_write E.writing (pair_write F.writing (pair_write G.writing (pair_write H.writing (pair_write I.writing (pair_write J.writing (pair_write K.writing M.writing))))))))))).can (A.seen src.now.0, (B.seen src.now.1.0, (C.seen src.now.1.1.0, (D.seen src.now.1.1.1.0, (E.seen src.now.1.1.1.1.0, (F.seen src.now.1.1.1.1.1.0, (G.seen src.now.1.1.1.1.1.1.0, (H.seen src.now.1.1.1.1.1.1.1.0, (I.seen src.now.1.1.1.1.1.1.1.1.0, (J.seen src.now.1.1.1.1.1.1.1.1.1.0, (K.seen src.now.1.1.1.1.1.1.1.1.1.1.0, M.seen src.now.1.1.1.1.1.1.1.1.1.1.1))))))))))) × (n ≡ (pair_write A.writing (pair_write B.writing (pair_write C.writing (pair_write D.writing (pair_write E.writing (pair_write F.writing (pair_write G.writing (pair_write H.writing (pair_write I.writing (pair_write J.writing (pair_write K.writing M.writing))))))))))).size (A.seen src.now.0, (B.seen src.now.1.0, (C.seen src.now.1.1.0, (D.seen src.now.1.1.1.0, (E.seen src.now.1.1.1.1.0, (F.seen src.now.1.1.1.1.1.0, (G.seen src.now.1.1.1.1.1.1.0, (H.seen src.now.1.1.1.1.1.1.1.0, (I.seen src.now.1.1.1.1.1.1.1.1.0, (J.seen src.now.1.1.1.1.1.1.1.1.1.0, (K.seen src.now.1.1.1.1.1.1.1.1.1.1.0, M.seen src.now.1.1.1.1.1.1.1.1.1.1.1))))))))))))) }
-    ensures err { IfErr result (IsSizeRefused (pair_write A.writing (pair_write B.writing (pair_write C.writing (pair_write D.writing (pair_write E.writing (pair_write F.writing (pair_write G.writing (pair_write H.writing (pair_write I.writing (pair_write J.writing (pair_write K.writing M.writing))))))))))) (A.seen src.now.0, (B.seen src.now.1.0, (C.seen src.now.1.1.0, (D.seen src.now.1.1.1.0, (E.seen src.now.1.1.1.1.0, (F.seen src.now.1.1.1.1.1.0, (G.seen src.now.1.1.1.1.1.1.0, (H.seen src.now.1.1.1.1.1.1.1.0, (I.seen src.now.1.1.1.1.1.1.1.1.0, (J.seen src.now.1.1.1.1.1.1.1.1.1.0, (K.seen src.now.1.1.1.1.1.1.1.1.1.1.0, M.seen src.now.1.1.1.1.1.1.1.1.1.1.1)))))))))))) }
+    ensures ok { let tuple = ⟦<(A, B, C, D, E, F, G, H, I, J, K, M) as SchemaWrite>⟧ in IfOk result
+        (IsSized tuple.writing (tuple.seen (a.now, b.now, c.now, d.now, e.now, f.now, g.now, h.now, i.now, j.now, k.now, m.now))) }
+    ensures err { let tuple = ⟦<(A, B, C, D, E, F, G, H, I, J, K, M) as SchemaWrite>⟧ in IfErr result
+        (IsSizeRefused tuple.writing (tuple.seen (a.now, b.now, c.now, d.now, e.now, f.now, g.now, h.now, i.now, j.now, k.now, m.now))) }
 {
-    <Members12<A, B, C, D, E, F, G, H, I, J, K, M> as SchemaWrite>::size_of(src)
+    add_size(
+        A::size_of(a)?,
+        size_of_members_11::<B, C, D, E, F, G, H, I, J, K, M>(b, c, d, e, f, g, h, i, j, k, m)?,
+    )
 }
 
-/// Writes 12 members, each by a schema of its own, through one window where all have one size.
+/// Writes 12 members through one window where all have one size.
 fn write_12<
     A: SchemaWrite,
     B: SchemaWrite,
@@ -885,13 +989,73 @@ fn write_12<
         ),
     ),
 ) -> WriteResult<()>
-    ensures ok { OnOk result (Wrote W.put W.room (pair_write A.writing (pair_write B.writing (pair_write C.writing (pair_write D.writing (pair_write E.writing (pair_write F.writing (pair_write G.writing (pair_write H.writing (pair_write I.writing (pair_write J.writing (pair_write K.writing M.writing))))))))))) (W.state writer.old) (W.state writer.new) (A.seen src.now.0, (B.seen src.now.1.0, (C.seen src.now.1.1.0, (D.seen src.now.1.1.1.0, (E.seen src.now.1.1.1.1.0, (F.seen src.now.1.1.1.1.1.0, (G.seen src.now.1.1.1.1.1.1.0, (H.seen src.now.1.1.1.1.1.1.1.0, (I.seen src.now.1.1.1.1.1.1.1.1.0, (J.seen src.now.1.1.1.1.1.1.1.1.1.0, (K.seen src.now.1.1.1.1.1.1.1.1.1.1.0, M.seen src.now.1.1.1.1.1.1.1.1.1.1.1)))))))))))) }
-    ensures value { OnOk result (A.proper src.now.0 × (B.proper src.now.1.0 × (C.proper src.now.1.1.0 × (D.proper src.now.1.1.1.0 × (E.proper src.now.1.1.1.1.0 × (F.proper src.now.1.1.1.1.1.0 × (G.proper src.now.1.1.1.1.1.1.0 × (H.proper src.now.1.1.1.1.1.1.1.0 × (I.proper src.now.1.1.1.1.1.1.1.1.0 × (J.proper src.now.1.1.1.1.1.1.1.1.1.0 × (K.proper src.now.1.1.1.1.1.1.1.1.1.1.0 × M.proper src.now.1.1.1.1.1.1.1.1.1.1.1))))))))))) }
-    ensures err { IfErr result (Unwritten W.put W.room (pair_write A.writing (pair_write B.writing (pair_write C.writing (pair_write D.writing (pair_write E.writing (pair_write F.writing (pair_write G.writing (pair_write H.writing (pair_write I.writing (pair_write J.writing (pair_write K.writing M.writing))))))))))) (W.state writer.old) (W.state writer.new) (A.seen src.now.0, (B.seen src.now.1.0, (C.seen src.now.1.1.0, (D.seen src.now.1.1.1.0, (E.seen src.now.1.1.1.1.0, (F.seen src.now.1.1.1.1.1.0, (G.seen src.now.1.1.1.1.1.1.0, (H.seen src.now.1.1.1.1.1.1.1.0, (I.seen src.now.1.1.1.1.1.1.1.1.0, (J.seen src.now.1.1.1.1.1.1.1.1.1.0, (K.seen src.now.1.1.1.1.1.1.1.1.1.1.0, M.seen src.now.1.1.1.1.1.1.1.1.1.1.1))))))))))) (W.steady (W.kept writer.old)) (W.failures writer.new)) }
-    ensures whole { IfErr result (IsWholeRefused (is_static (pair_meta A.writing.meta (pair_meta B.writing.meta (pair_meta C.writing.meta (pair_meta D.writing.meta (pair_meta E.writing.meta (pair_meta F.writing.meta (pair_meta G.writing.meta (pair_meta H.writing.meta (pair_meta I.writing.meta (pair_meta J.writing.meta (pair_meta K.writing.meta M.writing.meta)))))))))))) W.room (pair_write A.writing (pair_write B.writing (pair_write C.writing (pair_write D.writing (pair_write E.writing (pair_write F.writing (pair_write G.writing (pair_write H.writing (pair_write I.writing (pair_write J.writing (pair_write K.writing M.writing))))))))))) (W.state writer.old) (W.state writer.new) (A.seen src.now.0, (B.seen src.now.1.0, (C.seen src.now.1.1.0, (D.seen src.now.1.1.1.0, (E.seen src.now.1.1.1.1.0, (F.seen src.now.1.1.1.1.1.0, (G.seen src.now.1.1.1.1.1.1.0, (H.seen src.now.1.1.1.1.1.1.1.0, (I.seen src.now.1.1.1.1.1.1.1.1.0, (J.seen src.now.1.1.1.1.1.1.1.1.1.0, (K.seen src.now.1.1.1.1.1.1.1.1.1.1.0, M.seen src.now.1.1.1.1.1.1.1.1.1.1.1))))))))))) (W.steady (W.kept writer.old)) (W.failures writer.new)) }
-    ensures kept { W.kept writer.new ≡ W.kept writer.old }
+    ensures ok { let members = ⟦<Members12<A, B, C, D, E, F, G, H, I, J, K, M> as SchemaWrite>⟧ in OnOk result
+        (Wrote members.writing (W.state writer.old) (W.state writer.new) (members.seen src.now)) }
+    ensures value { OnOk result (⟦<Members12<A, B, C, D, E, F, G, H, I, J, K, M> as SchemaWrite>⟧.proper src.now) }
+    ensures err { let members = ⟦<Members12<A, B, C, D, E, F, G, H, I, J, K, M> as SchemaWrite>⟧ in IfErr result
+        (Unwritten members.writing (W.state writer.old) (W.state writer.new) (members.seen src.now)) }
+    ensures piece { let members = ⟦<Members12<A, B, C, D, E, F, G, H, I, J, K, M> as SchemaWrite>⟧ in IfErr result
+        (IsPieceRefused (is_static members.writing.meta) members.writing (W.state writer.old) (W.state writer.new) (members.seen src.now)) }
 {
-    write_whole::<Members12<A, B, C, D, E, F, G, H, I, J, K, M>, W>(writer, src)
+    write_in_window::<Members12<A, B, C, D, E, F, G, H, I, J, K, M>, W>(writer, src)
+}
+
+/// Writes 12 members, each by a schema of its own, as a tuple of them is written.
+pub fn write_members_12<
+    A: SchemaWrite,
+    B: SchemaWrite,
+    C: SchemaWrite,
+    D: SchemaWrite,
+    E: SchemaWrite,
+    F: SchemaWrite,
+    G: SchemaWrite,
+    H: SchemaWrite,
+    I: SchemaWrite,
+    J: SchemaWrite,
+    K: SchemaWrite,
+    M: SchemaWrite,
+    W: Writer,
+>(
+    writer: &mut W,
+    a: &A::Src,
+    b: &B::Src,
+    c: &C::Src,
+    d: &D::Src,
+    e: &E::Src,
+    f: &F::Src,
+    g: &G::Src,
+    h: &H::Src,
+    i: &I::Src,
+    j: &J::Src,
+    k: &K::Src,
+    m: &M::Src,
+) -> WriteResult<()>
+    ensures ok { let tuple = ⟦<(A, B, C, D, E, F, G, H, I, J, K, M) as SchemaWrite>⟧ in OnOk result
+        (Wrote tuple.writing (W.state writer.old) (W.state writer.new) (tuple.seen (a.now, b.now, c.now, d.now, e.now, f.now, g.now, h.now, i.now, j.now, k.now, m.now))) }
+    ensures value { OnOk result (⟦<(A, B, C, D, E, F, G, H, I, J, K, M) as SchemaWrite>⟧.proper (a.now, b.now, c.now, d.now, e.now, f.now, g.now, h.now, i.now, j.now, k.now, m.now)) }
+    ensures err { let tuple = ⟦<(A, B, C, D, E, F, G, H, I, J, K, M) as SchemaWrite>⟧ in IfErr result
+        (Unwritten tuple.writing (W.state writer.old) (W.state writer.new) (tuple.seen (a.now, b.now, c.now, d.now, e.now, f.now, g.now, h.now, i.now, j.now, k.now, m.now))) }
+    ensures piece { let tuple = ⟦<(A, B, C, D, E, F, G, H, I, J, K, M) as SchemaWrite>⟧ in IfErr result
+        (IsPieceRefused tuple.in_one_piece tuple.writing (W.state writer.old) (W.state writer.new) (tuple.seen (a.now, b.now, c.now, d.now, e.now, f.now, g.now, h.now, i.now, j.now, k.now, m.now))) }
+{
+    write_12::<
+        &Member<A>,
+        &Member<B>,
+        &Member<C>,
+        &Member<D>,
+        &Member<E>,
+        &Member<F>,
+        &Member<G>,
+        &Member<H>,
+        &Member<I>,
+        &Member<J>,
+        &Member<K>,
+        &Member<M>,
+        W,
+    >(
+        writer,
+        &(a, (b, (c, (d, (e, (f, (g, (h, (i, (j, (k, m))))))))))),
+    )
 }
 
 impl<
@@ -923,95 +1087,71 @@ impl<
         M::Src,
     );
 
-    ghost Value = { A.Value × (B.Value × (C.Value × (D.Value × (E.Value × (F.Value × (G.Value × (H.Value × (I.Value × (J.Value × (K.Value × M.Value)))))))))) };
+    ghost Value = { ⟦<Members12<A, B, C, D, E, F, G, H, I, J, K, M> as SchemaWrite>⟧.Value };
 
-    ghost seen = { λ t. (A.seen t.0, (B.seen t.1, (C.seen t.2, (D.seen t.3, (E.seen t.4, (F.seen t.5, (G.seen t.6, (H.seen t.7, (I.seen t.8, (J.seen t.9, (K.seen t.10, M.seen t.11))))))))))) };
+    ghost seen = { λ t. ⟦<Members12<A, B, C, D, E, F, G, H, I, J, K, M> as SchemaWrite>⟧.seen (t.0, (t.1, (t.2, (t.3, (t.4, (t.5, (t.6, (t.7, (t.8, (t.9, (t.10, t.11))))))))))) };
 
-    ghost proper = { λ t. A.proper t.0 × (B.proper t.1 × (C.proper t.2 × (D.proper t.3 × (E.proper t.4 × (F.proper t.5 × (G.proper t.6 × (H.proper t.7 × (I.proper t.8 × (J.proper t.9 × (K.proper t.10 × M.proper t.11)))))))))) };
+    ghost proper = { λ t. ⟦<Members12<A, B, C, D, E, F, G, H, I, J, K, M> as SchemaWrite>⟧.proper (t.0, (t.1, (t.2, (t.3, (t.4, (t.5, (t.6, (t.7, (t.8, (t.9, (t.10, t.11))))))))))) };
 
-    ghost writing = { pair_write A.writing (pair_write B.writing (pair_write C.writing (pair_write D.writing (pair_write E.writing (pair_write F.writing (pair_write G.writing (pair_write H.writing (pair_write I.writing (pair_write J.writing (pair_write K.writing M.writing)))))))))) };
+    ghost writing = { ⟦<Members12<A, B, C, D, E, F, G, H, I, J, K, M> as SchemaWrite>⟧.writing };
 
-    ghost whole = { is_static (pair_meta A.writing.meta (pair_meta B.writing.meta (pair_meta C.writing.meta (pair_meta D.writing.meta (pair_meta E.writing.meta (pair_meta F.writing.meta (pair_meta G.writing.meta (pair_meta H.writing.meta (pair_meta I.writing.meta (pair_meta J.writing.meta (pair_meta K.writing.meta M.writing.meta))))))))))) };
+    ghost in_one_piece = { is_static ⟦<Members12<A, B, C, D, E, F, G, H, I, J, K, M> as SchemaWrite>⟧.writing.meta };
 
     fn type_meta() -> TypeMeta {
         <Members12<A, B, C, D, E, F, G, H, I, J, K, M> as SchemaWrite>::type_meta()
     }
 
     fn size_of(src: &Self::Src) -> WriteResult<usize> {
-        size_of_12::<
-            &Member<A>,
-            &Member<B>,
-            &Member<C>,
-            &Member<D>,
-            &Member<E>,
-            &Member<F>,
-            &Member<G>,
-            &Member<H>,
-            &Member<I>,
-            &Member<J>,
-            &Member<K>,
-            &Member<M>,
-        >(&(
-            &src.0,
-            (
-                &src.1,
-                (
-                    &src.2,
-                    (
-                        &src.3,
-                        (
-                            &src.4,
-                            (
-                                &src.5,
-                                (&src.6, (&src.7, (&src.8, (&src.9, (&src.10, &src.11))))),
-                            ),
-                        ),
-                    ),
-                ),
-            ),
-        ))
-    }
-
-    fn write<W: Writer>(writer: &mut W, src: &Self::Src) -> WriteResult<()> {
-        write_12::<
-            &Member<A>,
-            &Member<B>,
-            &Member<C>,
-            &Member<D>,
-            &Member<E>,
-            &Member<F>,
-            &Member<G>,
-            &Member<H>,
-            &Member<I>,
-            &Member<J>,
-            &Member<K>,
-            &Member<M>,
-            W,
-        >(
-            writer,
-            &(
-                &src.0,
-                (
-                    &src.1,
-                    (
-                        &src.2,
-                        (
-                            &src.3,
-                            (
-                                &src.4,
-                                (
-                                    &src.5,
-                                    (&src.6, (&src.7, (&src.8, (&src.9, (&src.10, &src.11))))),
-                                ),
-                            ),
-                        ),
-                    ),
-                ),
-            ),
+        size_of_members_12::<A, B, C, D, E, F, G, H, I, J, K, M>(
+            &src.0, &src.1, &src.2, &src.3, &src.4, &src.5, &src.6, &src.7, &src.8, &src.9,
+            &src.10, &src.11,
         )
     }
 
-    ghost write_laws = { write_laws_by (λ t. (t.0, (t.1, (t.2, (t.3, (t.4, (t.5, (t.6, (t.7, (t.8, (t.9, (t.10, t.11)))))))))))) _ _ _ (pair_write_laws A.proper _ A.seen _ A.writing _ A.write_laws (pair_write_laws B.proper _ B.seen _ B.writing _ B.write_laws (pair_write_laws C.proper _ C.seen _ C.writing _ C.write_laws (pair_write_laws D.proper _ D.seen _ D.writing _ D.write_laws (pair_write_laws E.proper _ E.seen _ E.writing _ E.write_laws (pair_write_laws F.proper _ F.seen _ F.writing _ F.write_laws (pair_write_laws G.proper _ G.seen _ G.writing _ G.write_laws (pair_write_laws H.proper _ H.seen _ H.writing _ H.write_laws (pair_write_laws I.proper _ I.seen _ I.writing _ I.write_laws (pair_write_laws J.proper _ J.seen _ J.writing _ J.write_laws (pair_write_laws K.proper M.proper K.seen M.seen K.writing M.writing K.write_laws M.write_laws))))))))))) };
+    fn write<W: Writer>(writer: &mut W, src: &Self::Src) -> WriteResult<()> {
+        write_members_12::<A, B, C, D, E, F, G, H, I, J, K, M, W>(
+            writer, &src.0, &src.1, &src.2, &src.3, &src.4, &src.5, &src.6, &src.7, &src.8, &src.9,
+            &src.10, &src.11,
+        )
+    }
+
+    ghost write_laws = { write_laws_by (λ t. (
+      t.0,
+      (
+        t.1,
+        (
+          t.2,
+          (
+            t.3,
+            (
+              t.4,
+              (
+                t.5,
+                (
+                  t.6,
+                  (
+                    t.7,
+                    (
+                      t.8,
+                      (
+                        t.9,
+                        (
+                          t.10,
+                          t.11,
+                        ),
+                      ),
+                    ),
+                  ),
+                ),
+              ),
+            ),
+          ),
+        ),
+      ),
+    )) (pair_write_laws A.write_laws (pair_write_laws B.write_laws (pair_write_laws C.write_laws
+        (pair_write_laws D.write_laws (pair_write_laws E.write_laws (pair_write_laws F.write_laws (pair_write_laws
+        G.write_laws (pair_write_laws H.write_laws (pair_write_laws I.write_laws (pair_write_laws J.write_laws
+        (pair_write_laws K.write_laws M.write_laws))))))))))) };
 }
 
 impl<
@@ -1044,15 +1184,15 @@ impl<
         M::Dst,
     );
 
-    ghost Value = { A.Value × (B.Value × (C.Value × (D.Value × (E.Value × (F.Value × (G.Value × (H.Value × (I.Value × (J.Value × (K.Value × M.Value)))))))))) };
+    ghost Value = { ⟦<Members12<A, B, C, D, E, F, G, H, I, J, K, M> as SchemaRead<L>>⟧.Value };
 
-    ghost seen = { λ t. (A.seen t.0, (B.seen t.1, (C.seen t.2, (D.seen t.3, (E.seen t.4, (F.seen t.5, (G.seen t.6, (H.seen t.7, (I.seen t.8, (J.seen t.9, (K.seen t.10, M.seen t.11))))))))))) };
+    ghost seen = { λ t. ⟦<Members12<A, B, C, D, E, F, G, H, I, J, K, M> as SchemaRead<L>>⟧.seen (t.0, (t.1, (t.2, (t.3, (t.4, (t.5, (t.6, (t.7, (t.8, (t.9, (t.10, t.11))))))))))) };
 
-    ghost proper = { λ v. A.proper v.0 × (B.proper v.1.0 × (C.proper v.1.1.0 × (D.proper v.1.1.1.0 × (E.proper v.1.1.1.1.0 × (F.proper v.1.1.1.1.1.0 × (G.proper v.1.1.1.1.1.1.0 × (H.proper v.1.1.1.1.1.1.1.0 × (I.proper v.1.1.1.1.1.1.1.1.0 × (J.proper v.1.1.1.1.1.1.1.1.1.0 × (K.proper v.1.1.1.1.1.1.1.1.1.1.0 × M.proper v.1.1.1.1.1.1.1.1.1.1.1)))))))))) };
+    ghost proper = { ⟦<Members12<A, B, C, D, E, F, G, H, I, J, K, M> as SchemaRead<L>>⟧.proper };
 
-    ghost reading = { pair_read A.reading (pair_read B.reading (pair_read C.reading (pair_read D.reading (pair_read E.reading (pair_read F.reading (pair_read G.reading (pair_read H.reading (pair_read I.reading (pair_read J.reading (pair_read K.reading M.reading)))))))))) };
+    ghost reading = { ⟦<Members12<A, B, C, D, E, F, G, H, I, J, K, M> as SchemaRead<L>>⟧.reading };
 
-    ghost refusal = { IsPlaced (pair_meta A.reading.meta (pair_meta B.reading.meta (pair_meta C.reading.meta (pair_meta D.reading.meta (pair_meta E.reading.meta (pair_meta F.reading.meta (pair_meta G.reading.meta (pair_meta H.reading.meta (pair_meta I.reading.meta (pair_meta J.reading.meta (pair_meta K.reading.meta M.reading.meta))))))))))) };
+    ghost refusal = { IsStaticRefused ⟦<Members12<A, B, C, D, E, F, G, H, I, J, K, M> as SchemaRead<L>>⟧.reading.meta };
 
     fn type_meta() -> TypeMeta {
         <Members12<A, B, C, D, E, F, G, H, I, J, K, M> as SchemaRead<L>>::type_meta()
@@ -1067,7 +1207,7 @@ impl<
         reader: &mut R,
         dst: &mut Option<Self::Dst>,
     ) -> ReadResult<()> {
-        let (a, (b, (c, (d, (e, (f, (g, (h, (i, (j, (k, m))))))))))) = get_whole::<
+        let (a, (b, (c, (d, (e, (f, (g, (h, (i, (j, (k, m))))))))))) = get_in_window::<
             L,
             Members12<A, B, C, D, E, F, G, H, I, J, K, M>,
             R,
@@ -1076,7 +1216,10 @@ impl<
         Ok(())
     }
 
-    ghost read_laws = { pair_read_laws A.proper _ A.reading _ A.read_laws (pair_read_laws B.proper _ B.reading _ B.read_laws (pair_read_laws C.proper _ C.reading _ C.read_laws (pair_read_laws D.proper _ D.reading _ D.read_laws (pair_read_laws E.proper _ E.reading _ E.read_laws (pair_read_laws F.proper _ F.reading _ F.read_laws (pair_read_laws G.proper _ G.reading _ G.read_laws (pair_read_laws H.proper _ H.reading _ H.read_laws (pair_read_laws I.proper _ I.reading _ I.read_laws (pair_read_laws J.proper _ J.reading _ J.read_laws (pair_read_laws K.proper M.proper K.reading M.reading K.read_laws M.read_laws)))))))))) };
+    ghost read_laws = { pair_read_laws A.read_laws (pair_read_laws B.read_laws (pair_read_laws C.read_laws
+        (pair_read_laws D.read_laws (pair_read_laws E.read_laws (pair_read_laws F.read_laws (pair_read_laws
+        G.read_laws (pair_read_laws H.read_laws (pair_read_laws I.read_laws (pair_read_laws J.read_laws
+        (pair_read_laws K.read_laws M.read_laws)))))))))) };
 }
 
 impl<
@@ -1108,5 +1251,41 @@ where
     K::Src: Drop,
     M::Src: Drop,
 {
-    ghost reads_back = { reads_back_by (λ t. (t.0, (t.1, (t.2, (t.3, (t.4, (t.5, (t.6, (t.7, (t.8, (t.9, (t.10, t.11)))))))))))) _ _ _ _ _ (pair_reads_back _ _ _ _ _ _ _ _ _ _ A.reads_back (pair_reads_back _ _ _ _ _ _ _ _ _ _ B.reads_back (pair_reads_back _ _ _ _ _ _ _ _ _ _ C.reads_back (pair_reads_back _ _ _ _ _ _ _ _ _ _ D.reads_back (pair_reads_back _ _ _ _ _ _ _ _ _ _ E.reads_back (pair_reads_back _ _ _ _ _ _ _ _ _ _ F.reads_back (pair_reads_back _ _ _ _ _ _ _ _ _ _ G.reads_back (pair_reads_back _ _ _ _ _ _ _ _ _ _ H.reads_back (pair_reads_back _ _ _ _ _ _ _ _ _ _ I.reads_back (pair_reads_back _ _ _ _ _ _ _ _ _ _ J.reads_back (pair_reads_back _ _ _ _ _ _ _ _ _ _ K.reads_back M.reads_back))))))))))) };
+    ghost reads_back = { reads_back_by (λ t. (
+      t.0,
+      (
+        t.1,
+        (
+          t.2,
+          (
+            t.3,
+            (
+              t.4,
+              (
+                t.5,
+                (
+                  t.6,
+                  (
+                    t.7,
+                    (
+                      t.8,
+                      (
+                        t.9,
+                        (
+                          t.10,
+                          t.11,
+                        ),
+                      ),
+                    ),
+                  ),
+                ),
+              ),
+            ),
+          ),
+        ),
+      ),
+    )) (pair_reads_back A.reads_back (pair_reads_back B.reads_back (pair_reads_back C.reads_back
+        (pair_reads_back D.reads_back (pair_reads_back E.reads_back (pair_reads_back F.reads_back (pair_reads_back
+        G.reads_back (pair_reads_back H.reads_back (pair_reads_back I.reads_back (pair_reads_back J.reads_back
+        (pair_reads_back K.reads_back M.reads_back))))))))))) };
 }

@@ -1,7 +1,7 @@
 use Rattle.std.proofs.Common.{map}
 use Rattle.wincode.specs.Outcomes.{Gives}
-use Rattle.wincode.specs.Lists.{AreItems}
 use Rattle.wincode.proofs.schema.lists.get_items.Given as goal
+use Rattle.wincode_io.specs.Joins.{AreItems}
 
 -- so far the items of a front were read
 abbrev pub invariant-loop-i : goal.invariant-loop-i

@@ -5,19 +5,12 @@ use Rattle.wincode.proofs.schema.lists.write_list.Goals as goal
 
 pub returns-in_err-write-clause-err : goal.returns-in_err-write-clause-err
 returns-in_err-write-clause-err g c =
-    let T = g.T.SchemaWrite in
-    let W = g.W.Writer in
-    let h = length_unwritten W.put W.room g.met.W.Writer.writer_laws g.Len.SeqLen.scheme T.writing T.proper T.seen g.met.T.SchemaWrite.write_laws c.args.items.now _ _ _ _ _ c.in_err-write.ensures.err in search (rules, h)
+    let h = length_unwritten g.met.W.Writer.writer_laws g.Len.SeqLen.scheme g.met.T.SchemaWrite.write_laws c.args.items.now c.in_err-write.ensures.err in search (rules, h)
 
 pub returns-clause-ok : goal.returns-clause-ok
 returns-clause-ok g c =
-    let T = g.T.SchemaWrite in
-    let W = g.W.Writer in
-    on_ok_weaker c.write_items.result (λ r. all_wrote W.put W.room g.met.W.Writer.writer_laws g.Len.SeqLen.scheme T.writing T.proper T.seen g.met.T.SchemaWrite.write_laws c.args.items.now _ _ _ c.in_ok-write.ensures.ok r) c.write_items.ensures.ok
+    on_ok_weaker c.write_items.result (λ r. all_wrote g.met.W.Writer.writer_laws g.Len.SeqLen.scheme g.met.T.SchemaWrite.write_laws c.args.items.now c.in_ok-write.ensures.ok r) c.write_items.ensures.ok
 
 pub returns-clause-err : goal.returns-clause-err
 returns-clause-err g c =
-    let T = g.T.SchemaWrite in
-    let W = g.W.Writer in
-    let h = IfErr-weaker c.write_items.result _ _ (λ e u. rest_unwritten W.put W.room g.met.W.Writer.writer_laws g.Len.SeqLen.scheme T.writing T.proper T.seen g.met.T.SchemaWrite.write_laws c.args.items.now _ _ _ _ _ e c.in_ok-write.ensures.ok u) c.write_items.ensures.err in
-    rw c.write.ensures.kept at h
+    IfErr-weaker c.write_items.result _ _ (λ e u. rest_unwritten g.met.W.Writer.writer_laws g.Len.SeqLen.scheme g.met.T.SchemaWrite.write_laws c.args.items.now c.in_ok-write.ensures.ok u) c.write_items.ensures.err

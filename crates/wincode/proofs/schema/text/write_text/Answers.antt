@@ -4,19 +4,15 @@ use Rattle.wincode.proofs.schema.text.write_text.Goals as goal
 
 pub returns-in_err-write-clause-err : goal.returns-in_err-write-clause-err
 returns-in_err-write-clause-err g c =
-    let W = g.W.Writer in
     let small : length c.args.text.now < 2 ^ 64 = search rules in
-    let h = text_unwritten_first W.put W.room g.met.W.Writer.writer_laws 24 _ _ c.args.text.now _ _ _ _ small refl c.in_err-write.ensures.err in search (rules, h)
+    let h = text_unwritten_first g.met.W.Writer.writer_laws 24 c.args.text.now _ small refl c.in_err-write.ensures.err in search (rules, h)
 
 pub returns-in_err-write-2-clause-err : goal.returns-in_err-write-2-clause-err
 returns-in_err-write-2-clause-err g c =
-    let W = g.W.Writer in
     let small : length c.args.text.now < 2 ^ 64 = search rules in
-    let refused = rw c.write.ensures.kept at c.in_err-write-2.ensures.err in
-    let h = text_unwritten_second W.put W.room g.met.W.Writer.writer_laws 24 _ _ _ c.args.text.now _ _ _ _ _ small refl c.as_bytes.ensures.value c.in_ok-write.ensures.ok refused in search (rules, h)
+    let h = text_unwritten_second g.met.W.Writer.writer_laws 24 c.args.text.now _ _ small refl c.as_bytes.ensures.value c.in_ok-write.ensures.ok c.in_err-write-2.ensures.err in search (rules, h)
 
 pub returns-clause-ok : goal.returns-clause-ok
 returns-clause-ok g c =
-    let W = g.W.Writer in
     let small : length c.args.text.now < 2 ^ 64 = search rules in
-    text_wrote W.put W.room g.met.W.Writer.writer_laws 24 _ _ _ c.args.text.now _ _ small refl c.as_bytes.ensures.value c.in_ok-write.ensures.ok c.in_ok-write-2.ensures.ok
+    text_wrote g.met.W.Writer.writer_laws 24 c.args.text.now _ _ small refl c.as_bytes.ensures.value c.in_ok-write.ensures.ok c.in_ok-write-2.ensures.ok
