@@ -1,7 +1,8 @@
 //! Times reading and writing of lists of numbers and of records beside a copy of as many bytes.
 //!
 //! Without arguments it prints one fixed line. With `--time` it prints a table: for each row the least
-//! of 20 runs, in microseconds, and how many tenths of the copy of as many bytes that is.
+//! of 20 runs, in microseconds, and how many tenths of the copy of as many bytes that is. Each run looks at
+//! what it made, so that no run can leave it out.
 #![tactic(auto)]
 
 use std::alloc::Global;
@@ -25,6 +26,9 @@ const RECORD_SIZE: usize = 41;
 type Record = (u64, bool, [u8; 32]);
 
 const RECORD: Record = (7, true, [9; 32]);
+
+/// The number, the boolean and the bytes of a record, added.
+const RECORD_SUM: u64 = 296;
 
 /// Why a measurement ended early.
 #[derive(Debug, Drop, Error)]
@@ -73,10 +77,9 @@ struct Copy<'a>(&'a [u8]);
 
 impl Work for Copy<'_> {
     fn run(&self, alloc: Global) -> Result<(), Failure> {
-        if Vec::from_slice(alloc, self.0).is_err() {
-            Err(Failure::OutOfMemory)
-        } else {
-            Ok(())
+        match Vec::from_slice(alloc, self.0) {
+            Ok(bytes) if bytes.last() == self.0.last() => Ok(()),
+            _ => Err(Failure::OutOfMemory),
         }
     }
 }
@@ -87,8 +90,8 @@ struct ReadNumbers<'a>(&'a [u8]);
 impl Work for ReadNumbers<'_> {
     fn run(&self, alloc: Global) -> Result<(), Failure> {
         match deserialize::<&[u8], Vec<u64>>(alloc, self.0) {
-            Ok(_) => Ok(()),
-            Err(_) => Err(Failure::Read),
+            Ok(list) if list.last() == Some(&(NUMBERS - 1)) => Ok(()),
+            _ => Err(Failure::Read),
         }
     }
 }
@@ -98,35 +101,45 @@ struct ReadLists<'a>(&'a [u8]);
 
 impl Work for ReadLists<'_> {
     fn run(&self, alloc: Global) -> Result<(), Failure> {
-        match deserialize::<&[u8], Vec<Vec<u64>>>(alloc, self.0) {
-            Ok(_) => Ok(()),
-            Err(_) => Err(Failure::Read),
+        let lists = match deserialize::<&[u8], Vec<Vec<u64>>>(alloc, self.0) {
+            Ok(lists) => lists,
+            Err(_) => return Err(Failure::Read),
+        };
+        for list in &lists {
+            if list.last() != Some(&(SIDE - 1)) {
+                return Err(Failure::Read);
+            }
         }
+        Ok(())
     }
 }
 
 #[derive(Drop)]
-struct WriteNumbers<'a>(&'a Vec<u64>);
+struct WriteNumbers<'a> {
+    list: &'a Vec<u64>,
+    text: &'a [u8],
+}
 
 impl Work for WriteNumbers<'_> {
     fn run(&self, alloc: Global) -> Result<(), Failure> {
-        if serialize(alloc, self.0).is_err() {
-            Err(Failure::Write)
-        } else {
-            Ok(())
+        match serialize(alloc, self.list) {
+            Ok(bytes) if bytes.last() == self.text.last() => Ok(()),
+            _ => Err(Failure::Write),
         }
     }
 }
 
 #[derive(Drop)]
-struct WriteLists<'a>(&'a Vec<Vec<u64>>);
+struct WriteLists<'a> {
+    lists: &'a Vec<Vec<u64>>,
+    text: &'a [u8],
+}
 
 impl Work for WriteLists<'_> {
     fn run(&self, alloc: Global) -> Result<(), Failure> {
-        if serialize(alloc, self.0).is_err() {
-            Err(Failure::Write)
-        } else {
-            Ok(())
+        match serialize(alloc, self.lists) {
+            Ok(bytes) if bytes.last() == self.text.last() => Ok(()),
+            _ => Err(Failure::Write),
         }
     }
 }
@@ -137,13 +150,28 @@ struct ReadRecords<'a>(&'a [u8]);
 impl Work for ReadRecords<'_> {
     fn run(&self, alloc: Global) -> Result<(), Failure> {
         let mut reader = self.0;
+        let mut sum = 0u64;
         for _i in 0..RECORDS {
-            if <Record as SchemaGet<Lifetime>>::get(alloc, &mut reader).is_err() {
-                return Err(Failure::Read);
+            match <Record as SchemaGet<Lifetime>>::get(alloc, &mut reader) {
+                Ok(record) => sum = sum.wrapping_add(record_sum(&record)),
+                Err(_) => return Err(Failure::Read),
             }
         }
-        Ok(())
+        if sum == RECORD_SUM * RECORDS as u64 {
+            Ok(())
+        } else {
+            Err(Failure::Read)
+        }
     }
+}
+
+/// The number, the boolean and the bytes, added.
+fn record_sum(record: &Record) -> u64 {
+    let mut sum = record.0.wrapping_add(u64::from(record.1));
+    for byte in &record.2 {
+        sum = sum.wrapping_add(u64::from(*byte));
+    }
+    sum
 }
 
 /// Writes so many records.
@@ -166,8 +194,10 @@ impl WriteRecords {
 
 impl Work for WriteRecords {
     fn run(&self, alloc: Global) -> Result<(), Failure> {
-        self.bytes(alloc)?;
-        Ok(())
+        match self.bytes(alloc)?.last() {
+            Some(9) => Ok(()),
+            _ => Err(Failure::Write),
+        }
     }
 }
 
@@ -201,6 +231,10 @@ fn time_numbers(rt: &(impl Clock + Print + AllocGlobal)) -> Result<(), Failure> 
     let alloc = rt.alloc();
     let list = numbers(alloc, NUMBERS)?;
     let bytes = serialize(alloc, &list).map_err(|_| Failure::Write)?;
+    let numbers_written = WriteNumbers {
+        list: &list,
+        text: bytes.as_slice(),
+    };
     let copy = least(rt, alloc, &Copy(bytes.as_slice()))?;
     print_row(rt, "copy of the numbers' bytes", copy, copy)?;
     print_row(
@@ -212,7 +246,7 @@ fn time_numbers(rt: &(impl Clock + Print + AllocGlobal)) -> Result<(), Failure> 
     print_row(
         rt,
         "serialize numbers",
-        least(rt, alloc, &WriteNumbers(&list))?,
+        least(rt, alloc, &numbers_written)?,
         copy,
     )
 }
@@ -221,6 +255,10 @@ fn time_lists(rt: &(impl Clock + Print + AllocGlobal)) -> Result<(), Failure> {
     let alloc = rt.alloc();
     let lists = square(alloc, SIDE)?;
     let bytes = serialize(alloc, &lists).map_err(|_| Failure::Write)?;
+    let lists_written = WriteLists {
+        lists: &lists,
+        text: bytes.as_slice(),
+    };
     let copy = least(rt, alloc, &Copy(bytes.as_slice()))?;
     print_row(rt, "copy of the lists' bytes", copy, copy)?;
     print_row(
@@ -232,7 +270,7 @@ fn time_lists(rt: &(impl Clock + Print + AllocGlobal)) -> Result<(), Failure> {
     print_row(
         rt,
         "serialize lists",
-        least(rt, alloc, &WriteLists(&lists))?,
+        least(rt, alloc, &lists_written)?,
         copy,
     )
 }

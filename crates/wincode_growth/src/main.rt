@@ -13,7 +13,13 @@ use std::alloc::Global;
 fn all(alloc: Global) -> Result<Ending, Unlike> {
     let reading = cases::reading::all(alloc)?;
     let writing = cases::writing::all(alloc)?;
-    Ok(reading.and(writing).and(cases::relays(alloc)?))
+    let recoding = cases::recodes(alloc)?;
+    Ok(
+        reading
+            .and(writing)
+            .and(recoding)
+            .and(cases::relays(alloc)?),
+    )
 }
 
 fn main(rt: HostRuntime) -> Result<(), Unlike> {

@@ -20,7 +20,7 @@ impl SchemaWrite for Refusing {
 
     ghost writing = { nothing_write };
 
-    ghost whole = { false };
+    ghost in_one_piece = { false };
 
     fn type_meta() -> TypeMeta {
         TypeMeta::Dynamic

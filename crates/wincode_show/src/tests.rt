@@ -2,8 +2,14 @@
 ghost use Rattle.std.specs.Prelude.{◌<◌, IfOk};
 
 mod arrays;
+mod calls;
+mod large;
 mod leaves;
+mod lifetimes;
 mod parts;
+mod program;
+mod readers;
+mod relaying;
 mod tuples;
 mod unwritten;
 mod vectors;
@@ -46,7 +52,7 @@ fn nested_lists(rt: HostRuntime) -> Result<(), Fail> {
     let mut out = Vec::new(alloc);
     out.write(&[7])?;
     serialize_into(&mut out, &lists)?;
-    assert_eq!(rt; out.len(), 33);
+    assert_eq!(rt; out.split_first(), Some((&7, NESTED.as_slice())));
     let back: Vec<Vec<u64>> = deserialize(alloc, NESTED.as_slice())?;
     assert!(rt; back == lists);
     Ok(())
@@ -287,24 +293,46 @@ fn answer(alloc: Global, name: &str, bytes: &[u8]) -> Result<String, Fail> {
     Ok(found.ok_or("a type")?)
 }
 
-/// Lists of items of one size that are refused. The vectors take the bytes of the whole list at once: they
-/// refuse a short list without looking at an item, and a bad item behind them all; here a list is read
-/// item by item, and is refused for the first item that is missing, and behind the bad part of an item.
-const UNLIKE_LISTS: [(&str, &str); 4] = [
-    ("Vec<u64>", "02000000000000000100000000000000"),
+/// Lists of items of one size that are refused, and their answers as long as lists are read item by item: a
+/// list is refused for the first item that is missing, and behind the bad part of an item. The vectors take the
+/// bytes of the whole list at once: they refuse a short list without looking at an item, and a bad item behind
+/// them all.
+const ITEM_BY_ITEM: [(&str, &str, &str); 4] = [
+    (
+        "Vec<u64>",
+        "02000000000000000100000000000000",
+        "err Io(ReadSizeLimit(8)) 0",
+    ),
     (
         "Vec<Vec<u64>>",
         "090000000000000000000000000000000300000000000000ff",
+        "err Io(ReadSizeLimit(8)) 1",
     ),
     (
         "Vec<Result<u8,u8>>",
         "0300000000000000010100000401000000ac00000000013a9e274ffbc5",
+        "err InvalidTagEncoding(257) 17",
     ),
     (
         "Vec<Result<u8,u8>>",
         "0300000000000000ff000000ff00000000040100000000",
+        "err InvalidTagEncoding(255) 11",
     ),
 ];
+
+/// Whether a row of the table was answered as it says, or as it is due as long as lists are read item by item.
+fn is_due(name: &str, digits: &str, outcome: &str, found: &str) -> bool {
+    let is_by_items = ITEM_BY_ITEM
+        .iter()
+        .any(|(list, bytes, _)| *list == name && *bytes == digits);
+    if is_by_items {
+        ITEM_BY_ITEM.iter().any(|(list, bytes, today)| *list == name
+            && *bytes == digits
+            && *today == found)
+    } else {
+        found == outcome
+    }
+}
 
 /// The first row of the table that is not answered as it says, if there is one.
 fn first_unlike(alloc: Global, table: &str) -> Result<Option<String>, Fail> {
@@ -313,10 +341,7 @@ fn first_unlike(alloc: Global, table: &str) -> Result<Option<String>, Fail> {
         let (digits, outcome) = rest.split_once('|').ok_or("an outcome")?;
         let bytes = bytes_of(alloc, digits)?;
         let found = answer(alloc, name, bytes.as_slice())?;
-        let is_unlike = UNLIKE_LISTS
-            .iter()
-            .any(|(list, unlike)| *list == name && *unlike == digits);
-        if (found.as_str() == outcome) == is_unlike {
+        if !is_due(name, digits, outcome, found.as_str()) {
             return Ok(Some(format!(in alloc; "{row}: {found}")?));
         }
     }
@@ -360,6 +385,18 @@ fn read_errors_print(rt: HostRuntime) -> Result<(), Fail> {
         (ReadError::Io(io::ReadError::OutOfMemory), "Out of memory"),
         (ReadError::from(text), utf8.as_str()),
         (error::invalid_utf8_encoding(text), utf8.as_str()),
+        (ReadError::OutOfMemory, "Out of memory"),
+    ];
+    for (error, text) in rows {
+        assert_eq!(rt; printed(alloc, error)?.as_str(), text);
+    }
+    Ok(())
+}
+
+#[test]
+fn read_errors_of_schemas_print(rt: HostRuntime) -> Result<(), Fail> {
+    let alloc = rt.alloc();
+    let rows = [
         (
             error::pointer_sized_decode_error(),
             "Could not cast integer type to pointer sized type",
@@ -380,7 +417,6 @@ fn read_errors_print(rt: HostRuntime) -> Result<(), Fail> {
             error::unaligned_pointer_read(),
             "Zero-copy read would be unaligned",
         ),
-        (ReadError::OutOfMemory, "Out of memory"),
     ];
     for (error, text) in rows {
         assert_eq!(rt; printed(alloc, error)?.as_str(), text);

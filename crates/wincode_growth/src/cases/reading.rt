@@ -3,45 +3,66 @@ use super::{Ending, Unlike};
 use std::alloc::Global;
 use std::rc::Rc;
 use wincode::io::Lifetime;
-use wincode::{ReadError, SchemaRead};
+use wincode::{ReadError, SchemaRead, deserialize};
 
 /// Reads by the schema, and tells how it ended: with memory, with so many bytes left; or without, with
-/// so many, and nothing in the destination.
+/// one of the numbers in `behind` left, and nothing in the destination.
 fn read<'a, T: SchemaRead<Lifetime<'a>>>(
     alloc: Global,
     bytes: &'a [u8],
     left: usize,
-    behind: usize,
+    behind: &[usize],
 ) -> Result<Ending, Unlike> {
     let mut reader = bytes;
     let mut dst = None;
     match T::read(alloc, &mut reader, &mut dst) {
         Ok(()) if dst.is_some() && reader.len() == left => Ok(Ending::Ample),
-        Err(ReadError::OutOfMemory) if dst.is_none() && reader.len() == behind => Ok(
+        Err(ReadError::OutOfMemory) if dst.is_none() && behind.contains(&reader.len()) => Ok(
             Ending::Refused,
         ),
         _ => Err(Unlike::Reading),
     }
 }
 
-pub fn all(alloc: Global) -> Result<Ending, Unlike> {
+/// One growth, behind the length or the value that is boxed.
+fn one_growth(alloc: Global) -> Result<Ending, Unlike> {
     let text = [2u8, 0, 0, 0, 0, 0, 0, 0, 195, 169, 9];
-    let string = read::<String>(alloc, text.as_slice(), 1, 3)?;
-    let list = read::<Vec<u8>>(alloc, text.as_slice(), 1, 3)?;
+    let string = read::<String>(alloc, text.as_slice(), 1, &[3])?;
+    let list = read::<Vec<u8>>(alloc, text.as_slice(), 1, &[3])?;
     let number = [1u8, 2, 3, 4, 5];
-    let boxed = read::<Box<u32>>(alloc, number.as_slice(), 1, 1)?;
-    let shared = read::<Rc<u32>>(alloc, number.as_slice(), 1, 1)?;
+    let boxed = read::<Box<u32>>(alloc, number.as_slice(), 1, &[1])?;
+    let shared = read::<Rc<u32>>(alloc, number.as_slice(), 1, &[1])?;
+    Ok(string.and(list).and(boxed).and(shared))
+}
+
+/// Growths of what stands in options, results, tuples, arrays and lists.
+fn inside(alloc: Global) -> Result<Ending, Unlike> {
     let some = [1u8, 1, 0, 0, 0, 0, 0, 0, 0, 97];
-    let inside = read::<Option<String>>(alloc, some.as_slice(), 0, 1)?;
-    let pair = read::<(u8, String)>(alloc, some.as_slice(), 0, 1)?;
-    let array = read::<[String; 1]>(alloc, &some[1..], 0, 1)?;
-    Ok(
-        string
-            .and(list)
-            .and(boxed)
-            .and(shared)
-            .and(inside)
-            .and(pair)
-            .and(array),
-    )
+    let option = read::<Option<String>>(alloc, some.as_slice(), 0, &[1])?;
+    let pair = read::<(u8, String)>(alloc, some.as_slice(), 0, &[1])?;
+    let array = read::<[String; 1]>(alloc, &some[1..], 0, &[1])?;
+    let error = [1u8, 0, 0, 0, 1, 0, 0, 0, 0, 0, 0, 0, 97];
+    let result = read::<Result<u8, String>>(alloc, error.as_slice(), 0, &[1])?;
+    let lists = [
+        2u8, 0, 0, 0, 0, 0, 0, 0, 1, 0, 0, 0, 0, 0, 0, 0, 97, 1, 0, 0, 0, 0, 0, 0, 0, 98,
+    ];
+    let texts = read::<Vec<String>>(alloc, lists.as_slice(), 0, &[18, 10, 1])?;
+    let two = read::<Box<[String; 2]>>(alloc, &lists[8..], 0, &[10, 1, 0])?;
+    Ok(option.and(pair).and(array).and(result).and(texts).and(two))
+}
+
+/// The same by the call that most programs make.
+fn deserialized(alloc: Global) -> Result<Ending, Unlike> {
+    let text = [1u8, 0, 0, 0, 0, 0, 0, 0, 97];
+    match deserialize::<&[u8; 9], String>(alloc, &text) {
+        Ok(found) if found.as_str() == "a" => Ok(Ending::Ample),
+        Err(ReadError::OutOfMemory) => Ok(Ending::Refused),
+        _ => Err(Unlike::Reading),
+    }
+}
+
+pub fn all(alloc: Global) -> Result<Ending, Unlike> {
+    let one = one_growth(alloc)?;
+    let parts = inside(alloc)?;
+    Ok(one.and(parts).and(deserialized(alloc)?))
 }

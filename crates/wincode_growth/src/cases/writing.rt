@@ -2,7 +2,7 @@
 use super::{Ending, Unlike};
 use std::alloc::Global;
 use wincode::io::{self, Cursor, WriteResult, Writer};
-use wincode::{WriteError, serialize};
+use wincode::{WriteError, serialize, serialize_into};
 
 fn ending(answer: WriteResult<()>) -> Result<Ending, Unlike> {
     match answer {
@@ -84,9 +84,46 @@ fn serialized(alloc: Global) -> Result<Ending, Unlike> {
     }
 }
 
+/// In one piece: refused, nothing is added.
+fn a_record(alloc: Global) -> Result<Ending, Unlike> {
+    let mut bytes = Vec::new(alloc);
+    match serialize_into(&mut bytes, &(258u16, true)) {
+        Ok(()) if bytes.as_slice() == [2u8, 1, 1].as_slice() => Ok(Ending::Ample),
+        Err(WriteError::Io(io::WriteError::OutOfMemory)) if bytes.is_empty() => Ok(Ending::Refused),
+        _ => Err(Unlike::Writing),
+    }
+}
+
+/// Through a cursor, item by item: refused, a beginning of the text is there.
+fn a_list(alloc: Global) -> Result<Ending, Unlike> {
+    let Ok(list) = Vec::from_slice(alloc, &[7u8, 8, 9]) else {
+        return Ok(Ending::Refused);
+    };
+    let mut cursor = Cursor::new(Vec::new(alloc));
+    let answer = serialize_into(&mut cursor, &list);
+    let text: &[u8] = &[3, 0, 0, 0, 0, 0, 0, 0, 7, 8, 9];
+    let bytes = cursor.into_inner();
+    match answer {
+        Ok(()) if bytes.as_slice() == text => Ok(Ending::Ample),
+        Err(WriteError::Io(io::WriteError::OutOfMemory)) if text.starts_with(bytes.as_slice()) => {
+            Ok(Ending::Refused)
+        }
+        _ => Err(Unlike::Writing),
+    }
+}
+
 pub fn all(alloc: Global) -> Result<Ending, Unlike> {
     let vector = appended(alloc)?;
     let cursor = behind_a_gap(alloc)?;
     let lent = in_a_lent_vector(alloc)?;
-    Ok(vector.and(cursor).and(lent).and(serialized(alloc)?))
+    let record = a_record(alloc)?;
+    let list = a_list(alloc)?;
+    Ok(
+        vector
+            .and(cursor)
+            .and(lent)
+            .and(record)
+            .and(list)
+            .and(serialized(alloc)?),
+    )
 }

@@ -93,9 +93,12 @@ fn tuple_sizes(rt: HostRuntime) {
 fn a_list_and_a_flag(rt: HostRuntime) -> Result<(), Fail> {
     let alloc = rt.alloc();
     let pair = (vec![in alloc; 1u64, 2, 3]?, true);
-    let text = serialize(alloc, &pair)?;
-    assert_eq!(rt; text.len(), 33);
-    let back: (Vec<u64>, bool) = deserialize(alloc, text.as_slice())?;
+    let expected = [
+        3u8, 0, 0, 0, 0, 0, 0, 0, 1, 0, 0, 0, 0, 0, 0, 0, 2, 0, 0, 0, 0, 0, 0, 0, 3, 0, 0, 0, 0, 0,
+        0, 0, 1,
+    ];
+    assert_eq!(rt; serialize(alloc, &pair)?.as_slice(), expected.as_slice());
+    let back: (Vec<u64>, bool) = deserialize(alloc, &expected)?;
     assert!(rt; back == pair);
     assert_eq!(rt; <(Vec<u64>, bool) as SchemaWrite>::size_of(&pair)?, 33);
     Ok(())

@@ -1,0 +1,138 @@
+//! The program under a runtime of the test's own: what it writes, what it prints, and its status.
+use super::NESTED;
+use crate::status;
+use std::alloc::{Allocator, Global};
+use std::cell::Cell;
+use std::env::FillError;
+use std::fmt::Display;
+use std::io::{self, BufRead, ErrorKind, Lines};
+use std::rt::Env;
+use std::test::Fail;
+
+/// Gives these arguments and this input, and keeps what is written and printed.
+#[derive(Drop)]
+struct Played<'a> {
+    alloc: Global,
+    words: &'a [&'static str],
+    input: &'a [u8],
+    output: Cell<Vec<u8>>,
+    errors: Cell<Vec<u8>>,
+}
+
+fn append(alloc: Global, kept: &Cell<Vec<u8>>, more: &[u8]) -> io::Result<()> {
+    let mut bytes = kept.replace(Vec::new(alloc));
+    bytes.extend_from_slice(more)?;
+    kept.set(bytes);
+    Ok(())
+}
+
+impl Alloc for Played<'_> {
+    type A = Global;
+
+    fn alloc(&self) -> Global {
+        self.alloc
+    }
+}
+
+impl Env for Played<'_> {
+    fn arg(&self, i: usize, buf: &mut [u8]) -> Result<usize, FillError> {
+        let word = self.words.get(i).ok_or(FillError::NotPresent)?.as_bytes();
+        if buf.len() < word.len() {
+            return Err(FillError::TooLong);
+        }
+        buf[..word.len()].copy_from_slice(word);
+        Ok(word.len())
+    }
+
+    fn var(&self, _name: &str, _buf: &mut [u8]) -> Result<usize, FillError> {
+        Err(FillError::NotPresent)
+    }
+
+    fn var_at(&self, _i: usize, _buf: &mut [u8]) -> Result<usize, FillError> {
+        Err(FillError::NotPresent)
+    }
+}
+
+impl<'a> Input for Played<'a> {
+    type Reader = &'a [u8];
+
+    fn read_line<A: Allocator + Clone>(&self, _buf: &mut String<A>) -> io::Result<usize> {
+        Err(io::Error::from(ErrorKind::Unsupported))
+    }
+
+    fn lines<A: Allocator>(&self, alloc: A) -> Lines<&'a [u8], A> {
+        self.input.lines(alloc)
+    }
+
+    fn reader(&self) -> &'a [u8] {
+        self.input
+    }
+}
+
+impl Print for Played<'_> {
+    fn print<D: Display + Drop>(&self, value: D) -> io::Result<()> {
+        let text = format!(in self.alloc; "{value}")?;
+        append(self.alloc, &self.output, text.as_bytes())
+    }
+
+    fn println<D: Display + Drop>(&self, value: D) -> io::Result<()> {
+        let text = format!(in self.alloc; "{value}\n")?;
+        append(self.alloc, &self.output, text.as_bytes())
+    }
+
+    fn write_all(&self, bytes: &[u8]) -> io::Result<()> {
+        append(self.alloc, &self.output, bytes)
+    }
+}
+
+impl Eprint for Played<'_> {
+    fn eprint<D: Display + Drop>(&self, value: D) -> io::Result<()> {
+        let text = format!(in self.alloc; "{value}")?;
+        append(self.alloc, &self.errors, text.as_bytes())
+    }
+
+    fn eprintln<D: Display + Drop>(&self, value: D) -> io::Result<()> {
+        let text = format!(in self.alloc; "{value}\n")?;
+        append(self.alloc, &self.errors, text.as_bytes())
+    }
+}
+
+#[test]
+fn the_program(rt: HostRuntime) -> Result<(), Fail> {
+    let alloc = rt.alloc();
+    let rows: [(&[&'static str], &[u8], u8, &[u8], &str); 5] = [
+        (&["show", "nested"], &NESTED, 0, &NESTED, ""),
+        (
+            &["show", "nested"],
+            &[],
+            1,
+            &[],
+            "Attempting to read 8 bytes\n",
+        ),
+        (&["show", "other"], &NESTED, 2, &[], "unknown shape\n"),
+        (&["show"], &NESTED, 2, &[], "unknown shape\n"),
+        (
+            &["show", "nested", "nested"],
+            &NESTED,
+            2,
+            &[],
+            "unknown shape\n",
+        ),
+    ];
+    for (words, input, wanted, output, errors) in &rows {
+        let played = Played {
+            alloc,
+            words: *words,
+            input: *input,
+            output: Cell::new(Vec::new(alloc)),
+            errors: Cell::new(Vec::new(alloc)),
+        };
+        assert_eq!(rt; status(&played), *wanted);
+        assert_eq!(rt; played.output.replace(Vec::new(alloc)).as_slice(), *output);
+        assert_eq!(rt;
+            played.errors.replace(Vec::new(alloc)).as_slice(),
+            errors.as_bytes()
+        );
+    }
+    Ok(())
+}
