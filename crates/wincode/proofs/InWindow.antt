@@ -1,18 +1,15 @@
 -- What is read from, or written to, a window of the right size is read from, or written to, what is below.
-use Rattle.std.proofs.Common.{◌≡◌, ◌∙◌, sym, ap, subst, ℕ, ◌<◌, ◌≤◌, ◌&&◌, Bool, true, false, List, [], ◌++◌, length, refl, arith, append-nil, IsTrue}
+use Rattle.std.proofs.Common.{◌≡◌, ◌∙◌, sym, subst, ℕ, ◌<◌, ◌&&◌, Bool, true, false, List, [], ◌++◌, length, refl, arith, append-nil, IsTrue}
 use Rattle.wincode_io.specs.Readers.{ReaderState, Windowed}
 use Rattle.wincode_io.specs.PlaceLaws.{loses_onward}
-use Rattle.std.specs.Borrow.{GName}
-use Rattle.wincode_io.specs.Writers.{WriterState, WriterLaws, IsSameWriter, IsWriteRefused, byte_limit}
-use Rattle.wincode_io.specs.WriteWindows.{window_of}
+use Rattle.wincode_io.specs.Writers.{WriterState, WriterLaws, IsWriteRefused}
 use Rattle.wincode.specs.Grammar.{WriteGrammar, WriteLaws, IsReadStatic, IsWriteStatic}
 use Rattle.wincode.specs.LeafLaws.{same_front}
-use Rattle.wincode.specs.Outcomes.{Due, ReaderDue, Accepts, Refuses, Wrote, Unwritten, WriterDue, WriteDue, IsAble}
+use Rattle.wincode.specs.Outcomes.{Due, ReaderDue, Accepts, Refuses, Unwritten, WriterDue, IsAble}
 use Rattle.wincode.specs.declared.meta.TypeMeta.{TypeMeta}
 use Rattle.wincode.specs.declared.meta.TypeMeta.TheVariants.{Static}
 use Rattle.wincode.specs.declared.error.ReadError.{ReadError}
 use Rattle.wincode_io.specs.declared.error.ReadError.{ReadError as IoReadError}
-use Rattle.wincode.specs.declared.error.WriteError.{WriteError}
 use Rattle.wincode_io.specs.declared.error.WriteError.{WriteError as IoWriteError}
 use Rattle.wincode.specs.declared.error.ReadError.TheVariants as reading
 use Rattle.wincode.specs.declared.error.WriteError.TheVariants as writing
@@ -88,52 +85,3 @@ module _ {S K V : Type 0} {put : S → List ℕ → S} {room : S → ℕ} (g : W
     began = λ c. let t = l.has_text v c in record { front = []; more = t.0; is_text = t.1; within = omega arith; added = d.0.content ∙ sym (laws.nil old.content) };
     due = room_due old new v e d;
   }
-
--- ---- a window for writing
-
-module _ {S K V : Type 0} {put : S → List ℕ → S} {room : S → ℕ} (g : WriteGrammar V) (below after : WriterState put room K) (name : GName) (n left : ℕ) (v : V) where
-  same_below : IsSameWriter (window_of below name n) (window_of after name left) → IsSameWriter below after
-  same_below s = record { kept = ap (λ k. k.target) s.kept; steady = ap (λ k. k.steady) s.kept }
-
-  -- what a window took, its writer took
-  pub window_wrote : Wrote g (window_of below name n) (window_of after name left) v → Wrote g below after v
-  window_wrote w = record {
-    can = w.can;
-    fits = let f = w.fits in omega arith;
-    text = w.text;
-    is_text = w.is_text;
-    took = record { same = same_below w.took.same; content = ap (λ s. s.target) w.took.content };
-  }
-
-  module _ (sized : (v : V) → g.can v → g.size v ≡ n) (fits : n ≤ room below.content) (bound : n ≤ byte_limit) where
-    able_within : IsAble g below v → IsAble g (window_of below name n) v
-    able_within a = (a.0, let s = sized v a.0 in omega arith)
-
-    reader_due_below : (e : IoWriteError) → WriterDue (IsAble g (window_of below name n) v) (window_of after name left) e → WriterDue (IsAble g below v) after e
-    reader_due_below (writer.WriteSizeLimit m) d = λ a. d (able_within a)
-    reader_due_below (writer.Io e) d = let h : true ≡ false = d.0 in absurd (cc h)
-    reader_due_below writer.OutOfMemory d = let h : true ≡ false = d in absurd (cc h)
-
-    due_below : (e : WriteError) → WriteDue (IsAble g (window_of below name n) v) (window_of after name left) e → WriteDue (IsAble g below v) after e
-    due_below (writing.Io e) d = reader_due_below e d
-    due_below writing.OutOfMemory d = let h : true ≡ false = d in absurd (cc h)
-    due_below _ d = λ a. d (able_within a)
-
-    -- what a window of the value's size refused, its writer refuses
-    pub window_unwritten : (e : WriteError) → Unwritten g (window_of below name n) (window_of after name left) v e → Unwritten g below after v e
-    window_unwritten e u = record {
-      same = same_below u.same;
-      began = λ c. let b = u.began c in record { front = b.front; more = b.more; is_text = b.is_text; within = let w = b.within in omega arith; added = ap (λ s. s.target) b.added };
-      due = due_below e u.due;
-    }
-
-    never_due : (e : IoWriteError) → WriterDue (IsAble g (window_of below name n) v) (window_of after name left) e → g.can v → ⊥
-    never_due (writer.WriteSizeLimit m) d c = d (c, let s = sized v c in omega arith)
-    never_due (writer.Io e) d c = let h : true ≡ false = d.0 in absurd (cc h)
-    never_due writer.OutOfMemory d c = let h : true ≡ false = d in absurd (cc h)
-
-    -- what can be written is not refused by such a window
-    pub window_takes : (e : WriteError) → WriteDue (IsAble g (window_of below name n) v) (window_of after name left) e → g.can v → ⊥
-    window_takes (writing.Io e) d c = never_due e d c
-    window_takes writing.OutOfMemory d c = let h : true ≡ false = d in absurd (cc h)
-    window_takes _ d c = d (c, let s = sized v c in omega arith)

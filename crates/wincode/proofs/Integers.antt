@@ -139,9 +139,6 @@ pub bool_refuses : (old new : ReaderState) (v : ℕ) → 1 < v → Takes 1 old n
 bool_refuses old new v big t =
     record { kept = t.loses.kept; left = λ told. record { front = v ∷ []; joins = takes_joins t told }; place = loses_onward 1 old new t.loses; due = not_bool old new v big t }
 
-pub bool_denied : (old new : ReaderState) (e : ReadError) → IsDenied 1 old new e → Refuses bool_read.reads 0 true old new e
-bool_denied old new e d = denied_refuses bool_read.reads 1 (λ b v r. ap length r) 0 true old new e d
-
 pub is_bool : (v : ℕ) → v ≤ 1 → v ≡ bool_byte (nat_eq v 1)
 is_bool zero h = refl
 is_bool (suc zero) h = refl

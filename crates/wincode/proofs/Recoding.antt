@@ -1,6 +1,5 @@
 -- What is read as nested lists of numbers can be written, in as many bytes.
-use Rattle.std.proofs.Common.{◌≡◌, ◌∙◌, sym, ap, refl, inl, inr, ℕ, ◌<◌, ◌^◌, List, [], ◌∷◌, length, map, arith, true, false, Option, Some, None, IfSome, subst, length-append}
-use Rattle.wincode_io.specs.Readers.{ReaderState, Kept, memory, shared}
+use Rattle.std.proofs.Common.{◌≡◌, ap, inl, inr, ℕ, ◌<◌, ◌^◌, List, [], ◌∷◌, length, map, arith, true, Option, Some, None, IfSome, subst, length-append}
 use Rattle.wincode.specs.Grammar.{ReadGrammar, WriteGrammar}
 use Rattle.wincode.specs.Leaves.{number_read, number_write}
 use Rattle.wincode.specs.LeafLaws.{number_write_laws}
@@ -8,16 +7,13 @@ use Rattle.wincode.specs.Lengths.{Scheme, SchemeLaws, bincode}
 use Rattle.wincode.specs.LengthLaws.{bincode_laws}
 use Rattle.wincode.specs.Lists.{list_read, list_write}
 use Rattle.wincode.specs.ListLaws.{list_write_laws}
-use Rattle.wincode.specs.Outcomes.{Found, Accepts, Due, IsUnread, unsaid, IsUnserialized}
+use Rattle.wincode.specs.Outcomes.{Found, IsUnserialized}
 use Rattle.wincode.specs.declared.error.WriteError.{WriteError}
 use Rattle.wincode.specs.declared.error.WriteError.TheVariants as writing
-use Rattle.wincode.specs.Show.{nested_word, nested_read, nested_write, Recoded, IsRecoded, IsUnrecoded, IsUnrelayed, IsReadMemory}
+use Rattle.wincode.specs.Show.{nested_word, nested_read, nested_write, Recoded, IsUnrecoded, IsUnrelayed}
 use Rattle.std.proofs.KnownBytes.{Keeps-refl}
 use Rattle.wincode.specs.declared.show.RelayError.{RelayError}
 use Rattle.wincode.specs.declared.show.RelayError.TheVariants as relay
-use Rattle.wincode.specs.declared.error.ReadError.{ReadError}
-use Rattle.wincode.specs.declared.error.ReadError.TheVariants as reading
-use Rattle.wincode_io.specs.declared.error.ReadError.TheVariants as reader
 use Rattle.wincode_io.specs.Joins.{Joined, Each}
 
 -- what is read can be written so
@@ -57,32 +53,10 @@ found_writable bytes v rest small f =
     let h = nested_writable f.text v f.is_read in
     (h.1, omega (arith, nested_size v f.text h.0, ap length f.joins, length-append f.text rest, small))
 
-accepted : (bytes : List ℕ) → length bytes < 2 ^ 64 → (text : List ℕ) → Recoded nested_read nested_write bytes text → Accepts nested_read.reads (memory shared bytes)
-accepted bytes small text r = record { told = refl; fits = small; front = record { value = r.value; rest = r.rest; found = r.found } }
-
-unsteady : (old left : ReaderState) → Kept old left → old.steady ≡ true → left.steady ≡ false → ⊥
-unsteady old left k s f = let h : true ≡ false = sym s ∙ sym k.steady ∙ f in absurd (cc h)
-
-refused_memory : (bytes : List ℕ) (left : ReaderState) (e : ReadError) → Kept (memory shared bytes) left → Accepts nested_read.reads (memory shared bytes) → Due (Accepts nested_read.reads (memory shared bytes)) 0 false left e → IsReadMemory e
-refused_memory bytes left reading.OutOfMemory k a d = tt
-refused_memory bytes left (reading.Io (reader.ReadSizeLimit n)) k a d = absurd (d a)
-refused_memory bytes left (reading.Io reader.UnsupportedZeroCopy) k a d = let h : left.lends < 0 = d a in absurd (omega arith)
-refused_memory bytes left (reading.Io (reader.Io e)) k a d = absurd (unsteady (memory shared bytes) left k refl d.0)
-refused_memory bytes left (reading.Io reader.OutOfMemory) k a d = absurd (unsteady (memory shared bytes) left k refl d)
-refused_memory bytes left _ k a d = absurd (d a)
-
--- where a front reads, reading bytes in memory is refused for memory alone
-pub unread_memory : (bytes : List ℕ) (e : ReadError) → length bytes < 2 ^ 64 → IsUnread nested_read unsaid (memory shared bytes) e → (text : List ℕ) → Recoded nested_read nested_write bytes text → IsReadMemory e
-unread_memory bytes e small u text r = refused_memory bytes u.0 e u.1.0.kept (accepted bytes small text r) u.1.0.due
-
 -- what was refused of the bytes of an input was refused of the input, where that is known
 known_input : (input : Option (List ℕ)) (shape bytes : List ℕ) (e : RelayError) → IfSome input (λ all. bytes ≡ all) → IsUnrecoded shape bytes e → IfSome input (λ all. IsUnrecoded shape all e)
 known_input None shape bytes e same d = tt
 known_input (Some all) shape bytes e same d = subst (λ b. IsUnrecoded shape b e) same d
-
-pub known_text : (input : Option (List ℕ)) (shape bytes text : List ℕ) → IfSome input (λ all. bytes ≡ all) → IsRecoded shape bytes text → IfSome input (λ all. (t : List ℕ) × IsRecoded shape all t)
-known_text None shape bytes text same d = tt
-known_text (Some all) shape bytes text same d = (text, subst (λ b. IsRecoded shape b text) same d)
 
 pub unrelayed : (shape : List ℕ) (input left old : Option (List ℕ)) (bytes : List ℕ) (e : RelayError) → shape ≡ nested_word → IfSome input (λ all. bytes ≡ all) → IsUnrecoded shape bytes e → IsUnrelayed shape input left old old e
 unrelayed shape input left old bytes relay.UnknownShape known same d = absurd (d known)

@@ -1,5 +1,5 @@
 -- Reading and writing a tag and then what it names.
-use Rattle.std.proofs.Common.{◌≡◌, ◌∙◌, sym, ap, subst, ℕ, ◌<◌, ◌≤◌, ◌^◌, ◌&&◌, Bool, true, List, ◌++◌, max, refl, arith, Option, Some, None, Result, Ok, Err}
+use Rattle.std.proofs.Common.{◌≡◌, ◌∙◌, sym, ap, subst, ℕ, ◌≤◌, ◌&&◌, true, List, ◌++◌, max, refl, arith, Option, Some, None, Result, Ok, Err}
 use Rattle.wincode_io.specs.Readers.{ReaderState}
 use Rattle.wincode_io.specs.Writers.{WriterState, WriterLaws}
 use Rattle.wincode.specs.Grammar.{ReadGrammar, WriteGrammar, WriteLaws}

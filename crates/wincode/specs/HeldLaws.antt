@@ -1,5 +1,5 @@
 -- The laws of what is held in memory of its own.
-use Rattle.std.proofs.Common.{◌≡◌, ap, ℕ, List, refl, arith}
+use Rattle.std.proofs.Common.{ap, ℕ, List, refl, arith}
 use Rattle.wincode.specs.Grammar.{ReadGrammar, WriteGrammar, ReadLaws, WriteLaws, ReadsBack, IsReadStatic}
 use Rattle.wincode.specs.Text.{reference_meta}
 use Rattle.wincode.specs.TextLaws.{reference_write_laws}

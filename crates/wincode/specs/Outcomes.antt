@@ -1,6 +1,6 @@
 -- What reading and writing a value answer, said once for lengths, leaves and compounds.
-use Rattle.std.specs.Prelude.{⊤, ◌≡◌, ◌⊎◌, ℕ, ◌+◌, ◌*◌, ◌^◌, ◌<◌, ◌≤◌, min, Bool, false, ◌&&◌, List, [], ◌∷◌, ◌++◌, length, IsTrue, Option, Some}
-use Rattle.wincode_io.specs.Readers.{ReaderState, Kept, IsOnward, Takes, IsShort, IsRefused}
+use Rattle.std.specs.Prelude.{⊤, ◌≡◌, ◌⊎◌, ℕ, ◌^◌, ◌<◌, ◌≤◌, min, Bool, false, ◌&&◌, List, ◌++◌, length, IsTrue, Option, Some}
+use Rattle.wincode_io.specs.Readers.{ReaderState, Kept, IsOnward, IsShort, IsRefused}
 use Rattle.wincode_io.specs.Writers.{WriterState, IsSameWriter, Took, byte_limit, IsWriteRefusal, IsWriteRefused}
 use Rattle.wincode.specs.Grammar.{ReadGrammar, WriteGrammar}
 use Rattle.wincode.specs.declared.error.ReadError.{ReadError}

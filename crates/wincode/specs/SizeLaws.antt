@@ -1,5 +1,5 @@
 -- How the sizes of two parts, or their refusals, make that of both.
-use Rattle.std.proofs.Common.{◌≡◌, ◌∙◌, ap, ℕ, ◌+◌, ◌<◌, ◌≤◌, ◌^◌, ◌&&◌, Bool, true, false, arith, refl, IsTrue}
+use Rattle.std.proofs.Common.{◌≡◌, ◌∙◌, ap, ℕ, ◌+◌, ◌≤◌, ◌^◌, ◌&&◌, Bool, true, false, arith, refl, IsTrue}
 use Rattle.wincode.specs.Grammar.{WriteGrammar}
 use Rattle.wincode.specs.Pairs.{pair_write}
 use Rattle.wincode.specs.Outcomes.{IsSized, IsSizeRefused, IsOverflow}

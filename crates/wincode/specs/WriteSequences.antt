@@ -1,7 +1,7 @@
 -- How what each write of a sequence answers makes what the whole answers.
-use Rattle.std.proofs.Common.{◌≡◌, ◌∙◌, sym, ap, subst, ℕ, ◌+◌, ◌-◌, ◌<◌, ◌≤◌, min, Bool, List, [], ◌∷◌, ◌++◌, length, map, refl, arith, append_assoc, append-nil, length-append}
-use Rattle.wincode_io.specs.Writers.{WriterState, WriterLaws, IsSameWriter, Took, Added, IsWriteRefusal, IsWriteRefused, byte_limit}
-use Rattle.wincode_io.specs.Joins.{Joined, Each, total}
+use Rattle.std.proofs.Common.{◌≡◌, ◌∙◌, sym, ap, subst, ℕ, ◌+◌, ◌-◌, ◌<◌, ◌≤◌, Bool, List, [], ◌∷◌, ◌++◌, length, map, refl, arith, append_assoc, append-nil, length-append}
+use Rattle.wincode_io.specs.Writers.{WriterState, WriterLaws, IsSameWriter, Added, IsWriteRefusal, IsWriteRefused}
+use Rattle.wincode_io.specs.Joins.{Joined, Each}
 use Rattle.wincode_io.specs.JoinLaws.{joined_append, each_split, each_append, total-append}
 use Rattle.wincode.specs.Grammar.{WriteGrammar, WriteLaws}
 use Rattle.wincode.specs.Lengths.{Scheme, length_write}

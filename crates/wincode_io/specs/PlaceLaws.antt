@@ -1,5 +1,5 @@
 -- The laws of places.
-use Rattle.std.proofs.Common.{◌≡◌, ◌∙◌, sym, ap, ℕ, ◌+◌, ◌-◌, ◌≤◌, List, ◌++◌, length, take, refl, arith, length-append, length-take, IsTrue, Option, None, Some}
+use Rattle.std.proofs.Common.{◌≡◌, ◌∙◌, sym, ap, ℕ, ◌+◌, ◌-◌, List, ◌++◌, length, take, refl, arith, length-append, length-take, IsTrue, Option, None, Some}
 use Rattle.wincode_io.specs.Places.{Placed, placed, onward}
 use Rattle.wincode_io.specs.Readers.{ReaderState, Kept, Stays, Loses, IsOnward}
 

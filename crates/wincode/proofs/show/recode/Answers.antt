@@ -1,6 +1,6 @@
 use Rattle.std.proofs.Common.{rules, refl, ◌≡◌, ◌<◌, ◌^◌, length}
 use Rattle.wincode.specs.Show.{nested_word}
-use Rattle.wincode.proofs.Recoding.{unread_memory, text_wanted}
+use Rattle.wincode.proofs.Recoding.{text_wanted}
 use Rattle.wincode.proofs.show.recode.Goals as goal
 
 pub returns-clause-err : goal.returns-clause-err
