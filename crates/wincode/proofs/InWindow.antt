@@ -15,7 +15,7 @@ use Rattle.wincode.specs.declared.error.ReadError.TheVariants as reading
 use Rattle.wincode.specs.declared.error.WriteError.TheVariants as writing
 use Rattle.wincode_io.specs.declared.error.ReadError.TheVariants as reader
 use Rattle.wincode_io.specs.declared.error.WriteError.TheVariants as writer
-use Rattle.wincode.proofs.Sized.{takes_joins}
+use Rattle.wincode.specs.SizedLaws.{takes_joins}
 
 -- ---- reading
 
@@ -71,17 +71,17 @@ sized_of reads m s z l e = let h = subst (IsReadStatic reads) e l in h.0
 pub written_size : {X V : Type 0} (proper : X → Type 0) (seen : X → V) (can : V → Type 0) (size : V → ℕ) (m : TypeMeta) (s : ℕ) (z : Bool) → IsWriteStatic proper seen can size m → m ≡ Static s z → (v : V) → can v → size v ≡ s
 written_size proper seen can size m s z l e = let h = subst (IsWriteStatic proper seen can size) e l in h.1
 
-module _ {S K V : Type 0} {put : S → List ℕ → S} {room : S → ℕ} (g : WriteGrammar V) (n : ℕ) (sized : (v : V) → g.can v → g.size v ≡ n) where
-  room_due : (old new : WriterState put room K) (v : V) (e : IoWriteError) → IsWriteRefused n old new e → WriterDue (IsAble g old v) new e
-  room_due old new v (writer.WriteSizeLimit m) d = λ x. let k = d.1.0 in let s = sized v x.0 in let f = x.1 in absurd (omega arith)
-  room_due old new v (writer.Io e) d = d.1
-  room_due old new v writer.OutOfMemory d = d.1
+module _ {S K V : Type 0} {put : S → List ℕ → S} {room : S → ℕ} (g : WriteGrammar V) (v : V) (n : ℕ) (sized : g.can v → g.size v ≡ n) where
+  room_due : (old new : WriterState put room K) (e : IoWriteError) → IsWriteRefused n old new e → WriterDue (IsAble g old v) new e
+  room_due old new (writer.WriteSizeLimit m) d = λ x. let k = d.1.0 in let s = sized x.0 in let f = x.1 in absurd (omega arith)
+  room_due old new (writer.Io e) d = d.1
+  room_due old new writer.OutOfMemory d = d.1
 
   -- room for n bytes was refused
-  pub room_unwritten : {X : Type 0} (proper : X → Type 0) (seen : X → V) → WriterLaws put room → WriteLaws proper seen g → (old new : WriterState put room K) (v : V) (e : IoWriteError)
+  pub room_unwritten : {X : Type 0} (proper : X → Type 0) (seen : X → V) → WriterLaws put room → WriteLaws proper seen g → (old new : WriterState put room K) (e : IoWriteError)
       → IsWriteRefused n old new e → Unwritten g old new v (writing.Io e)
-  room_unwritten proper seen laws l old new v e d = record {
+  room_unwritten proper seen laws l old new e d = record {
     same = d.0.same;
     began = λ c. let t = l.has_text v c in record { front = []; more = t.0; is_text = t.1; within = omega arith; added = d.0.content ∙ sym (laws.nil old.content) };
-    due = room_due old new v e d;
+    due = room_due old new e d;
   }

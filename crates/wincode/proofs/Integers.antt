@@ -16,7 +16,7 @@ use Rattle.std.specs.Int.{cast_unsigned, cast_signed}
 use mir.Val.{bits}
 use Rattle.wincode.specs.Outcomes.{Gives, Puts, Refuses, Accepts, IsDenied, Wrote, Unwritten, IsPieceRefused}
 use Rattle.wincode.specs.WriteSequences.{text_wrote, text_unwritten, text_piece}
-use Rattle.wincode.proofs.Sized.{takes_gives, takes_joins, denied_refuses, puts}
+use Rattle.wincode.specs.SizedLaws.{takes_gives, takes_joins, denied_refuses, puts}
 use Rattle.wincode.specs.declared.error.ReadError.{ReadError}
 use Rattle.wincode.specs.declared.error.ReadError.TheVariants as reading
 use Rattle.wincode.specs.declared.error.WriteError.TheVariants as writing
@@ -25,7 +25,7 @@ use Rattle.wincode_io.specs.declared.error.WriteError.{WriteError as IoWriteErro
 abbrev pub AreSmall : List ℕ → Type 0
 AreSmall bytes = (i : ℕ) → get_or bytes i 0 < 256
 
-are_bytes : (bytes : List ℕ) → AreSmall bytes → IsBytes bytes
+pub are_bytes : (bytes : List ℕ) → AreSmall bytes → IsBytes bytes
 are_bytes bytes small = All-from_get_or (λ b. b < 256) bytes 0 (λ i h. small i)
 
 module _ (w : Width) (some : 0 < byte_len w) where

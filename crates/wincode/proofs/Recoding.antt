@@ -1,5 +1,5 @@
 -- What is read as nested lists of numbers can be written, in as many bytes.
-use Rattle.std.proofs.Common.{◌≡◌, ap, inl, inr, ℕ, ◌<◌, ◌^◌, List, [], ◌∷◌, length, map, arith, true, Option, Some, None, IfSome, subst, length-append}
+use Rattle.std.proofs.Common.{◌≡◌, ◌∙◌, sym, ap, inl, inr, refl, true≢false, false, ℕ, ◌<◌, ◌^◌, List, [], ◌∷◌, length, map, arith, true, Option, Some, None, IfSome, subst, length-append}
 use Rattle.wincode.specs.Grammar.{ReadGrammar, WriteGrammar}
 use Rattle.wincode.specs.Leaves.{number_read, number_write}
 use Rattle.wincode.specs.LeafLaws.{number_write_laws}
@@ -7,10 +7,14 @@ use Rattle.wincode.specs.Lengths.{Scheme, SchemeLaws, bincode}
 use Rattle.wincode.specs.LengthLaws.{bincode_laws}
 use Rattle.wincode.specs.Lists.{list_read, list_write}
 use Rattle.wincode.specs.ListLaws.{list_write_laws}
-use Rattle.wincode.specs.Outcomes.{Found, IsUnserialized}
+use Rattle.wincode.specs.Outcomes.{Found, Accepts, Due, Refuses, IsUnserialized}
+use Rattle.wincode_io.specs.Readers.{ReaderState, memory, shared}
+use Rattle.wincode.specs.declared.error.ReadError.{ReadError}
+use Rattle.wincode.specs.declared.error.ReadError.TheVariants as reading
+use Rattle.wincode_io.specs.declared.error.ReadError.TheVariants as reader
 use Rattle.wincode.specs.declared.error.WriteError.{WriteError}
 use Rattle.wincode.specs.declared.error.WriteError.TheVariants as writing
-use Rattle.wincode.specs.Show.{nested_word, nested_read, nested_write, Recoded, IsUnrecoded, IsUnrelayed}
+use Rattle.wincode.specs.Show.{nested_word, nested_read, nested_write, Recoded, IsReadMemory, IsUnrecoded, IsUnrelayed}
 use Rattle.std.proofs.KnownBytes.{Keeps-refl}
 use Rattle.wincode.specs.declared.show.RelayError.{RelayError}
 use Rattle.wincode.specs.declared.show.RelayError.TheVariants as relay
@@ -25,8 +29,8 @@ items_writable r w h [] b j = (j, tt)
 items_writable r w h (v ∷ vs) b j =
     let one = h j.0 v j.2 in let all = items_writable r w h vs j.1 j.3 in ((j.0, j.1, one.0, all.0, j.4), (one.1, all.1))
 
-list_writable : {V : Type 0} (s : Scheme) → SchemeLaws s → (r : ReadGrammar V) (w : WriteGrammar V) → IsWritable r w → IsWritable (list_read s r) (list_write s w)
-list_writable s laws r w h b vs t =
+list_writable : {V : Type 0} (s : Scheme) → SchemeLaws s → (count : ℕ) (r : ReadGrammar V) (w : WriteGrammar V) → IsWritable r w → IsWritable (list_read s count r) (list_write s count w)
+list_writable s laws count r w h b vs t =
     let all = items_writable r w h vs t.1.1 t.1.3 in
     ((t.1.0, t.1.1, t.1.2, all.0, t.1.4), (laws.admitted (length vs) r.prealloc t.0, all.1))
 
@@ -38,13 +42,13 @@ limit = 4194304
 
 nested_writable : IsWritable nested_read nested_write
 nested_writable =
-    list_writable (bincode limit) (bincode_laws limit) (list_read (bincode limit) (number_read 8 true)) (list_write (bincode limit) (number_write 8 true))
-    (list_writable (bincode limit) (bincode_laws limit) (number_read 8 true) (number_write 8 true) numbers_writable)
+    list_writable (bincode limit) (bincode_laws limit) 24 (list_read (bincode limit) 24 (number_read 8 true)) (list_write (bincode limit) 24 (number_write 8 true))
+    (list_writable (bincode limit) (bincode_laws limit) 24 (number_read 8 true) (number_write 8 true) numbers_writable)
 
 nested_size : (v : List (List ℕ)) (b : List ℕ) → nested_write.writes v b → length b ≡ nested_write.size v
 nested_size v b w =
-    let numbers = list_write_laws {X = List ℕ} (bincode limit) (λ xs. xs) (λ n. n < 256 ^ 8) (λ n. n) (number_write 8 true) (number_write_laws 8 true) in
-    let all = list_write_laws {X = List (List ℕ)} (bincode limit) (λ xs. xs) (λ xs. Each (λ n. n < 256 ^ 8) xs) (λ xs. map (λ n. n) xs) (list_write (bincode limit) (number_write 8 true)) numbers in
+    let numbers = list_write_laws {X = List ℕ} (bincode limit) 24 (λ xs. xs) (λ n. n < 256 ^ 8) (λ n. n) (number_write 8 true) (number_write_laws 8 true) in
+    let all = list_write_laws {X = List (List ℕ)} (bincode limit) 24 (λ xs. xs) (λ xs. Each (λ n. n < 256 ^ 8) xs) (λ xs. map (λ n. n) xs) (list_write (bincode limit) 24 (number_write 8 true)) numbers in
     all.text_size v b w
 
 -- what was found at the front of bytes can be written, and fits
@@ -69,3 +73,17 @@ pub text_wanted : (bytes : List ℕ) (v : List (List ℕ)) (rest : List ℕ) (e 
     → ((text : List ℕ) × Recoded nested_read nested_write bytes text) × (e ≡ writing.OutOfMemory)
 text_wanted bytes v rest e small f (inl d) = let able = found_writable bytes v rest small f in absurd (d.0 able.0 able.1)
 text_wanted bytes v rest e small f (inr d) = ((f.text, record { value = v; rest = rest; found = f; is_text = (nested_writable f.text v f.is_read).0 }), d.2)
+
+-- bytes of which a front reads are refused for want of memory alone
+pub memory_wanted : (bytes text : List ℕ) (left : ReaderState) (e : ReadError) → length bytes < 2 ^ 64 → Recoded nested_read nested_write bytes text → Refuses nested_read.reads 0 false (memory shared bytes) left e → IsReadMemory e
+memory_wanted bytes text left e small r u = by e u.due where
+  accepted : Accepts nested_read.reads (memory shared bytes)
+  accepted = record { told = refl; fits = small; front = record { value = r.value; rest = r.rest; found = r.found } }
+
+  by : (e : ReadError) → Due (Accepts nested_read.reads (memory shared bytes)) 0 false left e → IsReadMemory e
+  by (reading.Io (reader.ReadSizeLimit n)) d = absurd (d accepted)
+  by (reading.Io reader.UnsupportedZeroCopy) d = let l : left.lends < 0 = d accepted in absurd (omega arith)
+  by (reading.Io reader.OutOfMemory) d = absurd (true≢false (sym u.kept.steady ∙ d))
+  by (reading.Io (reader.Io x)) d = absurd (true≢false (sym u.kept.steady ∙ d.0))
+  by reading.OutOfMemory d = tt
+  by _ d = absurd (d accepted)

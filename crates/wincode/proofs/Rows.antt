@@ -1,6 +1,7 @@
 -- The definitions, evaluated on worked rows of bytes and values.
 use Rattle.std.proofs.Common.{◌≡◌, sym, ap, ℕ, ◌<◌, ◌^◌, List, [], ◌∷◌, ◌++◌, length, refl, arith, true, length-append, lit<, lit≤, false, Option, Some, None, Err}
 use Rattle.wincode_io.specs.Numbers.{le}
+use Rattle.wincode_io.specs.ShortNumbers.{groups, short_text}
 use Rattle.wincode.specs.Grammar.{ReadGrammar, WriteGrammar}
 use Rattle.wincode.specs.Leaves.{number_read, number_write}
 use Rattle.wincode.specs.Lengths.{bincode, IsLength}
@@ -18,10 +19,10 @@ abbrev zeros : List ℕ
 zeros = 0 ∷ 0 ∷ 0 ∷ 0 ∷ 0 ∷ 0 ∷ 0 ∷ []
 
 abbrev numbers_read : ReadGrammar (List ℕ)
-numbers_read = list_read (bincode limit) (number_read 8 true)
+numbers_read = list_read (bincode limit) 24 (number_read 8 true)
 
 abbrev numbers_write : WriteGrammar (List ℕ)
-numbers_write = list_write (bincode limit) (number_write 8 true)
+numbers_write = list_write (bincode limit) 24 (number_write 8 true)
 
 abbrev nested : List (List ℕ)
 nested = (1 ∷ []) ∷ [] ∷ []
@@ -41,7 +42,7 @@ pub eight_bytes : (number_read 8 true).reads (2 ∷ 1 ∷ 0 ∷ 0 ∷ 0 ∷ 0 �
 unfolding le
 eight_bytes = (lit< tt, refl)
 
-pub nested_reads : (list_read (bincode limit) numbers_read).reads nested_text nested
+pub nested_reads : (list_read (bincode limit) 24 numbers_read).reads nested_text nested
 unfolding le
 nested_reads = (
   (lit< tt, lit≤ tt),
@@ -60,7 +61,7 @@ nested_reads = (
   ),
 )
 
-pub nested_writes : (list_write (bincode limit) numbers_write).writes nested nested_text
+pub nested_writes : (list_write (bincode limit) 24 numbers_write).writes nested nested_text
 unfolding le
 nested_writes = (
   2 ∷ zeros,
@@ -76,7 +77,7 @@ nested_writes = (
   refl,
 )
 
-pub nested_sized : (list_write (bincode limit) numbers_write).size nested ≡ 32
+pub nested_sized : (list_write (bincode limit) 24 numbers_write).size nested ≡ 32
 unfolding le
 nested_sized = refl
 
@@ -145,3 +146,8 @@ one_size = refl
 
 pub two_sizes : (result_read (number_read 1 true) (number_read 2 true)).meta ≡ Dynamic
 two_sizes = refl
+
+-- the least and the greatest short numbers of one, two and three bytes
+pub short_rows : (short_text 127 ≡ 127 ∷ []) × (short_text 128 ≡ 128 ∷ 1 ∷ []) × (short_text 16383 ≡ 255 ∷ 127 ∷ []) × (short_text 16384 ≡ 128 ∷ 128 ∷ 1 ∷ []) × (short_text 65535 ≡ 255 ∷ 255 ∷ 3 ∷ [])
+unfolding groups
+short_rows = (refl, refl, refl, refl, refl)

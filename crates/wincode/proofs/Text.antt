@@ -24,7 +24,7 @@ use Rattle.wincode.specs.declared.error.WriteError.{WriteError}
 use Rattle.wincode.specs.declared.error.WriteError.TheVariants as writing
 use Rattle.wincode_io.specs.declared.error.WriteError.{WriteError as IoWriteError}
 use Rattle.wincode.specs.declared.meta.TypeMeta.TheVariants.{Dynamic}
-use Rattle.wincode.proofs.Sized.{takes_joins}
+use Rattle.wincode.specs.SizedLaws.{takes_joins}
 use Rattle.std.specs.declared.str.Utf8Error.{Utf8Error}
 use Rattle.wincode.specs.declared.error.ReadError.{ReadError}
 use Rattle.wincode.specs.declared.error.ReadError.TheVariants as reading

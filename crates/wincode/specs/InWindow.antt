@@ -10,10 +10,10 @@ use Rattle.wincode.specs.declared.meta.TypeMeta.TheVariants.{Static, Dynamic}
 abbrev pub IsWindowRefused : ℕ → Refusal
 IsWindowRefused n old new e = IsDenied n old new e ⊎ Loses n old new
 
--- where what has one size is read through a window of it
-abbrev pub IsStaticRefused : TypeMeta → Refusal
-IsStaticRefused Dynamic old new e = Unit {0}
-IsStaticRefused (Static s z) old new e = IsWindowRefused s old new e
+-- What has one size is read through a window of it; the parts of what has none are refused as they say.
+abbrev pub IsStaticRefused : TypeMeta → Refusal → Refusal
+IsStaticRefused Dynamic parts = parts
+IsStaticRefused (Static s z) parts = IsWindowRefused s
 
 -- whether all texts have one size
 abbrev pub is_static : TypeMeta → Bool

@@ -2,8 +2,10 @@ pub mod Grammar
 pub mod Leaves
 pub mod Lengths
 pub mod Lists
+pub mod Sizes
 pub mod Outcomes
 pub mod Sequences
+pub mod SizedLaws
 pub mod LeafLaws
 pub mod LengthLaws
 pub mod ListLaws
@@ -20,4 +22,6 @@ pub mod Tags
 pub mod Held
 pub mod HeldLaws
 pub mod TagLaws
+pub mod Short
+pub mod ShortLaws
 pub mod Show

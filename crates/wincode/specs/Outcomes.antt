@@ -1,5 +1,6 @@
 -- What reading and writing a value answer, said once for lengths, leaves and compounds.
-use Rattle.std.specs.Prelude.{⊤, ◌≡◌, ◌⊎◌, ℕ, ◌^◌, ◌<◌, ◌≤◌, min, Bool, false, ◌&&◌, List, ◌++◌, length, IsTrue, Option, Some}
+use Rattle.std.specs.Prelude.{⊤, ◌≡◌, ◌⊎◌, ℕ, ◌^◌, ◌<◌, ◌≤◌, min, Bool, false, ◌&&◌, List, ◌++◌, length, map, IsTrue, Option, Some}
+use Rattle.wincode_io.specs.Joins.{AreItems}
 use Rattle.wincode_io.specs.Readers.{ReaderState, Kept, IsOnward, IsShort, IsRefused}
 use Rattle.wincode_io.specs.Writers.{WriterState, IsSameWriter, Took, byte_limit, IsWriteRefusal, IsWriteRefused}
 use Rattle.wincode.specs.Grammar.{ReadGrammar, WriteGrammar}
@@ -43,6 +44,12 @@ pub record Puts {D V : Type 0} (reads : List ℕ → V → Type 0) (seen : D →
   pub value : D
   pub is : dst ≡ Some value
   pub gives : Gives reads old new (seen value)
+
+-- a list has grown by n values that reading gave
+pub record Adds {D V : Type 0} (n : ℕ) (reads : List ℕ → V → Type 0) (seen : D → V) (old new : ReaderState) (before after : List D) : Type 0 where
+  pub items : List D
+  pub is : after ≡ before ++ items
+  pub gives : Gives (AreItems n reads) old new (map seen items)
 
 -- the bytes that the reader has are known, as many as there can be at the most, and a front of them reads
 pub record Accepts {V : Type 0} (reads : List ℕ → V → Type 0) (old : ReaderState) : Type 0 where
@@ -161,15 +168,26 @@ abbrev pub IsOverflow : WriteError → Type 0
 IsOverflow (writing.LengthEncodingOverflow s) = ⊤
 IsOverflow _ = ⊥
 
+-- the error of a value alone: neither want of memory nor a device is behind it
+abbrev pub IsFaultless : WriteError → Type 0
+IsFaultless writing.OutOfMemory = ⊥
+IsFaultless (writing.Io writer.OutOfMemory) = ⊥
+IsFaultless (writing.Io (writer.Io e)) = ⊥
+IsFaultless _ = ⊤
+
+-- so, and an overflow where all parts are this crate's own
+abbrev pub IsUnfit : Bool → WriteError → Type 0
+IsUnfit own e = IsFaultless e × (IsTrue own → IsOverflow e)
+
 -- v can be written, in n bytes
 abbrev pub IsSized : {V : Type 0} → WriteGrammar V → V → ℕ → Type 0
 IsSized g v n = g.can v × (n ≡ g.size v)
 
 -- The size of v was refused: v can't be written or its size is past `usize::MAX`.
 abbrev pub IsSizeRefused : {V : Type 0} → WriteGrammar V → V → WriteError → Type 0
-IsSizeRefused g v e = (g.can v → g.size v < 2 ^ 64 → ⊥) × (IsTrue g.own → IsOverflow e)
+IsSizeRefused g v e = (g.can v → g.size v < 2 ^ 64 → ⊥) × IsUnfit g.own e
 
--- the bytes are a text of v, and as many as there can be at the most
+-- v can be written, and the bytes are a text of it, of its size
 pub record IsSerialized {V : Type 0} (g : WriteGrammar V) (v : V) (bytes : List ℕ) : Type 0 where
   pub can : g.can v
   pub is_text : g.writes v bytes

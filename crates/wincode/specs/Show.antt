@@ -3,10 +3,11 @@ use Rattle.std.specs.Prelude.{⊤, ◌≡◌, ◌≢◌, ℕ, List, Option, IfSo
 use Rattle.std.specs.Io.KnownBytes.{Keeps, Appends}
 use Rattle.wincode.specs.Grammar.{ReadGrammar, WriteGrammar}
 use Rattle.wincode.specs.Leaves.{number_read, number_write}
-use Rattle.wincode.specs.Lengths.{bincode}
-use Rattle.wincode.specs.Lists.{list_read, list_write}
+use Rattle.wincode.specs.Lengths.{bincode, IsLengthRefused}
+use Rattle.wincode.specs.Lists.{list_read, list_write, IsListRefused}
 use Rattle.wincode_io.specs.Readers.{memory, shared}
-use Rattle.wincode.specs.Outcomes.{Found, IsUnread, unsaid}
+use Rattle.wincode.specs.Outcomes.{Found, Refusal, IsDenied, IsUnread}
+use Rattle.wincode.specs.declared.schema.item_size.ItemSize.TheVariants.{Bytes, Unknown}
 use Rattle.wincode.specs.declared.error.WriteError.TheVariants as writing
 use Rattle.wincode.specs.declared.error.ReadError.{ReadError}
 use Rattle.wincode.specs.declared.error.ReadError.TheVariants as reading
@@ -21,10 +22,17 @@ pub record Recoded {V : Type 0} (r : ReadGrammar V) (w : WriteGrammar V) (input 
   pub is_text : w.writes value text
 
 abbrev pub nested_read : ReadGrammar (List (List ℕ))
-nested_read = list_read (bincode 4194304) (list_read (bincode 4194304) (number_read 8 true))
+nested_read = list_read (bincode 4194304) 24 (list_read (bincode 4194304) 24 (number_read 8 true))
+
+-- how a list of such numbers, or a list of such lists, is refused
+abbrev pub numbers_refusal : Refusal
+numbers_refusal = IsListRefused (bincode 4194304) (IsLengthRefused 4194304) (Bytes 8) (number_read 8 true) (IsDenied 8)
+
+abbrev pub nested_refusal : Refusal
+nested_refusal = IsListRefused (bincode 4194304) (IsLengthRefused 4194304) Unknown (list_read (bincode 4194304) 24 (number_read 8 true)) numbers_refusal
 
 abbrev pub nested_write : WriteGrammar (List (List ℕ))
-nested_write = list_write (bincode 4194304) (list_write (bincode 4194304) (number_write 8 true))
+nested_write = list_write (bincode 4194304) 24 (list_write (bincode 4194304) 24 (number_write 8 true))
 
 abbrev pub nested_word : List ℕ
 nested_word = codes "nested"
@@ -46,7 +54,7 @@ IsReadMemory _ = ⊥
 -- want of memory; or it was, and memory for its text was wanted.
 abbrev pub IsUnrecoded : List ℕ → List ℕ → RelayError → Type 0
 IsUnrecoded shape bytes relay.UnknownShape = shape ≢ nested_word
-IsUnrecoded shape bytes (relay.Read e) = (shape ≡ nested_word) × IsUnread nested_read unsaid (memory shared bytes) e × ((text : List ℕ) → Recoded nested_read nested_write bytes text → IsReadMemory e)
+IsUnrecoded shape bytes (relay.Read e) = (shape ≡ nested_word) × IsUnread nested_read nested_refusal (memory shared bytes) e × ((text : List ℕ) → Recoded nested_read nested_write bytes text → IsReadMemory e)
 IsUnrecoded shape bytes (relay.Write e) = (shape ≡ nested_word) × ((text : List ℕ) × Recoded nested_read nested_write bytes text) × (e ≡ writing.OutOfMemory)
 IsUnrecoded shape bytes _ = ⊥
 

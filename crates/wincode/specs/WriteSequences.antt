@@ -147,12 +147,12 @@ module _ {S K V X : Type 0} {put : S → List ℕ → S} {room : S → ℕ} (law
       (unwritten_map (pair_write g (items_write g)) (items_write g) (v, vs) (v ∷ vs) (λ c. c) refl (λ b w. w)
       (pair_unwritten_first l (items_laws l) vs u)))
 
-  module _ (s : Scheme) where
-    pub list_wrote : {old mid new : WriterState put room K} (vs : List V) → Wrote (length_write s) old mid (length vs) → Wrote (items_write g) mid new vs → Wrote (list_write s g) old new vs
-    list_wrote vs r t = wrote_map (length_and_items s g) (list_write s g) (length vs, vs) vs (λ c. c) refl (λ b w. w) (pair_wrote (length_write_laws s) (items_laws l) laws r t)
+  module _ (s : Scheme) (count : ℕ) where
+    pub list_wrote : {old mid new : WriterState put room K} (vs : List V) → Wrote (length_write s) old mid (length vs) → Wrote (items_write g) mid new vs → Wrote (list_write s count g) old new vs
+    list_wrote vs r t = wrote_map (length_and_items s g) (list_write s count g) (length vs, vs) vs (λ c. c) refl (λ b w. w) (pair_wrote (length_write_laws s) (items_laws l) laws r t)
 
-    pub list_unwritten_first : {old new : WriterState put room K} (vs : List V) {e : WriteError} → Unwritten (length_write s) old new (length vs) e → Unwritten (list_write s g) old new vs e
-    list_unwritten_first vs u = unwritten_map (length_and_items s g) (list_write s g) (length vs, vs) vs (λ c. c) refl (λ b w. w) (pair_unwritten_first (length_write_laws s) (items_laws l) vs u)
+    pub list_unwritten_first : {old new : WriterState put room K} (vs : List V) {e : WriteError} → Unwritten (length_write s) old new (length vs) e → Unwritten (list_write s count g) old new vs e
+    list_unwritten_first vs u = unwritten_map (length_and_items s g) (list_write s count g) (length vs, vs) vs (λ c. c) refl (λ b w. w) (pair_unwritten_first (length_write_laws s) (items_laws l) vs u)
 
-    pub list_unwritten_second : {old mid new : WriterState put room K} (vs : List V) {e : WriteError} → Wrote (length_write s) old mid (length vs) → Unwritten (items_write g) mid new vs e → Unwritten (list_write s g) old new vs e
-    list_unwritten_second vs r u = unwritten_map (length_and_items s g) (list_write s g) (length vs, vs) vs (λ c. c) refl (λ b w. w) (pair_unwritten_second (length_write_laws s) (items_laws l) laws r u)
+    pub list_unwritten_second : {old mid new : WriterState put room K} (vs : List V) {e : WriteError} → Wrote (length_write s) old mid (length vs) → Unwritten (items_write g) mid new vs e → Unwritten (list_write s count g) old new vs e
+    list_unwritten_second vs r u = unwritten_map (length_and_items s g) (list_write s count g) (length vs, vs) vs (λ c. c) refl (λ b w. w) (pair_unwritten_second (length_write_laws s) (items_laws l) laws r u)

@@ -2,6 +2,7 @@
 #![tactic(auto)]
 
 mod calls;
+pub mod containers;
 pub mod error;
 pub mod len;
 pub mod meta;

@@ -1,15 +1,20 @@
 //! Schemas: how values of a type are read and written.
-ghost use Rattle.std.specs.Prelude.{◌≡◌, Bool, true, IfOk, IfErr, OnOk, OnErr};
+ghost use Rattle.std.specs.Prelude.{◌≡◌, ℕ, List, map, Bool, true, false, IfOk, IfErr, OnOk, OnErr};
+ghost use Rattle.wincode_io.specs.Joins.{AreItems, Each};
 ghost use Rattle.wincode.specs.Grammar.{ReadGrammar, WriteGrammar, ReadLaws, WriteLaws, ReadsBack};
-ghost use Rattle.wincode.specs.Outcomes.{Gives, Puts, Refuses, Refusal, IsSized, Wrote, Unwritten, IsSizeRefused, IsPieceRefused};
+ghost use Rattle.wincode.specs.Lists.{items_write, AreRefused};
+ghost use Rattle.wincode.specs.Outcomes.{Gives, Puts, Adds, Refuses, Refusal, IsSized, Wrote, Unwritten, IsSizeRefused, IsPieceRefused};
 
 pub mod arrays;
 pub mod boxes;
+pub(crate) mod from_items;
 pub(crate) mod in_window;
+pub(crate) mod item_size;
 pub mod leaves;
 pub mod lists;
 pub mod tags;
 pub mod text;
+pub(crate) mod to_items;
 pub mod tuples;
 
 use crate::error::{ReadError, ReadResult, WriteResult};
@@ -53,6 +58,19 @@ pub trait SchemaWrite {
         ensures err { IfErr result (Unwritten writing (W.state writer.old) (W.state writer.new) (seen src.now)) }
         ensures piece { IfErr result (IsPieceRefused in_one_piece writing (W.state writer.old) (W.state writer.new) (seen src.now)) };
 
+    /// Writes one text of each item, one after another. Refused, where all of them can be written, it
+    /// has added a beginning of these texts joined.
+    fn write_items<W: Writer>(writer: &mut W, items: &[Self::Src]) -> WriteResult<()>
+        ensures ok { OnOk result (Wrote (items_write writing) (W.state writer.old) (W.state writer.new) (map seen items.now)) }
+        ensures value { OnOk result (Each proper items.now) }
+        ensures err { IfErr result (Unwritten (items_write writing) (W.state writer.old) (W.state writer.new) (map seen items.now)) }
+    {
+        for item in items {
+            Self::write(writer, item)?;
+        }
+        Ok(())
+    }
+
     ghost write_laws: { WriteLaws proper seen writing };
 }
 
@@ -93,6 +111,42 @@ pub trait SchemaRead<L: Lending> {
         ensures err { IfErr result (Refuses reading.reads reading.asks reading.sparing (R.state reader.old) (R.state reader.new)) }
         ensures refused { IfErr result (refusal (R.state reader.old) (R.state reader.new)) }
         ensures same { OnErr result (dst.new ≡ dst.old) };
+
+    /// Reads `n` values, one after another, and adds them to the list. Refused, the list holds what it
+    /// held, and the reader has an end of what it had.
+    fn read_items<R: Reader<L>>(
+        alloc: Global,
+        reader: &mut R,
+        n: usize,
+        into: &mut Vec<Self::Dst>,
+    ) -> ReadResult<()>
+        ensures ok { OnOk result (Adds n reading.reads seen (R.state reader.old) (R.state reader.new) into.old.items into.new.items) }
+        ensures err { IfErr result (Refuses (AreItems n reading.reads) reading.asks false (R.state reader.old) (R.state reader.new)) }
+        ensures refused { IfErr result (AreRefused n reading refusal (R.state reader.old) (R.state reader.new)) }
+        ensures same { OnErr result (into.new.items ≡ into.old.items) }
+    {
+        let before = into.len();
+        if into.reserve(n).is_err() {
+            return Err(ReadError::OutOfMemory);
+        }
+        for _i in 0..n {
+            let mut item = None;
+            if let Err(error) = Self::read(alloc, reader, &mut item) {
+                into.truncate(before);
+                return Err(error);
+            }
+            match item {
+                Some(value) => {
+                    if into.push(value).is_err() {
+                        into.truncate(before);
+                        return Err(ReadError::OutOfMemory);
+                    }
+                }
+                None => unreachable!(),
+            }
+        }
+        Ok(())
+    }
 
     ghost read_laws: { ReadLaws proper reading };
 }

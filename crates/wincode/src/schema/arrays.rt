@@ -7,14 +7,15 @@ ghost use Rattle.std.specs.Prelude.{◌≡◌, ℕ, List, map, false, IfErr, OnO
 ghost use Rattle.wincode_array.specs.Runs.{Gave, Failed};
 ghost use Rattle.wincode.specs.Arrays.{times_meta, IsArray, array_read, array_write};
 ghost use Rattle.wincode.specs.ArrayLaws.{array_read_laws, array_write_laws, array_reads_back};
-ghost use Rattle.wincode.specs.Outcomes.{Gives, Puts, Refuses, unsaid};
+ghost use Rattle.wincode.specs.Lists.{IsItemRefused, AreRefused};
+ghost use Rattle.wincode.specs.Outcomes.{Gives, Puts, Refuses, IsReadRefused};
 ghost use Rattle.wincode.specs.InWindow.{IsStaticRefused, is_static};
 
 use crate::error::{ReadError, ReadResult, WriteResult};
 use crate::io::{Lending, Reader, Writer};
 use crate::meta::TypeMeta;
 use crate::schema::in_window::{read_in_window, write_in_window};
-use crate::schema::lists::{add_sizes, write_items};
+use crate::schema::to_items::add_sizes;
 use crate::schema::{RoundTrip, SchemaGet, SchemaRead, SchemaWrite};
 use std::alloc::Global;
 use std::marker::PhantomData;
@@ -32,7 +33,7 @@ impl<'r, L: Lending, T: SchemaRead<L>, R: Reader<L>> Source<T::Dst, ReadError>
     for Reading<'r, L, T, R> {
     ghost gives = { λ s r t. (t.reader.ghost_name ≡ s.reader.ghost_name)
         × MatchResult r (λ v. Gives T.reading.reads (R.state s.reader.now) (R.state t.reader.now) (T.seen v))
-        (λ e. Refuses T.reading.reads T.reading.asks T.reading.sparing (R.state s.reader.now) (R.state t.reader.now) e) };
+        (IsReadRefused T.reading T.refusal (R.state s.reader.now) (R.state t.reader.now)) };
 
     fn next(&mut self) -> Result<T::Dst, ReadError> {
         T::get(self.alloc, self.reader)
@@ -47,6 +48,7 @@ fn read_items<L: Lending, T: SchemaRead<L>, R: Reader<L>, const N: usize>(
 ) -> ReadResult<()>
     ensures ok { OnOk result (Puts (array_read N T.reading).reads (λ xs. map T.seen xs) (R.state reader.old) (R.state reader.new) dst.new) }
     ensures err { IfErr result (Refuses (array_read N T.reading).reads T.reading.asks T.reading.sparing (R.state reader.old) (R.state reader.new)) }
+    ensures refused { IfErr result (IsItemRefused N T.reading T.refusal (R.state reader.old) (R.state reader.new)) }
     ensures same { OnErr result (dst.new ≡ dst.old) }
 {
     let mut sourced = Sourced::new(Reading::<L, T, R> {
@@ -105,7 +107,7 @@ impl<T: SchemaWrite, const N: usize> SchemaWrite for Items<T, N> {
     }
 
     fn write<W: Writer>(writer: &mut W, src: &[T::Src; N]) -> WriteResult<()> {
-        write_items::<T, W>(writer, src.as_slice())
+        T::write_items::<W>(writer, src.as_slice())
     }
 
     ghost write_laws = { array_write_laws N T.proper T.seen T.writing T.write_laws };
@@ -122,7 +124,7 @@ impl<L: Lending, T: SchemaRead<L>, const N: usize> SchemaRead<L> for Items<T, N>
 
     ghost reading = { array_read N T.reading };
 
-    ghost refusal = { unsaid };
+    ghost refusal = { AreRefused N T.reading T.refusal };
 
     fn type_meta() -> TypeMeta {
         size_of_items(N, T::type_meta())
@@ -168,6 +170,10 @@ impl<T: SchemaWrite, const N: usize> SchemaWrite for [T; N] {
         write_in_window::<Items<T, N>, W>(writer, src)
     }
 
+    fn write_items<W: Writer>(writer: &mut W, items: &[[T::Src; N]]) -> WriteResult<()> {
+        <Items<T, N> as SchemaWrite>::write_items::<W>(writer, items)
+    }
+
     ghost write_laws = { array_write_laws N T.proper T.seen T.writing T.write_laws };
 }
 
@@ -182,7 +188,7 @@ impl<L: Lending, T: SchemaRead<L>, const N: usize> SchemaRead<L> for [T; N] {
 
     ghost reading = { array_read N T.reading };
 
-    ghost refusal = { IsStaticRefused (times_meta N T.reading.meta) };
+    ghost refusal = { IsStaticRefused (times_meta N T.reading.meta) (AreRefused N T.reading T.refusal) };
 
     fn type_meta() -> TypeMeta {
         <Items<T, N> as SchemaRead<L>>::type_meta()
@@ -198,6 +204,15 @@ impl<L: Lending, T: SchemaRead<L>, const N: usize> SchemaRead<L> for [T; N] {
         dst: &mut Option<[T::Dst; N]>,
     ) -> ReadResult<()> {
         read_in_window::<L, Items<T, N>, R>(alloc, reader, dst)
+    }
+
+    fn read_items<R: Reader<L>>(
+        alloc: Global,
+        reader: &mut R,
+        n: usize,
+        into: &mut Vec<[T::Dst; N]>,
+    ) -> ReadResult<()> {
+        <Items<T, N> as SchemaRead<L>>::read_items::<R>(alloc, reader, n, into)
     }
 
     ghost read_laws = { array_read_laws N T.proper T.reading T.read_laws };

@@ -16,7 +16,7 @@ pub(crate) fn get_in_window<L: Lending, T: SchemaRead<L>, R: Reader<L>>(
 ) -> ReadResult<T::Dst>
     ensures ok { IfOk result (λ v. Gives T.reading.reads (R.state reader.old) (R.state reader.new) (T.seen v)) }
     ensures err { IfErr result (Refuses T.reading.reads T.reading.asks T.reading.sparing (R.state reader.old) (R.state reader.new)) }
-    ensures placed { IfErr result (IsStaticRefused T.reading.meta (R.state reader.old) (R.state reader.new)) }
+    ensures placed { IfErr result (IsStaticRefused T.reading.meta T.refusal (R.state reader.old) (R.state reader.new)) }
 {
     match T::type_meta() {
         TypeMeta::Static { size, .. } => {
@@ -35,7 +35,7 @@ pub(crate) fn read_in_window<L: Lending, T: SchemaRead<L>, R: Reader<L>>(
 ) -> ReadResult<()>
     ensures ok { OnOk result (Puts T.reading.reads T.seen (R.state reader.old) (R.state reader.new) dst.new) }
     ensures err { IfErr result (Refuses T.reading.reads T.reading.asks T.reading.sparing (R.state reader.old) (R.state reader.new)) }
-    ensures placed { IfErr result (IsStaticRefused T.reading.meta (R.state reader.old) (R.state reader.new)) }
+    ensures placed { IfErr result (IsStaticRefused T.reading.meta T.refusal (R.state reader.old) (R.state reader.new)) }
     ensures same { OnErr result (dst.new ≡ dst.old) }
 {
     *dst = Some(get_in_window::<L, T, R>(alloc, reader)?);

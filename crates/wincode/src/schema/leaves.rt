@@ -8,12 +8,13 @@ ghost use Rattle.wincode.specs.LeafLaws.{bool_read_laws, bool_write_laws, bool_r
 ghost use Rattle.wincode_io.specs.Readers.{Takes};
 ghost use Rattle.wincode.specs.Outcomes.{never, IsDenied};
 
-use crate::error::{ReadResult, WriteResult, invalid_bool_encoding};
+use crate::error::{ReadError, ReadResult, WriteResult, invalid_bool_encoding};
 use crate::io::{Lending, Reader, Writer, fill_array};
 use crate::meta::TypeMeta;
 use crate::schema::{RoundTrip, SchemaRead, SchemaWrite};
 use std::alloc::Global;
 use std::marker::PhantomData;
+use wincode_gather::add_bytes;
 
 /// The first `N` bytes, which are then gone; `ReadSizeLimit(N)` where fewer are left, and they stay.
 pub(crate) fn take_array<L: Lending, R: Reader<L>, const N: usize>(
@@ -56,6 +57,12 @@ impl SchemaWrite for u8 {
         Ok(())
     }
 
+    /// All at once: refused, nothing is written.
+    fn write_items<W: Writer>(writer: &mut W, items: &[u8]) -> WriteResult<()> {
+        writer.write(items)?;
+        Ok(())
+    }
+
     ghost write_laws = { number_write_laws 1 true };
 }
 
@@ -86,6 +93,21 @@ impl<L: Lending> SchemaRead<L> for u8 {
     fn read<R: Reader<L>>(_alloc: Global, reader: &mut R, dst: &mut Option<u8>) -> ReadResult<()> {
         let bytes = take_array::<L, R, 1>(reader)?;
         *dst = Some(u8::from_le_bytes(bytes));
+        Ok(())
+    }
+
+    /// All at once: `ReadSizeLimit(n)` where fewer are left. Refused, for memory too, all bytes stay.
+    fn read_items<R: Reader<L>>(
+        _alloc: Global,
+        reader: &mut R,
+        n: usize,
+        into: &mut Vec<u8>,
+    ) -> ReadResult<()> {
+        let bytes = reader.fill_exact(n)?;
+        if add_bytes(bytes, into).is_err() {
+            return Err(ReadError::OutOfMemory);
+        }
+        reader.consume_unchecked(n);
         Ok(())
     }
 

@@ -1,107 +1,31 @@
-//! Schemas of lists.
-ghost use Rattle.std.specs.Prelude.{◌≡◌, ℕ, ◌+◌, List, map, IfOk, IfErr, OnOk, false};
-ghost use Rattle.wincode_io.specs.Joins.{AreItems, Each, total};
-ghost use Rattle.wincode.specs.Lengths.{bincode};
+//! Schemas of lists, behind a length of eight bytes.
+//!
+//! Items of one size are read through one window of all of them, taken before memory is asked for: where
+//! fewer bytes are left it is `Io(ReadSizeLimit)` of the size of all items, and the reader stands behind
+//! the length; where an item is refused, behind all items. Such a list is written through one window of
+//! the whole: where the room is less, nothing is written. A size past `usize::MAX` is
+//! `LengthEncodingOverflow`. Other items are read and written one after another.
+ghost use Rattle.std.specs.Prelude.{◌≡◌, List, map};
+ghost use Rattle.std.proofs.Common.{lit≤};
+ghost use Rattle.wincode_io.specs.Joins.{Each};
+ghost use Rattle.wincode.specs.InWindow.{is_static};
+ghost use Rattle.wincode.specs.Lengths.{bincode, IsLengthRefused};
 ghost use Rattle.wincode.specs.LengthLaws.{bincode_laws};
-ghost use Rattle.wincode.specs.Lists.{items_write, list_read, list_write, IsSumRefused};
+ghost use Rattle.wincode.specs.Lists.{list_read, list_write, IsListRefused};
 ghost use Rattle.wincode.specs.ListLaws.{list_read_laws, list_write_laws, list_reads_back};
-ghost use Rattle.wincode.specs.Outcomes.{Gives, Refuses, unsaid, Wrote, Unwritten, IsSizeRefused};
+ghost use Rattle.wincode.specs.Sizes.{item_size};
 
-use crate::error::{ReadError, ReadResult, WriteResult, write_length_encoding_overflow};
+use crate::error::{ReadResult, WriteResult};
 use crate::io::{Lending, Reader, Writer};
-use crate::len::{BincodeLen, SeqLen};
+use crate::len::BincodeLen;
 use crate::meta::TypeMeta;
-use crate::schema::{RoundTrip, SchemaGet, SchemaRead, SchemaWrite};
+use crate::schema::from_items::get_list;
+use crate::schema::to_items::{size_of_list, write_list};
+use crate::schema::{RoundTrip, SchemaRead, SchemaWrite};
 use std::alloc::Global;
+use std::collections::{LinkedList, VecDeque};
 
-/// Reads `n` items, one after another, into memory for them.
-fn get_items<L: Lending, T: SchemaRead<L>, R: Reader<L>>(
-    alloc: Global,
-    reader: &mut R,
-    n: usize,
-) -> ReadResult<Vec<T::Dst>>
-    ensures ok { IfOk result (λ v. Gives (AreItems n T.reading.reads) (R.state reader.old) (R.state reader.new) (map T.seen v.items)) }
-    ensures err { IfErr result (Refuses (AreItems n T.reading.reads) T.reading.asks false (R.state reader.old) (R.state reader.new)) }
-{
-    let mut items = match Vec::with_capacity(alloc, n) {
-        Ok(items) => items,
-        Err(_) => return Err(ReadError::OutOfMemory),
-    };
-    for _i in 0..n {
-        let item = T::get(alloc, reader)?;
-        if items.push(item).is_err() {
-            return Err(ReadError::OutOfMemory);
-        }
-    }
-    Ok(items)
-}
-
-/// Reads a list behind its length.
-fn get_list<Len: SeqLen, L: Lending, T: SchemaRead<L>, R: Reader<L>>(
-    alloc: Global,
-    reader: &mut R,
-) -> ReadResult<Vec<T::Dst>>
-    ensures ok { IfOk result (λ v. Gives (list_read Len.scheme T.reading).reads (R.state reader.old) (R.state reader.new) (map T.seen v.items)) }
-    ensures err { IfErr result (Refuses (list_read Len.scheme T.reading).reads T.reading.asks false (R.state reader.old) (R.state reader.new)) }
-{
-    let n = Len::read::<L, R>(reader, T::prealloc_size())?;
-    get_items::<L, T, R>(alloc, reader, n)
-}
-
-/// The sizes of items, added to the size of what stands before them.
-pub(crate) fn add_sizes<T: SchemaWrite>(before: usize, items: &[T::Src]) -> WriteResult<usize>
-    ensures ok { IfOk result (λ n. Each T.writing.can (map T.seen items.now) × (n ≡ before + total T.writing.size (map T.seen items.now))) }
-    ensures err { IfErr result (IsSumRefused before T.writing (map T.seen items.now)) }
-{
-    let mut sum = before;
-    for item in items {
-        let size = T::size_of(item)?;
-        sum = match sum.checked_add(size) {
-            Some(more) => more,
-            None => return Err(write_length_encoding_overflow("usize::MAX")),
-        };
-    }
-    Ok(sum)
-}
-
-/// The size of a list of these items.
-fn size_of_list<Len: SeqLen, T: SchemaWrite>(items: &[T::Src]) -> WriteResult<usize>
-    ensures ok { IfOk result (λ n. (list_write Len.scheme T.writing).can (map T.seen items.now) × (n ≡ (list_write
-        Len.scheme T.writing).size (map T.seen items.now))) }
-    ensures err { IfErr result (IsSizeRefused (list_write Len.scheme T.writing) (map T.seen items.now)) }
-{
-    let length = Len::write_bytes_needed(items.len())?;
-    add_sizes::<T>(length, items)
-}
-
-/// Writes items, one after another.
-pub(crate) fn write_items<T: SchemaWrite, W: Writer>(
-    writer: &mut W,
-    items: &[T::Src],
-) -> WriteResult<()>
-    ensures ok { OnOk result (Wrote (items_write T.writing) (W.state writer.old) (W.state writer.new) (map T.seen items.now)) }
-    ensures value { OnOk result (Each T.proper items.now) }
-    ensures err { IfErr result (Unwritten (items_write T.writing) (W.state writer.old) (W.state writer.new) (map T.seen items.now)) }
-{
-    for item in items {
-        T::write(writer, item)?;
-    }
-    Ok(())
-}
-
-/// Writes the length of a list, and then its items.
-fn write_list<Len: SeqLen, T: SchemaWrite, W: Writer>(
-    writer: &mut W,
-    items: &[T::Src],
-) -> WriteResult<()>
-    ensures ok { OnOk result (Wrote (list_write Len.scheme T.writing) (W.state writer.old) (W.state writer.new) (map T.seen items.now)) }
-    ensures value { OnOk result (Each T.proper items.now) }
-    ensures err { IfErr result (Unwritten (list_write Len.scheme T.writing) (W.state writer.old) (W.state writer.new) (map T.seen items.now)) }
-{
-    Len::write::<W>(writer, items.len())?;
-    write_items::<T, W>(writer, items)
-}
-
+/// A `Vec` is the list of its items.
 impl<T: SchemaWrite> SchemaWrite for Vec<T> {
     type Src = Vec<T::Src>;
 
@@ -111,23 +35,23 @@ impl<T: SchemaWrite> SchemaWrite for Vec<T> {
 
     ghost proper = { λ v. Each T.proper v.items };
 
-    ghost writing = { list_write (bincode 4194304) T.writing };
+    ghost writing = { list_write (bincode 4194304) 24 T.writing };
 
-    ghost in_one_piece = { false };
+    ghost in_one_piece = { is_static T.writing.meta };
 
     fn type_meta() -> TypeMeta {
         TypeMeta::Dynamic
     }
 
     fn size_of(src: &Vec<T::Src>) -> WriteResult<usize> {
-        size_of_list::<BincodeLen<4194304>, T>(src.as_slice())
+        size_of_list::<BincodeLen<4194304>, T, &[T::Src], 24>(&src.as_slice())
     }
 
     fn write<W: Writer>(writer: &mut W, src: &Vec<T::Src>) -> WriteResult<()> {
-        write_list::<BincodeLen<4194304>, T, W>(writer, src.as_slice())
+        write_list::<BincodeLen<4194304>, T, &[T::Src], W, 24>(writer, &src.as_slice())
     }
 
-    ghost write_laws = { list_write_laws (bincode 4194304) (λ v. v.items) T.proper T.seen T.writing T.write_laws };
+    ghost write_laws = { list_write_laws (bincode 4194304) 24 (λ v. v.items) T.proper T.seen T.writing T.write_laws };
 }
 
 impl<L: Lending, T: SchemaRead<L>> SchemaRead<L> for Vec<T> {
@@ -139,9 +63,9 @@ impl<L: Lending, T: SchemaRead<L>> SchemaRead<L> for Vec<T> {
 
     ghost proper = { Each T.proper };
 
-    ghost reading = { list_read (bincode 4194304) T.reading };
+    ghost reading = { list_read (bincode 4194304) 24 T.reading };
 
-    ghost refusal = { unsaid };
+    ghost refusal = { IsListRefused (bincode 4194304) (IsLengthRefused 4194304) (item_size T.reading.meta) T.reading T.refusal };
 
     fn type_meta() -> TypeMeta {
         TypeMeta::Dynamic
@@ -156,18 +80,196 @@ impl<L: Lending, T: SchemaRead<L>> SchemaRead<L> for Vec<T> {
         reader: &mut R,
         dst: &mut Option<Vec<T::Dst>>,
     ) -> ReadResult<()> {
-        *dst = Some(get_list::<BincodeLen<4194304>, L, T, R>(alloc, reader)?);
+        *dst = Some(get_list::<Vec<T::Dst>, BincodeLen<4194304>, L, T, R>(alloc, reader)?);
         Ok(())
     }
 
-    ghost read_laws = { list_read_laws (bincode 4194304) (bincode_laws 4194304) T.proper T.reading T.read_laws };
+    ghost read_laws = { list_read_laws (bincode 4194304) (bincode_laws 4194304) 24 (lit≤ tt) T.proper T.reading T.read_laws };
 }
 
 impl<L: Lending, T: RoundTrip<L>> RoundTrip<L> for Vec<T>
 where
     T::Src: Drop,
 {
-    ghost reads_back = { list_reads_back (bincode 4194304) (bincode_laws 4194304) (λ v. v.items)
+    ghost reads_back = { list_reads_back (bincode 4194304) (bincode_laws 4194304) 24 (λ v. v.items)
         T.SchemaWrite.proper T.SchemaWrite.seen T.SchemaWrite.writing T.SchemaRead.seen T.SchemaRead.reading
         T.reads_back };
+}
+
+/// A `VecDeque` is the list of its items, from front to back.
+impl<T: SchemaWrite> SchemaWrite for VecDeque<T> {
+    type Src = VecDeque<T::Src>;
+
+    ghost Value = { List T.Value };
+
+    ghost seen = { λ q. map T.seen q.items };
+
+    ghost proper = { λ q. Each T.proper q.items };
+
+    ghost writing = { list_write (bincode 4194304) 24 T.writing };
+
+    ghost in_one_piece = { is_static T.writing.meta };
+
+    fn type_meta() -> TypeMeta {
+        TypeMeta::Dynamic
+    }
+
+    fn size_of(src: &VecDeque<T::Src>) -> WriteResult<usize> {
+        size_of_list::<BincodeLen<4194304>, T, VecDeque<T::Src>, 24>(src)
+    }
+
+    fn write<W: Writer>(writer: &mut W, src: &VecDeque<T::Src>) -> WriteResult<()> {
+        write_list::<BincodeLen<4194304>, T, VecDeque<T::Src>, W, 24>(writer, src)
+    }
+
+    ghost write_laws = { list_write_laws (bincode 4194304) 24 (λ q. q.items) T.proper T.seen T.writing T.write_laws };
+}
+
+impl<L: Lending, T: SchemaRead<L>> SchemaRead<L> for VecDeque<T> {
+    type Dst = VecDeque<T::Dst>;
+
+    ghost Value = { List T.Value };
+
+    ghost seen = { λ q. map T.seen q.items };
+
+    ghost proper = { Each T.proper };
+
+    ghost reading = { list_read (bincode 4194304) 24 T.reading };
+
+    ghost refusal = { IsListRefused (bincode 4194304) (IsLengthRefused 4194304) (item_size T.reading.meta) T.reading T.refusal };
+
+    fn type_meta() -> TypeMeta {
+        TypeMeta::Dynamic
+    }
+
+    fn prealloc_size() -> usize {
+        24
+    }
+
+    fn read<R: Reader<L>>(
+        alloc: Global,
+        reader: &mut R,
+        dst: &mut Option<VecDeque<T::Dst>>,
+    ) -> ReadResult<()> {
+        *dst = Some(get_list::<VecDeque<T::Dst>, BincodeLen<4194304>, L, T, R>(alloc, reader)?);
+        Ok(())
+    }
+
+    ghost read_laws = { list_read_laws (bincode 4194304) (bincode_laws 4194304) 24 (lit≤ tt) T.proper T.reading T.read_laws };
+}
+
+impl<L: Lending, T: RoundTrip<L>> RoundTrip<L> for VecDeque<T>
+where
+    T::Src: Drop,
+{
+    ghost reads_back = { list_reads_back (bincode 4194304) (bincode_laws 4194304) 24 (λ q. q.items)
+        T.SchemaWrite.proper T.SchemaWrite.seen T.SchemaWrite.writing T.SchemaRead.seen T.SchemaRead.reading
+        T.reads_back };
+}
+
+/// A `LinkedList` is the list of its items, from front to back.
+impl<T: SchemaWrite> SchemaWrite for LinkedList<T> {
+    type Src = LinkedList<T::Src>;
+
+    ghost Value = { List T.Value };
+
+    ghost seen = { λ l. map T.seen l };
+
+    ghost proper = { λ l. Each T.proper l };
+
+    ghost writing = { list_write (bincode 4194304) 24 T.writing };
+
+    ghost in_one_piece = { is_static T.writing.meta };
+
+    fn type_meta() -> TypeMeta {
+        TypeMeta::Dynamic
+    }
+
+    fn size_of(src: &LinkedList<T::Src>) -> WriteResult<usize> {
+        size_of_list::<BincodeLen<4194304>, T, LinkedList<T::Src>, 24>(src)
+    }
+
+    fn write<W: Writer>(writer: &mut W, src: &LinkedList<T::Src>) -> WriteResult<()> {
+        write_list::<BincodeLen<4194304>, T, LinkedList<T::Src>, W, 24>(writer, src)
+    }
+
+    ghost write_laws = { list_write_laws (bincode 4194304) 24 (λ l. l) T.proper T.seen T.writing T.write_laws };
+}
+
+impl<L: Lending, T: SchemaRead<L>> SchemaRead<L> for LinkedList<T> {
+    type Dst = LinkedList<T::Dst>;
+
+    ghost Value = { List T.Value };
+
+    ghost seen = { λ l. map T.seen l };
+
+    ghost proper = { Each T.proper };
+
+    ghost reading = { list_read (bincode 4194304) 24 T.reading };
+
+    ghost refusal = { IsListRefused (bincode 4194304) (IsLengthRefused 4194304) (item_size T.reading.meta) T.reading T.refusal };
+
+    fn type_meta() -> TypeMeta {
+        TypeMeta::Dynamic
+    }
+
+    fn prealloc_size() -> usize {
+        24
+    }
+
+    fn read<R: Reader<L>>(
+        alloc: Global,
+        reader: &mut R,
+        dst: &mut Option<LinkedList<T::Dst>>,
+    ) -> ReadResult<()> {
+        *dst = Some(get_list::<LinkedList<T::Dst>, BincodeLen<4194304>, L, T, R>(alloc, reader)?);
+        Ok(())
+    }
+
+    ghost read_laws = { list_read_laws (bincode 4194304) (bincode_laws 4194304) 24 (lit≤ tt) T.proper T.reading T.read_laws };
+}
+
+impl<L: Lending, T: RoundTrip<L>> RoundTrip<L> for LinkedList<T>
+where
+    T::Src: Drop,
+{
+    ghost reads_back = { list_reads_back (bincode 4194304) (bincode_laws 4194304) 24 (λ l. l)
+        T.SchemaWrite.proper T.SchemaWrite.seen T.SchemaWrite.writing T.SchemaRead.seen T.SchemaRead.reading
+        T.reads_back };
+}
+
+/// A slice is written as the list of its items. It isn't read: its items have no place of their own.
+impl<'a, U: 'a, T: SchemaWrite<Src = U>> SchemaWrite for &'a [T] {
+    type Src = &'a [U];
+
+    ghost Value = { List T.Value };
+
+    ghost seen = { λ s. map T.seen s.now };
+
+    ghost proper = { λ s. Each T.proper s.now };
+
+    ghost writing = { list_write (bincode 4194304) 24 T.writing };
+
+    ghost in_one_piece = { is_static T.writing.meta };
+
+    fn type_meta() -> TypeMeta {
+        TypeMeta::Dynamic
+    }
+
+    fn size_of(src: &&'a [U]) -> WriteResult<usize> {
+        size_of_list::<BincodeLen<4194304>, T, &'a [U], 24>(src)
+    }
+
+    fn write<W: Writer>(writer: &mut W, src: &&'a [U]) -> WriteResult<()> {
+        write_list::<BincodeLen<4194304>, T, &'a [U], W, 24>(writer, src)
+    }
+
+    fn write_items<W: Writer>(writer: &mut W, items: &[&'a [U]]) -> WriteResult<()> {
+        for item in items {
+            write_list::<BincodeLen<4194304>, T, &'a [U], W, 24>(writer, item)?;
+        }
+        Ok(())
+    }
+
+    ghost write_laws = { list_write_laws (bincode 4194304) 24 (λ s. s.now) T.proper T.seen T.writing T.write_laws };
 }

@@ -407,5 +407,12 @@ impl<'a, U: 'a, T: SchemaWrite<Src = U>> SchemaWrite for &'a T {
         T::write::<W>(writer, *src)
     }
 
+    fn write_items<W: Writer>(writer: &mut W, items: &[&'a U]) -> WriteResult<()> {
+        for item in items {
+            T::write::<W>(writer, *item)?;
+        }
+        Ok(())
+    }
+
     ghost write_laws = { reference_write_laws T.proper T.seen (λ r. r.now) T.writing T.write_laws };
 }

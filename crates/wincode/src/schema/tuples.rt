@@ -5,7 +5,7 @@
 //! the whole tuple are gone. Writing: less room is `Io(WriteSizeLimit)` of the sum, and nothing is written.
 //! Other tuples go member by member, and a refusal leaves what the members before it took or wrote.
 ghost use Rattle.std.specs.Prelude.{◌≡◌, ◌+◌, ◌^◌, ◌≤◌, false, IfOk, IfErr, OnOk};
-ghost use Rattle.wincode.specs.Pairs.{pair_meta, pair_read, pair_write};
+ghost use Rattle.wincode.specs.Pairs.{pair_meta, pair_read, pair_write, IsPairRefused};
 ghost use Rattle.wincode.specs.PairLaws.{pair_read_laws, pair_write_laws, pair_reads_back, write_laws_by, reads_back_by};
 ghost use Rattle.wincode.specs.Outcomes.{unsaid, IsSized, Wrote, Unwritten, IsPieceRefused, IsSizeRefused, IsOverflow};
 ghost use Rattle.wincode.specs.InWindow.{IsStaticRefused, is_static};
@@ -96,7 +96,7 @@ impl<L: Lending, A: SchemaRead<L>, B: SchemaRead<L>> SchemaRead<L> for Members2<
 
     ghost reading = { pair_read A.reading B.reading };
 
-    ghost refusal = { unsaid };
+    ghost refusal = { IsPairRefused A.reading A.refusal B.reading B.refusal };
 
     fn type_meta() -> TypeMeta {
         joined_meta(A::type_meta(), B::type_meta())
@@ -148,6 +148,13 @@ impl<'a, U: 'a, T: SchemaWrite<Src = U>> SchemaWrite for &'a Member<T> {
 
     fn write<W: Writer>(writer: &mut W, src: &&'a U) -> WriteResult<()> {
         T::write::<W>(writer, *src)
+    }
+
+    fn write_items<W: Writer>(writer: &mut W, items: &[&'a U]) -> WriteResult<()> {
+        for item in items {
+            T::write::<W>(writer, *item)?;
+        }
+        Ok(())
     }
 
     ghost write_laws = { write_laws_by (λ r. r.now) T.write_laws };
@@ -238,7 +245,7 @@ impl<L: Lending, A: SchemaRead<L>, B: SchemaRead<L>> SchemaRead<L> for (A, B) {
 
     ghost reading = { ⟦<Members2<A, B> as SchemaRead<L>>⟧.reading };
 
-    ghost refusal = { IsStaticRefused ⟦<Members2<A, B> as SchemaRead<L>>⟧.reading.meta };
+    ghost refusal = { IsStaticRefused ⟦<Members2<A, B> as SchemaRead<L>>⟧.reading.meta ⟦<Members2<A, B> as SchemaRead<L>>⟧.refusal };
 
     fn type_meta() -> TypeMeta {
         <Members2<A, B> as SchemaRead<L>>::type_meta()
@@ -359,7 +366,7 @@ impl<L: Lending, A: SchemaRead<L>, B: SchemaRead<L>, C: SchemaRead<L>> SchemaRea
 
     ghost reading = { ⟦<Members3<A, B, C> as SchemaRead<L>>⟧.reading };
 
-    ghost refusal = { IsStaticRefused ⟦<Members3<A, B, C> as SchemaRead<L>>⟧.reading.meta };
+    ghost refusal = { IsStaticRefused ⟦<Members3<A, B, C> as SchemaRead<L>>⟧.reading.meta ⟦<Members3<A, B, C> as SchemaRead<L>>⟧.refusal };
 
     fn type_meta() -> TypeMeta {
         <Members3<A, B, C> as SchemaRead<L>>::type_meta()
@@ -486,7 +493,7 @@ impl<L: Lending, A: SchemaRead<L>, B: SchemaRead<L>, C: SchemaRead<L>, D: Schema
 
     ghost reading = { ⟦<Members4<A, B, C, D> as SchemaRead<L>>⟧.reading };
 
-    ghost refusal = { IsStaticRefused ⟦<Members4<A, B, C, D> as SchemaRead<L>>⟧.reading.meta };
+    ghost refusal = { IsStaticRefused ⟦<Members4<A, B, C, D> as SchemaRead<L>>⟧.reading.meta ⟦<Members4<A, B, C, D> as SchemaRead<L>>⟧.refusal };
 
     fn type_meta() -> TypeMeta {
         <Members4<A, B, C, D> as SchemaRead<L>>::type_meta()
@@ -631,7 +638,7 @@ impl<
 
     ghost reading = { ⟦<Members5<A, B, C, D, E> as SchemaRead<L>>⟧.reading };
 
-    ghost refusal = { IsStaticRefused ⟦<Members5<A, B, C, D, E> as SchemaRead<L>>⟧.reading.meta };
+    ghost refusal = { IsStaticRefused ⟦<Members5<A, B, C, D, E> as SchemaRead<L>>⟧.reading.meta ⟦<Members5<A, B, C, D, E> as SchemaRead<L>>⟧.refusal };
 
     fn type_meta() -> TypeMeta {
         <Members5<A, B, C, D, E> as SchemaRead<L>>::type_meta()
@@ -807,7 +814,7 @@ impl<
 
     ghost reading = { ⟦<Members6<A, B, C, D, E, F> as SchemaRead<L>>⟧.reading };
 
-    ghost refusal = { IsStaticRefused ⟦<Members6<A, B, C, D, E, F> as SchemaRead<L>>⟧.reading.meta };
+    ghost refusal = { IsStaticRefused ⟦<Members6<A, B, C, D, E, F> as SchemaRead<L>>⟧.reading.meta ⟦<Members6<A, B, C, D, E, F> as SchemaRead<L>>⟧.refusal };
 
     fn type_meta() -> TypeMeta {
         <Members6<A, B, C, D, E, F> as SchemaRead<L>>::type_meta()
@@ -1016,7 +1023,7 @@ impl<
 
     ghost reading = { ⟦<Members7<A, B, C, D, E, F, G> as SchemaRead<L>>⟧.reading };
 
-    ghost refusal = { IsStaticRefused ⟦<Members7<A, B, C, D, E, F, G> as SchemaRead<L>>⟧.reading.meta };
+    ghost refusal = { IsStaticRefused ⟦<Members7<A, B, C, D, E, F, G> as SchemaRead<L>>⟧.reading.meta ⟦<Members7<A, B, C, D, E, F, G> as SchemaRead<L>>⟧.refusal };
 
     fn type_meta() -> TypeMeta {
         <Members7<A, B, C, D, E, F, G> as SchemaRead<L>>::type_meta()
@@ -1256,7 +1263,7 @@ impl<
 
     ghost reading = { ⟦<Members8<A, B, C, D, E, F, G, H> as SchemaRead<L>>⟧.reading };
 
-    ghost refusal = { IsStaticRefused ⟦<Members8<A, B, C, D, E, F, G, H> as SchemaRead<L>>⟧.reading.meta };
+    ghost refusal = { IsStaticRefused ⟦<Members8<A, B, C, D, E, F, G, H> as SchemaRead<L>>⟧.reading.meta ⟦<Members8<A, B, C, D, E, F, G, H> as SchemaRead<L>>⟧.refusal };
 
     fn type_meta() -> TypeMeta {
         <Members8<A, B, C, D, E, F, G, H> as SchemaRead<L>>::type_meta()

@@ -216,7 +216,7 @@ impl<
 
     ghost reading = { ⟦<Members9<A, B, C, D, E, F, G, H, I> as SchemaRead<L>>⟧.reading };
 
-    ghost refusal = { IsStaticRefused ⟦<Members9<A, B, C, D, E, F, G, H, I> as SchemaRead<L>>⟧.reading.meta };
+    ghost refusal = { IsStaticRefused ⟦<Members9<A, B, C, D, E, F, G, H, I> as SchemaRead<L>>⟧.reading.meta ⟦<Members9<A, B, C, D, E, F, G, H, I> as SchemaRead<L>>⟧.refusal };
 
     fn type_meta() -> TypeMeta {
         <Members9<A, B, C, D, E, F, G, H, I> as SchemaRead<L>>::type_meta()
@@ -491,7 +491,7 @@ impl<
 
     ghost reading = { ⟦<Members10<A, B, C, D, E, F, G, H, I, J> as SchemaRead<L>>⟧.reading };
 
-    ghost refusal = { IsStaticRefused ⟦<Members10<A, B, C, D, E, F, G, H, I, J> as SchemaRead<L>>⟧.reading.meta };
+    ghost refusal = { IsStaticRefused ⟦<Members10<A, B, C, D, E, F, G, H, I, J> as SchemaRead<L>>⟧.reading.meta ⟦<Members10<A, B, C, D, E, F, G, H, I, J> as SchemaRead<L>>⟧.refusal };
 
     fn type_meta() -> TypeMeta {
         <Members10<A, B, C, D, E, F, G, H, I, J> as SchemaRead<L>>::type_meta()
@@ -815,7 +815,7 @@ impl<
 
     ghost reading = { ⟦<Members11<A, B, C, D, E, F, G, H, I, J, K> as SchemaRead<L>>⟧.reading };
 
-    ghost refusal = { IsStaticRefused ⟦<Members11<A, B, C, D, E, F, G, H, I, J, K> as SchemaRead<L>>⟧.reading.meta };
+    ghost refusal = { IsStaticRefused ⟦<Members11<A, B, C, D, E, F, G, H, I, J, K> as SchemaRead<L>>⟧.reading.meta ⟦<Members11<A, B, C, D, E, F, G, H, I, J, K> as SchemaRead<L>>⟧.refusal };
 
     fn type_meta() -> TypeMeta {
         <Members11<A, B, C, D, E, F, G, H, I, J, K> as SchemaRead<L>>::type_meta()
@@ -1192,7 +1192,7 @@ impl<
 
     ghost reading = { ⟦<Members12<A, B, C, D, E, F, G, H, I, J, K, M> as SchemaRead<L>>⟧.reading };
 
-    ghost refusal = { IsStaticRefused ⟦<Members12<A, B, C, D, E, F, G, H, I, J, K, M> as SchemaRead<L>>⟧.reading.meta };
+    ghost refusal = { IsStaticRefused ⟦<Members12<A, B, C, D, E, F, G, H, I, J, K, M> as SchemaRead<L>>⟧.reading.meta ⟦<Members12<A, B, C, D, E, F, G, H, I, J, K, M> as SchemaRead<L>>⟧.refusal };
 
     fn type_meta() -> TypeMeta {
         <Members12<A, B, C, D, E, F, G, H, I, J, K, M> as SchemaRead<L>>::type_meta()

@@ -1,4 +1,4 @@
-use Rattle.wincode.proofs.Sized.{arrays_takes}
+use Rattle.wincode.specs.SizedLaws.{arrays_takes}
 use Rattle.wincode.proofs.schema.leaves.take_array.Goals as goal
 
 pub returns-clause-ok : goal.returns-clause-ok

@@ -1,6 +1,6 @@
 use Rattle.std.proofs.Common.{rules, ap, refl, false}
 use Rattle.std.proofs.lemmas.Str.{IsUtf8-string_bytes}
-use Rattle.wincode.proofs.Sized.{arrays_takes}
+use Rattle.wincode.specs.SizedLaws.{arrays_takes}
 use Rattle.wincode.proofs.Text.{body_refuses, body_gives}
 use Rattle.wincode.specs.declared.error.ReadError.TheVariants as reading
 use Rattle.wincode.proofs.schema.text.take_text.Goals as goal

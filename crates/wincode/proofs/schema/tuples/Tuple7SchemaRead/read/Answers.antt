@@ -1,4 +1,4 @@
-use Rattle.wincode.proofs.Sized.{puts}
+use Rattle.wincode.specs.SizedLaws.{puts}
 use Rattle.wincode.proofs.schema.tuples.Tuple7SchemaRead.read.Goals as goal
 
 pub returns-clause-ok : goal.returns-clause-ok

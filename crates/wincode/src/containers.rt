@@ -1,0 +1,386 @@
+//! Schemas of lists behind a length by a scheme of choice, and of items by themselves.
+//!
+//! What `schema::lists` says of its lists holds here, with the length's text, its limit and its refusals
+//! those of the scheme. All arguments are written.
+ghost use Rattle.std.specs.Prelude.{◌≡◌, List, map};
+ghost use Rattle.std.specs.Box.{boxed_slice_items};
+ghost use Rattle.std.specs.Rc.{rc_slice_items};
+ghost use Rattle.std.proofs.Common.{lit≤};
+ghost use Rattle.wincode_io.specs.Joins.{Each};
+ghost use Rattle.wincode.specs.InWindow.{is_static};
+ghost use Rattle.wincode.specs.Lists.{list_read, list_write, IsListRefused};
+ghost use Rattle.wincode.specs.ListLaws.{list_read_laws, list_write_laws, list_reads_back};
+ghost use Rattle.wincode.specs.Sizes.{item_size};
+
+use crate::error::{ReadResult, WriteResult};
+use crate::io::{Lending, Reader, Writer};
+use crate::len::SeqLen;
+use crate::meta::TypeMeta;
+use crate::schema::from_items::get_list;
+use crate::schema::to_items::{size_of_list, write_list};
+use crate::schema::{RoundTrip, SchemaRead, SchemaWrite};
+use std::alloc::Global;
+use std::marker::PhantomData;
+use std::{boxed, collections, rc, vec};
+
+/// A `Vec` behind such a length.
+pub struct Vec<T, Len>(PhantomData<(T, Len)>);
+
+impl<T: SchemaWrite, Len: SeqLen> SchemaWrite for Vec<T, Len> {
+    type Src = vec::Vec<T::Src>;
+
+    ghost Value = { List T.Value };
+
+    ghost seen = { λ v. map T.seen v.items };
+
+    ghost proper = { λ v. Each T.proper v.items };
+
+    ghost writing = { list_write Len.scheme 24 T.writing };
+
+    ghost in_one_piece = { is_static T.writing.meta };
+
+    fn type_meta() -> TypeMeta {
+        TypeMeta::Dynamic
+    }
+
+    fn size_of(src: &vec::Vec<T::Src>) -> WriteResult<usize> {
+        size_of_list::<Len, T, &[T::Src], 24>(&src.as_slice())
+    }
+
+    fn write<W: Writer>(writer: &mut W, src: &vec::Vec<T::Src>) -> WriteResult<()> {
+        write_list::<Len, T, &[T::Src], W, 24>(writer, &src.as_slice())
+    }
+
+    ghost write_laws = { list_write_laws Len.scheme 24 (λ v. v.items) T.proper T.seen T.writing T.write_laws };
+}
+
+impl<L: Lending, T: SchemaRead<L>, Len: SeqLen> SchemaRead<L> for Vec<T, Len> {
+    type Dst = vec::Vec<T::Dst>;
+
+    ghost Value = { List T.Value };
+
+    ghost seen = { λ v. map T.seen v.items };
+
+    ghost proper = { Each T.proper };
+
+    ghost reading = { list_read Len.scheme 24 T.reading };
+
+    ghost refusal = { IsListRefused Len.scheme Len.refusal (item_size T.reading.meta) T.reading T.refusal };
+
+    fn type_meta() -> TypeMeta {
+        TypeMeta::Dynamic
+    }
+
+    fn prealloc_size() -> usize {
+        24
+    }
+
+    fn read<R: Reader<L>>(
+        alloc: Global,
+        reader: &mut R,
+        dst: &mut Option<vec::Vec<T::Dst>>,
+    ) -> ReadResult<()> {
+        *dst = Some(get_list::<vec::Vec<T::Dst>, Len, L, T, R>(alloc, reader)?);
+        Ok(())
+    }
+
+    ghost read_laws = { list_read_laws Len.scheme Len.scheme_laws 24 (lit≤ tt) T.proper T.reading T.read_laws };
+}
+
+impl<L: Lending, T: RoundTrip<L>, Len: SeqLen> RoundTrip<L> for Vec<T, Len>
+where
+    T::Src: Drop,
+{
+    ghost reads_back = { list_reads_back Len.scheme Len.scheme_laws 24 (λ v. v.items)
+        T.SchemaWrite.proper T.SchemaWrite.seen T.SchemaWrite.writing T.SchemaRead.seen T.SchemaRead.reading
+        T.reads_back };
+}
+
+/// A `VecDeque` behind such a length, from front to back.
+pub struct VecDeque<T, Len>(PhantomData<(T, Len)>);
+
+impl<T: SchemaWrite, Len: SeqLen> SchemaWrite for VecDeque<T, Len> {
+    type Src = collections::VecDeque<T::Src>;
+
+    ghost Value = { List T.Value };
+
+    ghost seen = { λ q. map T.seen q.items };
+
+    ghost proper = { λ q. Each T.proper q.items };
+
+    ghost writing = { list_write Len.scheme 24 T.writing };
+
+    ghost in_one_piece = { is_static T.writing.meta };
+
+    fn type_meta() -> TypeMeta {
+        TypeMeta::Dynamic
+    }
+
+    fn size_of(src: &collections::VecDeque<T::Src>) -> WriteResult<usize> {
+        size_of_list::<Len, T, collections::VecDeque<T::Src>, 24>(src)
+    }
+
+    fn write<W: Writer>(writer: &mut W, src: &collections::VecDeque<T::Src>) -> WriteResult<()> {
+        write_list::<Len, T, collections::VecDeque<T::Src>, W, 24>(writer, src)
+    }
+
+    ghost write_laws = { list_write_laws Len.scheme 24 (λ q. q.items) T.proper T.seen T.writing T.write_laws };
+}
+
+impl<L: Lending, T: SchemaRead<L>, Len: SeqLen> SchemaRead<L> for VecDeque<T, Len> {
+    type Dst = collections::VecDeque<T::Dst>;
+
+    ghost Value = { List T.Value };
+
+    ghost seen = { λ q. map T.seen q.items };
+
+    ghost proper = { Each T.proper };
+
+    ghost reading = { list_read Len.scheme 24 T.reading };
+
+    ghost refusal = { IsListRefused Len.scheme Len.refusal (item_size T.reading.meta) T.reading T.refusal };
+
+    fn type_meta() -> TypeMeta {
+        TypeMeta::Dynamic
+    }
+
+    fn prealloc_size() -> usize {
+        24
+    }
+
+    fn read<R: Reader<L>>(
+        alloc: Global,
+        reader: &mut R,
+        dst: &mut Option<collections::VecDeque<T::Dst>>,
+    ) -> ReadResult<()> {
+        *dst = Some(get_list::<collections::VecDeque<T::Dst>, Len, L, T, R>(alloc, reader)?);
+        Ok(())
+    }
+
+    ghost read_laws = { list_read_laws Len.scheme Len.scheme_laws 24 (lit≤ tt) T.proper T.reading T.read_laws };
+}
+
+impl<L: Lending, T: RoundTrip<L>, Len: SeqLen> RoundTrip<L> for VecDeque<T, Len>
+where
+    T::Src: Drop,
+{
+    ghost reads_back = { list_reads_back Len.scheme Len.scheme_laws 24 (λ q. q.items)
+        T.SchemaWrite.proper T.SchemaWrite.seen T.SchemaWrite.writing T.SchemaRead.seen T.SchemaRead.reading
+        T.reads_back };
+}
+
+/// A boxed slice behind such a length.
+pub struct BoxedSlice<T, Len>(PhantomData<(T, Len)>);
+
+impl<T: SchemaWrite, Len: SeqLen> SchemaWrite for BoxedSlice<T, Len> {
+    type Src = boxed::BoxedSlice<T::Src>;
+
+    ghost Value = { List T.Value };
+
+    ghost seen = { λ b. map T.seen (boxed_slice_items b) };
+
+    ghost proper = { λ b. Each T.proper (boxed_slice_items b) };
+
+    ghost writing = { list_write Len.scheme 16 T.writing };
+
+    ghost in_one_piece = { is_static T.writing.meta };
+
+    fn type_meta() -> TypeMeta {
+        TypeMeta::Dynamic
+    }
+
+    fn size_of(src: &boxed::BoxedSlice<T::Src>) -> WriteResult<usize> {
+        size_of_list::<Len, T, &[T::Src], 16>(&src.as_slice())
+    }
+
+    fn write<W: Writer>(writer: &mut W, src: &boxed::BoxedSlice<T::Src>) -> WriteResult<()> {
+        write_list::<Len, T, &[T::Src], W, 16>(writer, &src.as_slice())
+    }
+
+    ghost write_laws = { list_write_laws Len.scheme 16 (λ b. (boxed_slice_items b)) T.proper T.seen T.writing T.write_laws };
+}
+
+impl<L: Lending, T: SchemaRead<L>, Len: SeqLen> SchemaRead<L> for BoxedSlice<T, Len> {
+    type Dst = boxed::BoxedSlice<T::Dst>;
+
+    ghost Value = { List T.Value };
+
+    ghost seen = { λ b. map T.seen (boxed_slice_items b) };
+
+    ghost proper = { Each T.proper };
+
+    ghost reading = { list_read Len.scheme 16 T.reading };
+
+    ghost refusal = { IsListRefused Len.scheme Len.refusal (item_size T.reading.meta) T.reading T.refusal };
+
+    fn type_meta() -> TypeMeta {
+        TypeMeta::Dynamic
+    }
+
+    fn prealloc_size() -> usize {
+        16
+    }
+
+    fn read<R: Reader<L>>(
+        alloc: Global,
+        reader: &mut R,
+        dst: &mut Option<boxed::BoxedSlice<T::Dst>>,
+    ) -> ReadResult<()> {
+        *dst = Some(get_list::<boxed::BoxedSlice<T::Dst>, Len, L, T, R>(alloc, reader)?);
+        Ok(())
+    }
+
+    ghost read_laws = { list_read_laws Len.scheme Len.scheme_laws 16 (lit≤ tt) T.proper T.reading T.read_laws };
+}
+
+impl<L: Lending, T: RoundTrip<L>, Len: SeqLen> RoundTrip<L> for BoxedSlice<T, Len>
+where
+    T::Src: Drop,
+{
+    ghost reads_back = { list_reads_back Len.scheme Len.scheme_laws 16 (λ b. (boxed_slice_items b))
+        T.SchemaWrite.proper T.SchemaWrite.seen T.SchemaWrite.writing T.SchemaRead.seen T.SchemaRead.reading
+        T.reads_back };
+}
+
+/// A shared slice behind such a length. Reading asks for its memory once more when all items are there.
+pub struct RcSlice<T, Len>(PhantomData<(T, Len)>);
+
+impl<T: SchemaWrite, Len: SeqLen> SchemaWrite for RcSlice<T, Len> {
+    type Src = rc::RcSlice<T::Src>;
+
+    ghost Value = { List T.Value };
+
+    ghost seen = { λ r. map T.seen (rc_slice_items r) };
+
+    ghost proper = { λ r. Each T.proper (rc_slice_items r) };
+
+    ghost writing = { list_write Len.scheme 16 T.writing };
+
+    ghost in_one_piece = { is_static T.writing.meta };
+
+    fn type_meta() -> TypeMeta {
+        TypeMeta::Dynamic
+    }
+
+    fn size_of(src: &rc::RcSlice<T::Src>) -> WriteResult<usize> {
+        size_of_list::<Len, T, &[T::Src], 16>(&src.as_slice())
+    }
+
+    fn write<W: Writer>(writer: &mut W, src: &rc::RcSlice<T::Src>) -> WriteResult<()> {
+        write_list::<Len, T, &[T::Src], W, 16>(writer, &src.as_slice())
+    }
+
+    ghost write_laws = { list_write_laws Len.scheme 16 (λ r. (rc_slice_items r)) T.proper T.seen T.writing T.write_laws };
+}
+
+impl<L: Lending, T: SchemaRead<L>, Len: SeqLen> SchemaRead<L> for RcSlice<T, Len> {
+    type Dst = rc::RcSlice<T::Dst>;
+
+    ghost Value = { List T.Value };
+
+    ghost seen = { λ r. map T.seen (rc_slice_items r) };
+
+    ghost proper = { Each T.proper };
+
+    ghost reading = { list_read Len.scheme 16 T.reading };
+
+    ghost refusal = { IsListRefused Len.scheme Len.refusal (item_size T.reading.meta) T.reading T.refusal };
+
+    fn type_meta() -> TypeMeta {
+        TypeMeta::Dynamic
+    }
+
+    fn prealloc_size() -> usize {
+        16
+    }
+
+    fn read<R: Reader<L>>(
+        alloc: Global,
+        reader: &mut R,
+        dst: &mut Option<rc::RcSlice<T::Dst>>,
+    ) -> ReadResult<()> {
+        *dst = Some(get_list::<rc::RcSlice<T::Dst>, Len, L, T, R>(alloc, reader)?);
+        Ok(())
+    }
+
+    ghost read_laws = { list_read_laws Len.scheme Len.scheme_laws 16 (lit≤ tt) T.proper T.reading T.read_laws };
+}
+
+impl<L: Lending, T: RoundTrip<L>, Len: SeqLen> RoundTrip<L> for RcSlice<T, Len>
+where
+    T::Src: Drop,
+{
+    ghost reads_back = { list_reads_back Len.scheme Len.scheme_laws 16 (λ r. (rc_slice_items r))
+        T.SchemaWrite.proper T.SchemaWrite.seen T.SchemaWrite.writing T.SchemaRead.seen T.SchemaRead.reading
+        T.reads_back };
+}
+
+/// An item by itself, which is read and written as `T`.
+pub struct Elem<T>(PhantomData<T>);
+
+impl<T: SchemaWrite> SchemaWrite for Elem<T> {
+    type Src = T::Src;
+
+    ghost Value = { T.Value };
+
+    ghost seen = { T.seen };
+
+    ghost proper = { T.proper };
+
+    ghost writing = { T.writing };
+
+    ghost in_one_piece = { T.in_one_piece };
+
+    fn type_meta() -> TypeMeta {
+        T::type_meta()
+    }
+
+    fn size_of(src: &T::Src) -> WriteResult<usize> {
+        T::size_of(src)
+    }
+
+    fn write<W: Writer>(writer: &mut W, src: &T::Src) -> WriteResult<()> {
+        T::write::<W>(writer, src)
+    }
+
+    ghost write_laws = { T.write_laws };
+}
+
+impl<L: Lending, T: SchemaRead<L>> SchemaRead<L> for Elem<T> {
+    type Dst = T::Dst;
+
+    ghost Value = { T.Value };
+
+    ghost seen = { T.seen };
+
+    ghost proper = { T.proper };
+
+    ghost reading = { T.reading };
+
+    ghost refusal = { T.refusal };
+
+    fn type_meta() -> TypeMeta {
+        T::type_meta()
+    }
+
+    fn prealloc_size() -> usize {
+        T::prealloc_size()
+    }
+
+    fn read<R: Reader<L>>(
+        alloc: Global,
+        reader: &mut R,
+        dst: &mut Option<T::Dst>,
+    ) -> ReadResult<()> {
+        T::read::<R>(alloc, reader, dst)
+    }
+
+    ghost read_laws = { T.read_laws };
+}
+
+impl<L: Lending, T: RoundTrip<L>> RoundTrip<L> for Elem<T>
+where
+    T::Src: Drop,
+{
+    ghost reads_back = { T.reads_back };
+}

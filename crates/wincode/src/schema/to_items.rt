@@ -1,0 +1,185 @@
+//! Writing items, one after another, and lists behind their length.
+ghost use Rattle.std.specs.Prelude.{◌≡◌, ℕ, ◌+◌, List, length, map, IfOk, IfErr, OnOk};
+ghost use Rattle.wincode_io.specs.Joins.{Each, total};
+ghost use Rattle.wincode.specs.Lists.{items_write, list_write, IsSumRefused};
+ghost use Rattle.wincode.specs.InWindow.{is_static};
+ghost use Rattle.wincode.specs.Outcomes.{IsSized, Wrote, Unwritten, IsSizeRefused, IsPieceRefused};
+ghost use Rattle.wincode.specs.Sizes.{is_known, IsValueSize};
+
+use crate::error::{WriteResult, write_length_encoding_overflow};
+use crate::io::{WriteWindow, Writer};
+use crate::len::SeqLen;
+use crate::schema::SchemaWrite;
+use crate::schema::item_size::ItemSize;
+use std::collections::{LinkedList, VecDeque};
+
+/// Items that are gone over in order, by reference.
+pub(crate) trait ToItems<T: SchemaWrite> {
+    // Its items, in that order.
+    ghost listed: { Self → List T.Src };
+
+    /// How many there are.
+    fn count(&self) -> usize
+        ensures { result ≡ length (listed self.now) };
+
+    /// Their sizes, added to the size of what stands before them.
+    fn add_sizes(&self, before: usize) -> WriteResult<usize>
+        ensures ok { IfOk result (λ n. Each T.writing.can (map T.seen (listed self.now)) × (n ≡ before + total T.writing.size (map T.seen (listed self.now)))) }
+        ensures err { IfErr result (IsSumRefused before T.writing (map T.seen (listed self.now))) };
+
+    /// Writes them, one after another.
+    fn write_to<W: Writer>(&self, writer: &mut W) -> WriteResult<()>
+        ensures ok { OnOk result (Wrote (items_write T.writing) (W.state writer.old) (W.state writer.new) (map T.seen (listed self.now))) }
+        ensures value { OnOk result (Each T.proper (listed self.now)) }
+        ensures err { IfErr result (Unwritten (items_write T.writing) (W.state writer.old) (W.state writer.new) (map T.seen (listed self.now))) };
+}
+
+/// The sizes of items, added to the size of what stands before them.
+pub(crate) fn add_sizes<T: SchemaWrite>(before: usize, items: &[T::Src]) -> WriteResult<usize>
+    ensures ok { IfOk result (λ n. Each T.writing.can (map T.seen items.now) × (n ≡ before + total T.writing.size (map T.seen items.now))) }
+    ensures err { IfErr result (IsSumRefused before T.writing (map T.seen items.now)) }
+{
+    let mut sum = before;
+    for item in items {
+        let size = T::size_of(item)?;
+        sum = match sum.checked_add(size) {
+            Some(more) => more,
+            None => return Err(write_length_encoding_overflow("usize::MAX")),
+        };
+    }
+    Ok(sum)
+}
+
+/// They are written by the schema's `write_items`.
+impl<'a, U: 'a, T: SchemaWrite<Src = U>> ToItems<T> for &'a [U] {
+    ghost listed = { λ s. s.now };
+
+    fn count(&self) -> usize {
+        self.len()
+    }
+
+    fn add_sizes(&self, before: usize) -> WriteResult<usize> {
+        add_sizes::<T>(before, *self)
+    }
+
+    fn write_to<W: Writer>(&self, writer: &mut W) -> WriteResult<()> {
+        T::write_items::<W>(writer, *self)
+    }
+}
+
+/// From front to back, wherever they lie in memory.
+impl<U, T: SchemaWrite<Src = U>> ToItems<T> for VecDeque<U> {
+    ghost listed = { λ q. q.items };
+
+    fn count(&self) -> usize {
+        self.len()
+    }
+
+    fn add_sizes(&self, before: usize) -> WriteResult<usize> {
+        let (front, back) = self.as_slices();
+        let sum = add_sizes::<T>(before, front)?;
+        add_sizes::<T>(sum, back)
+    }
+
+    fn write_to<W: Writer>(&self, writer: &mut W) -> WriteResult<()> {
+        let (front, back) = self.as_slices();
+        T::write_items::<W>(writer, front)?;
+        T::write_items::<W>(writer, back)
+    }
+}
+
+impl<U, T: SchemaWrite<Src = U>> ToItems<T> for LinkedList<U> {
+    ghost listed = { λ l. l };
+
+    fn count(&self) -> usize {
+        self.len()
+    }
+
+    fn add_sizes(&self, before: usize) -> WriteResult<usize> {
+        let mut sum = before;
+        for item in self {
+            let size = T::size_of(item)?;
+            sum = match sum.checked_add(size) {
+                Some(more) => more,
+                None => return Err(write_length_encoding_overflow("usize::MAX")),
+            };
+        }
+        Ok(sum)
+    }
+
+    fn write_to<W: Writer>(&self, writer: &mut W) -> WriteResult<()> {
+        for item in self {
+            T::write(writer, item)?;
+        }
+        Ok(())
+    }
+}
+
+/// The size of a list of these items, in bytes. `COUNT` is what a list counts against the limit of a
+/// list of lists.
+pub(crate) fn size_of_list<Len: SeqLen, T: SchemaWrite, C: ToItems<T>, const COUNT: usize>(
+    src: &C,
+) -> WriteResult<usize>
+    ensures ok { IfOk result (IsSized (list_write Len.scheme COUNT T.writing) (map T.seen (C.listed src.now))) }
+    ensures err { IfErr result (IsSizeRefused (list_write Len.scheme COUNT T.writing) (map T.seen (C.listed src.now))) }
+{
+    let length = Len::write_bytes_needed(src.count())?;
+    src.add_sizes(length)
+}
+
+/// Writes the length of a list, and then its items.
+fn write_parts<Len: SeqLen, T: SchemaWrite, C: ToItems<T>, W: Writer, const COUNT: usize>(
+    writer: &mut W,
+    src: &C,
+) -> WriteResult<()>
+    ensures ok { OnOk result (Wrote (list_write Len.scheme COUNT T.writing) (W.state writer.old) (W.state writer.new) (map T.seen (C.listed src.now))) }
+    ensures value { OnOk result (Each T.proper (C.listed src.now)) }
+    ensures err { IfErr result (Unwritten (list_write Len.scheme COUNT T.writing) (W.state writer.old) (W.state writer.new) (map T.seen (C.listed src.now))) }
+{
+    Len::write::<W>(writer, src.count())?;
+    src.write_to::<W>(writer)
+}
+
+/// Writes a list of items of this size, through one window of all of it where the size is known: then
+/// it asks for the length's text, for the total and for the room, in this order.
+pub(crate) fn write_list_of<
+    Len: SeqLen,
+    T: SchemaWrite,
+    C: ToItems<T>,
+    W: Writer,
+    const COUNT: usize,
+>(writer: &mut W, src: &C, size: ItemSize) -> WriteResult<()>
+    requires size { IsValueSize T.writing size }
+    ensures ok { OnOk result (Wrote (list_write Len.scheme COUNT T.writing) (W.state writer.old) (W.state writer.new) (map T.seen (C.listed src.now))) }
+    ensures value { OnOk result (Each T.proper (C.listed src.now)) }
+    ensures err { IfErr result (Unwritten (list_write Len.scheme COUNT T.writing) (W.state writer.old) (W.state writer.new) (map T.seen (C.listed src.now))) }
+    ensures piece { IfErr result (IsPieceRefused (is_known size) (list_write Len.scheme COUNT T.writing) (W.state writer.old) (W.state writer.new) (map T.seen (C.listed src.now))) }
+{
+    if let ItemSize::Unknown = size {
+        return write_parts::<Len, T, C, W, COUNT>(writer, src);
+    }
+    let n = src.count();
+    let length = Len::write_bytes_needed(n)?;
+    let total = match size.times_behind(length, n) {
+        Some(total) => total,
+        None => return Err(write_length_encoding_overflow("usize::MAX")),
+    };
+    writer.make_room(total)?;
+    let mut window = WriteWindow::new(writer, total);
+    write_parts::<Len, T, C, WriteWindow<'_, W>, COUNT>(&mut window, src)?;
+    window.finish()?;
+    Ok(())
+}
+
+/// Writes a list.
+pub(crate) fn write_list<Len: SeqLen, T: SchemaWrite, C: ToItems<T>, W: Writer, const COUNT: usize>(
+    writer: &mut W,
+    src: &C,
+) -> WriteResult<()>
+    ensures ok { OnOk result (Wrote (list_write Len.scheme COUNT T.writing) (W.state writer.old) (W.state writer.new) (map T.seen (C.listed src.now))) }
+    ensures value { OnOk result (Each T.proper (C.listed src.now)) }
+    ensures err { IfErr result (Unwritten (list_write Len.scheme COUNT T.writing) (W.state writer.old) (W.state writer.new) (map T.seen (C.listed src.now))) }
+    ensures piece { IfErr result (IsPieceRefused (is_static T.writing.meta) (list_write Len.scheme COUNT T.writing) (W.state writer.old) (W.state writer.new) (map T.seen (C.listed src.now))) }
+{
+    write_list_of::<Len, T, C, W, COUNT>(writer, src, ItemSize::of(T::type_meta()))
+}
