@@ -1,23 +1,28 @@
-//! Times reading and writing of lists of numbers and of records beside a copy of as many bytes.
+//! Times reading and writing of lists and of records beside a copy of as many bytes.
 //!
 //! Without arguments it prints one fixed line. With `--time` it prints a table: for each row the least
-//! of 20 runs, in microseconds, and how many tenths of the copy of as many bytes that is. Each run looks at
-//! what it made, so that no run can leave it out.
+//! of 20 runs, in microseconds, and how many hundredths of the copy of as many bytes that is. Each run looks
+//! at what it made, so that no run can leave it out.
 #![tactic(auto)]
 
 use std::alloc::Global;
 use std::env;
+use std::marker::PhantomData;
 use std::rt::{Clock, Env};
 use std::time::Instant;
 use thiserror::Error;
 use wincode::io::Lifetime;
-use wincode::{SchemaGet, SchemaWrite, deserialize, serialize};
+use wincode::{SchemaGet, SchemaRead, SchemaWrite, deserialize, serialize};
 
 const RUNS: u32 = 20;
 
 const NUMBERS: u64 = 500_000;
 
+const BYTES: usize = 4_000_000;
+
 const SIDE: u64 = 1_000;
+
+const TEXTS: usize = 100_000;
 
 const RECORDS: usize = 50_000;
 
@@ -67,6 +72,20 @@ fn square(alloc: Global, side: u64) -> Result<Vec<Vec<u64>>, Failure> {
     Ok(lists)
 }
 
+/// So many texts of 20 bytes each.
+fn texts(alloc: Global) -> Result<Vec<String>, Failure> {
+    let mut list = Vec::new(alloc);
+    for _i in 0..TEXTS {
+        let Ok(text) = String::from_str(alloc, "twenty bytes of text") else {
+            return Err(Failure::OutOfMemory);
+        };
+        if list.push(text).is_err() {
+            return Err(Failure::OutOfMemory);
+        }
+    }
+    Ok(list)
+}
+
 /// What is measured.
 trait Work {
     fn run(&self, alloc: Global) -> Result<(), Failure>;
@@ -84,66 +103,82 @@ impl Work for Copy<'_> {
     }
 }
 
-#[derive(Drop)]
-struct ReadNumbers<'a>(&'a [u8]);
+/// A value that is looked at, so that no run can leave it out.
+trait Look {
+    /// Something of each item that has a size of its own, and of the last of all.
+    fn look(&self) -> u64;
+}
 
-impl Work for ReadNumbers<'_> {
+impl Look for u8 {
+    fn look(&self) -> u64 {
+        u64::from(*self)
+    }
+}
+
+impl Look for u64 {
+    fn look(&self) -> u64 {
+        *self
+    }
+}
+
+impl Look for Record {
+    fn look(&self) -> u64 {
+        self.0
+            .wrapping_add(u64::from(self.1))
+            .wrapping_add(u64::from(self.2[31]))
+    }
+}
+
+impl Look for String {
+    fn look(&self) -> u64 {
+        self.len() as u64
+    }
+}
+
+impl<T: Look> Look for Vec<T> {
+    fn look(&self) -> u64 {
+        let last = match self.last() {
+            Some(last) => last.look(),
+            None => 0,
+        };
+        last.wrapping_add(self.len() as u64)
+    }
+}
+
+/// Reads a value, and looks at it.
+#[derive(Drop)]
+struct Reading<'a, T> {
+    bytes: &'a [u8],
+    due: u64,
+    of: PhantomData<T>,
+}
+
+impl<'a, T: Look + SchemaRead<Lifetime<'a>, Dst = T>> Work for Reading<'a, T> {
     fn run(&self, alloc: Global) -> Result<(), Failure> {
-        match deserialize::<&[u8], Vec<u64>>(alloc, self.0) {
-            Ok(list) if list.last() == Some(&(NUMBERS - 1)) => Ok(()),
+        match deserialize::<&'a [u8], T>(alloc, self.bytes) {
+            Ok(value) if value.look() == self.due => Ok(()),
             _ => Err(Failure::Read),
         }
     }
 }
 
+/// Writes a value, and looks at its text.
 #[derive(Drop)]
-struct ReadLists<'a>(&'a [u8]);
-
-impl Work for ReadLists<'_> {
-    fn run(&self, alloc: Global) -> Result<(), Failure> {
-        let lists = match deserialize::<&[u8], Vec<Vec<u64>>>(alloc, self.0) {
-            Ok(lists) => lists,
-            Err(_) => return Err(Failure::Read),
-        };
-        for list in &lists {
-            if list.last() != Some(&(SIDE - 1)) {
-                return Err(Failure::Read);
-            }
-        }
-        Ok(())
-    }
-}
-
-#[derive(Drop)]
-struct WriteNumbers<'a> {
-    list: &'a Vec<u64>,
+struct Writing<'a, T> {
+    value: &'a T,
     text: &'a [u8],
 }
 
-impl Work for WriteNumbers<'_> {
+impl<'a, T: SchemaWrite<Src = T>> Work for Writing<'a, T> {
     fn run(&self, alloc: Global) -> Result<(), Failure> {
-        match serialize(alloc, self.list) {
+        match serialize(alloc, self.value) {
             Ok(bytes) if bytes.last() == self.text.last() => Ok(()),
             _ => Err(Failure::Write),
         }
     }
 }
 
-#[derive(Drop)]
-struct WriteLists<'a> {
-    lists: &'a Vec<Vec<u64>>,
-    text: &'a [u8],
-}
-
-impl Work for WriteLists<'_> {
-    fn run(&self, alloc: Global) -> Result<(), Failure> {
-        match serialize(alloc, self.lists) {
-            Ok(bytes) if bytes.last() == self.text.last() => Ok(()),
-            _ => Err(Failure::Write),
-        }
-    }
-}
-
+/// Reads records one by one.
 #[derive(Drop)]
 struct ReadRecords<'a>(&'a [u8]);
 
@@ -174,7 +209,7 @@ fn record_sum(record: &Record) -> u64 {
     sum
 }
 
-/// Writes so many records.
+/// Writes so many records one by one.
 #[derive(Drop)]
 struct WriteRecords(usize);
 
@@ -218,61 +253,73 @@ fn least<W: Work>(rt: &impl Clock, alloc: Global, work: &W) -> Result<u128, Fail
     Ok(nanoseconds)
 }
 
-/// Prints a row: the time and, in tenths, how many times the copy's it is.
-fn print_row(rt: &impl Print, name: &str, taken: u128, copy: u128) -> Result<(), Failure> {
-    let tenths = taken.saturating_mul(10) / copy.max(1);
+/// Prints a row: the time and, in hundredths, how many times the copy's it is.
+fn print_row(
+    rt: &impl Print,
+    name: &str,
+    done: &str,
+    taken: u128,
+    copy: u128,
+) -> Result<(), Failure> {
+    let hundredths = taken.saturating_mul(100) / copy.max(1);
     let microseconds = taken / 1000;
-    println!(rt; "{name}: {microseconds} microseconds, {tenths} tenths of the copy").map_err(
-        |_| Failure::Print,
-    )
+    println!(rt;
+        "{name} {done}: {microseconds} microseconds, {hundredths} hundredths of the copy"
+    ).map_err(|_| Failure::Print)
+}
+
+/// Times a value's reading and writing beside a copy of its text.
+fn time_value<'a, T: Look + SchemaWrite<Src = T> + SchemaRead<Lifetime<'a>, Dst = T>>(
+    rt: &(impl Clock + Print + AllocGlobal),
+    name: &str,
+    value: &'a T,
+    text: &'a [u8],
+) -> Result<(), Failure> {
+    let alloc = rt.alloc();
+    let copy = least(rt, alloc, &Copy(text))?;
+    print_row(rt, name, "copied", copy, copy)?;
+    let reading = Reading::<T> {
+        bytes: text,
+        due: value.look(),
+        of: PhantomData,
+    };
+    print_row(rt, name, "read", least(rt, alloc, &reading)?, copy)?;
+    let writing = Writing { value, text };
+    print_row(rt, name, "written", least(rt, alloc, &writing)?, copy)
 }
 
 fn time_numbers(rt: &(impl Clock + Print + AllocGlobal)) -> Result<(), Failure> {
-    let alloc = rt.alloc();
-    let list = numbers(alloc, NUMBERS)?;
-    let bytes = serialize(alloc, &list).map_err(|_| Failure::Write)?;
-    let numbers_written = WriteNumbers {
-        list: &list,
-        text: bytes.as_slice(),
+    let list = numbers(rt.alloc(), NUMBERS)?;
+    let text = serialize(rt.alloc(), &list).map_err(|_| Failure::Write)?;
+    time_value(rt, "numbers", &list, text.as_slice())
+}
+
+fn time_bytes(rt: &(impl Clock + Print + AllocGlobal)) -> Result<(), Failure> {
+    let Ok(list) = vec![in rt.alloc(); 7u8; BYTES] else {
+        return Err(Failure::OutOfMemory);
     };
-    let copy = least(rt, alloc, &Copy(bytes.as_slice()))?;
-    print_row(rt, "copy of the numbers' bytes", copy, copy)?;
-    print_row(
-        rt,
-        "deserialize numbers",
-        least(rt, alloc, &ReadNumbers(bytes.as_slice()))?,
-        copy,
-    )?;
-    print_row(
-        rt,
-        "serialize numbers",
-        least(rt, alloc, &numbers_written)?,
-        copy,
-    )
+    let text = serialize(rt.alloc(), &list).map_err(|_| Failure::Write)?;
+    time_value(rt, "bytes", &list, text.as_slice())
 }
 
 fn time_lists(rt: &(impl Clock + Print + AllocGlobal)) -> Result<(), Failure> {
-    let alloc = rt.alloc();
-    let lists = square(alloc, SIDE)?;
-    let bytes = serialize(alloc, &lists).map_err(|_| Failure::Write)?;
-    let lists_written = WriteLists {
-        lists: &lists,
-        text: bytes.as_slice(),
+    let lists = square(rt.alloc(), SIDE)?;
+    let text = serialize(rt.alloc(), &lists).map_err(|_| Failure::Write)?;
+    time_value(rt, "lists of numbers", &lists, text.as_slice())
+}
+
+fn time_texts(rt: &(impl Clock + Print + AllocGlobal)) -> Result<(), Failure> {
+    let list = texts(rt.alloc())?;
+    let text = serialize(rt.alloc(), &list).map_err(|_| Failure::Write)?;
+    time_value(rt, "texts", &list, text.as_slice())
+}
+
+fn time_record_list(rt: &(impl Clock + Print + AllocGlobal)) -> Result<(), Failure> {
+    let Ok(list) = vec![in rt.alloc(); RECORD; RECORDS] else {
+        return Err(Failure::OutOfMemory);
     };
-    let copy = least(rt, alloc, &Copy(bytes.as_slice()))?;
-    print_row(rt, "copy of the lists' bytes", copy, copy)?;
-    print_row(
-        rt,
-        "deserialize lists",
-        least(rt, alloc, &ReadLists(bytes.as_slice()))?,
-        copy,
-    )?;
-    print_row(
-        rt,
-        "serialize lists",
-        least(rt, alloc, &lists_written)?,
-        copy,
-    )
+    let text = serialize(rt.alloc(), &list).map_err(|_| Failure::Write)?;
+    time_value(rt, "records in a list", &list, text.as_slice())
 }
 
 fn time_records(rt: &(impl Clock + Print + AllocGlobal)) -> Result<(), Failure> {
@@ -280,14 +327,22 @@ fn time_records(rt: &(impl Clock + Print + AllocGlobal)) -> Result<(), Failure> 
     let writing = WriteRecords(RECORDS);
     let bytes = writing.bytes(alloc)?;
     let copy = least(rt, alloc, &Copy(bytes.as_slice()))?;
-    print_row(rt, "copy of the records' bytes", copy, copy)?;
+    print_row(rt, "records one by one", "copied", copy, copy)?;
+    let reading = ReadRecords(bytes.as_slice());
     print_row(
         rt,
-        "read records",
-        least(rt, alloc, &ReadRecords(bytes.as_slice()))?,
+        "records one by one",
+        "read",
+        least(rt, alloc, &reading)?,
         copy,
     )?;
-    print_row(rt, "write records", least(rt, alloc, &writing)?, copy)
+    print_row(
+        rt,
+        "records one by one",
+        "written",
+        least(rt, alloc, &writing)?,
+        copy,
+    )
 }
 
 fn is_timed(rt: &(impl Env + AllocGlobal)) -> bool {
@@ -300,7 +355,10 @@ fn is_timed(rt: &(impl Env + AllocGlobal)) -> bool {
 fn main(rt: HostRuntime) -> Result<(), Failure> {
     if is_timed(&rt) {
         time_numbers(&rt)?;
+        time_bytes(&rt)?;
         time_lists(&rt)?;
+        time_texts(&rt)?;
+        time_record_list(&rt)?;
         return time_records(&rt);
     }
     println!(rt; "wincode_bench --time prints how long lists take").map_err(|_| Failure::Print)

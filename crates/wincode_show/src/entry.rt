@@ -54,7 +54,7 @@ impl SchemaWrite for Entry {
     }
 
     ghost write_laws = { write_laws_by (λ e. (e.id, e.tags)) (pair_write_laws (number_write_laws 8 true)
-        (list_write_laws (bincode 4194304) (λ t. t.items) (λ n. n < 256 ^ 1) (λ n. n) (number_write 1 true) (number_write_laws 1 true))) };
+        (list_write_laws (bincode 4194304) 24 (λ t. t.items) (λ n. n < 256 ^ 1) (λ n. n) (number_write 1 true) (number_write_laws 1 true))) };
 }
 
 impl<L: Lending> SchemaRead<L> for Entry {
@@ -89,12 +89,12 @@ impl<L: Lending> SchemaRead<L> for Entry {
     }
 
     ghost read_laws = { pair_read_laws (number_read_laws 8 true (lit≤ tt))
-        (list_read_laws (bincode 4194304) (bincode_laws 4194304) (λ n. n < 256 ^ 1) (number_read 1 true) (number_read_laws 1 true (lit≤ tt))) };
+        (list_read_laws (bincode 4194304) (bincode_laws 4194304) 24 (lit≤ tt) (λ n. n < 256 ^ 1) (number_read 1 true) (number_read_laws 1 true (lit≤ tt))) };
 }
 
 impl<L: Lending> RoundTrip<L> for Entry {
     ghost reads_back = { reads_back_by (λ e. (e.id, e.tags)) (pair_reads_back (number_reads_back 8 true)
-        (list_reads_back (bincode 4194304) (bincode_laws 4194304) (λ t. t.items) (λ n. n < 256 ^ 1) (λ n. n) (number_write 1 true) (λ n. n) (number_read 1 true) (number_reads_back 1 true))) };
+        (list_reads_back (bincode 4194304) (bincode_laws 4194304) 24 (λ t. t.items) (λ n. n < 256 ^ 1) (λ n. n) (number_write 1 true) (λ n. n) (number_read 1 true) (number_reads_back 1 true))) };
 }
 
 /// Reads a value from the front of what the reader has, and gives a text of it: what is written reads

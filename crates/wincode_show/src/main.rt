@@ -1,6 +1,7 @@
 //! `wincode_show SHAPE`: reads a value from standard input and writes it again to standard output.
 #![tactic(auto)]
 
+mod byte_len;
 mod entry;
 #[cfg(test)]
 mod refusing;

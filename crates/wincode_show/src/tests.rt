@@ -6,16 +6,19 @@ mod calls;
 mod large;
 mod leaves;
 mod lifetimes;
+mod lists;
 mod parts;
 mod program;
 mod readers;
 mod relaying;
+mod short_lengths;
 mod tuples;
 mod unwritten;
 mod vectors;
 
 use super::entry::{Entry, rewrite};
 use arrays::array_answer;
+use lists::list_answer;
 use parts::part_answer;
 use std::alloc::Global;
 use std::io::ErrorKind;
@@ -289,49 +292,11 @@ fn answer(alloc: Global, name: &str, bytes: &[u8]) -> Result<String, Fail> {
     if let Some(found) = tuple_answer(alloc, name, bytes)? {
         return Ok(found);
     }
+    if let Some(found) = list_answer(alloc, name, bytes)? {
+        return Ok(found);
+    }
     let found = other_answer(alloc, name, bytes)?;
     Ok(found.ok_or("a type")?)
-}
-
-/// Lists of items of one size that are refused, and their answers as long as lists are read item by item: a
-/// list is refused for the first item that is missing, and behind the bad part of an item. The vectors take the
-/// bytes of the whole list at once: they refuse a short list without looking at an item, and a bad item behind
-/// them all.
-const ITEM_BY_ITEM: [(&str, &str, &str); 4] = [
-    (
-        "Vec<u64>",
-        "02000000000000000100000000000000",
-        "err Io(ReadSizeLimit(8)) 0",
-    ),
-    (
-        "Vec<Vec<u64>>",
-        "090000000000000000000000000000000300000000000000ff",
-        "err Io(ReadSizeLimit(8)) 1",
-    ),
-    (
-        "Vec<Result<u8,u8>>",
-        "0300000000000000010100000401000000ac00000000013a9e274ffbc5",
-        "err InvalidTagEncoding(257) 17",
-    ),
-    (
-        "Vec<Result<u8,u8>>",
-        "0300000000000000ff000000ff00000000040100000000",
-        "err InvalidTagEncoding(255) 11",
-    ),
-];
-
-/// Whether a row of the table was answered as it says, or as it is due as long as lists are read item by item.
-fn is_due(name: &str, digits: &str, outcome: &str, found: &str) -> bool {
-    let is_by_items = ITEM_BY_ITEM
-        .iter()
-        .any(|(list, bytes, _)| *list == name && *bytes == digits);
-    if is_by_items {
-        ITEM_BY_ITEM.iter().any(|(list, bytes, today)| *list == name
-            && *bytes == digits
-            && *today == found)
-    } else {
-        found == outcome
-    }
 }
 
 /// The first row of the table that is not answered as it says, if there is one.
@@ -341,7 +306,7 @@ fn first_unlike(alloc: Global, table: &str) -> Result<Option<String>, Fail> {
         let (digits, outcome) = rest.split_once('|').ok_or("an outcome")?;
         let bytes = bytes_of(alloc, digits)?;
         let found = answer(alloc, name, bytes.as_slice())?;
-        if !is_due(name, digits, outcome, found.as_str()) {
+        if found.as_str() != outcome {
             return Ok(Some(format!(in alloc; "{row}: {found}")?));
         }
     }

@@ -1,9 +1,11 @@
 //! Reading: want of memory leaves the destination, and the reader where the schema says.
 use super::{Ending, Unlike};
 use std::alloc::Global;
+use std::collections::{LinkedList, VecDeque};
 use std::rc::Rc;
 use wincode::io::Lifetime;
-use wincode::{ReadError, SchemaRead, deserialize};
+use wincode::len::ShortU16Len;
+use wincode::{ReadError, SchemaRead, containers, deserialize};
 
 /// Reads by the schema, and tells how it ended: with memory, with so many bytes left; or without, with
 /// one of the numbers in `behind` left, and nothing in the destination.
@@ -24,15 +26,28 @@ fn read<'a, T: SchemaRead<Lifetime<'a>>>(
     }
 }
 
-/// One growth, behind the length or the value that is boxed.
+/// One growth, behind the length, the items' window or the value that is boxed.
 fn one_growth(alloc: Global) -> Result<Ending, Unlike> {
     let text = [2u8, 0, 0, 0, 0, 0, 0, 0, 195, 169, 9];
     let string = read::<String>(alloc, text.as_slice(), 1, &[3])?;
-    let list = read::<Vec<u8>>(alloc, text.as_slice(), 1, &[3])?;
+    let list = read::<Vec<u8>>(alloc, text.as_slice(), 1, &[1])?;
     let number = [1u8, 2, 3, 4, 5];
     let boxed = read::<Box<u32>>(alloc, number.as_slice(), 1, &[1])?;
     let shared = read::<Rc<u32>>(alloc, number.as_slice(), 1, &[1])?;
     Ok(string.and(list).and(boxed).and(shared))
+}
+
+/// Growths of lists of items of one size, all behind the window.
+fn lists(alloc: Global) -> Result<Ending, Unlike> {
+    let two = [2u8, 0, 0, 0, 0, 0, 0, 0, 5, 0, 6, 0, 9];
+    let queue = read::<VecDeque<u16>>(alloc, two.as_slice(), 1, &[1])?;
+    let linked = read::<LinkedList<u16>>(alloc, two.as_slice(), 1, &[1])?;
+    let short = [2u8, 5, 0, 6, 0, 9];
+    type Boxed = containers::BoxedSlice<u16, ShortU16Len>;
+    let boxed = read::<Boxed>(alloc, short.as_slice(), 1, &[1])?;
+    type Shared = containers::RcSlice<u16, ShortU16Len>;
+    let shared = read::<Shared>(alloc, short.as_slice(), 1, &[1])?;
+    Ok(queue.and(linked).and(boxed).and(shared))
 }
 
 /// Growths of what stands in options, results, tuples, arrays and lists.
@@ -64,5 +79,5 @@ fn deserialized(alloc: Global) -> Result<Ending, Unlike> {
 pub fn all(alloc: Global) -> Result<Ending, Unlike> {
     let one = one_growth(alloc)?;
     let parts = inside(alloc)?;
-    Ok(one.and(parts).and(deserialized(alloc)?))
+    Ok(one.and(lists(alloc)?).and(parts).and(deserialized(alloc)?))
 }
