@@ -1,0 +1,5 @@
+pub mod Collections
+pub mod CollectionLaws
+pub mod Seen
+pub mod SeenLaws
+pub mod OwnLaws

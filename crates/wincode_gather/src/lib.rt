@@ -2,9 +2,13 @@
 #![tactic(auto)]
 
 ghost use Rattle.std.specs.Prelude.{◌≡◌, ℕ, ◌<◌, List, [], ◌∷◌, ◌++◌, slice_index, IfOk, OnOk, OnErr};
+ghost use Rattle.std.specs.BinaryHeap.{heap_items};
+ghost use Rattle.std.specs.List.Sorted.{IsPermutation};
+ghost use Rattle.wincode_gather.specs.Collections.{IsSetOf, IsMapOf, IsHashSetOf, IsHashMapOf};
 
 use std::alloc::{AllocError, Global};
-use std::collections::{LinkedList, VecDeque};
+use std::collections::{BTreeMap, BTreeSet, BinaryHeap, HashMap, HashSet, LinkedList, VecDeque};
+use std::hash::Hash;
 
 /// A collection that is made of a list, one item after another.
 pub trait Gather<T>: Drop + Sized {
@@ -42,6 +46,78 @@ impl<T: Drop> Gather<T> for LinkedList<T> {
 
     fn add(&mut self, last: T) -> Result<(), AllocError> {
         self.push_back(last)?;
+        Ok(())
+    }
+}
+
+/// It holds each item as often as the list does.
+impl<T: Ord + Drop> Gather<T> for BinaryHeap<T> {
+    ghost made = { λ items heap. IsPermutation items (heap_items heap) };
+
+    fn empty(alloc: Global, n: usize) -> Result<BinaryHeap<T>, AllocError> {
+        BinaryHeap::with_capacity(alloc, n)
+    }
+
+    fn add(&mut self, item: T) -> Result<(), AllocError> {
+        self.push(item)?;
+        Ok(())
+    }
+}
+
+/// Of equal keys the first stays, with the last value.
+impl<K: Ord + Drop, V: Drop> Gather<(K, V)> for BTreeMap<K, V> {
+    ghost made = { λ pairs m. IsMapOf K.cmp pairs m.entries };
+
+    fn empty(alloc: Global, _n: usize) -> Result<BTreeMap<K, V>, AllocError> {
+        Ok(BTreeMap::new(alloc))
+    }
+
+    fn add(&mut self, entry: (K, V)) -> Result<(), AllocError> {
+        let (key, value) = entry;
+        self.insert(key, value)?;
+        Ok(())
+    }
+}
+
+/// Of equal items the first stays.
+impl<K: Ord + Drop> Gather<K> for BTreeSet<K> {
+    ghost made = { λ items set. IsSetOf K.cmp items set.keys };
+
+    fn empty(alloc: Global, _n: usize) -> Result<BTreeSet<K>, AllocError> {
+        Ok(BTreeSet::new(alloc))
+    }
+
+    fn add(&mut self, item: K) -> Result<(), AllocError> {
+        self.insert(item)?;
+        Ok(())
+    }
+}
+
+/// Of equal keys the first stays, with the last value.
+impl<K: Eq + Hash + Drop, V: Drop> Gather<(K, V)> for HashMap<K, V> {
+    ghost made = { λ pairs m. IsHashMapOf K.eq pairs m.entries };
+
+    fn empty(alloc: Global, _n: usize) -> Result<HashMap<K, V>, AllocError> {
+        Ok(HashMap::new(alloc))
+    }
+
+    fn add(&mut self, pair: (K, V)) -> Result<(), AllocError> {
+        let (key, value) = pair;
+        self.insert(key, value)?;
+        Ok(())
+    }
+}
+
+/// Of equal items the first stays.
+impl<K: Eq + Hash + Drop> Gather<K> for HashSet<K> {
+    ghost made = { λ items set. IsHashSetOf K.eq items set.keys };
+
+    fn empty(alloc: Global, _n: usize) -> Result<HashSet<K>, AllocError> {
+        Ok(HashSet::new(alloc))
+    }
+
+    fn add(&mut self, item: K) -> Result<(), AllocError> {
+        self.insert(item)?;
         Ok(())
     }
 }
