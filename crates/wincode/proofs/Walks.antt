@@ -9,7 +9,7 @@ use Rattle.wincode.specs.Lists.{items_write, IsSumRefused}
 use Rattle.wincode.specs.ListLaws.{items_write_laws}
 use Rattle.wincode.specs.Outcomes.{Wrote, Unwritten, IsSizeRefused}
 use Rattle.wincode.specs.Pairs.{pair_write}
-use Rattle.wincode.specs.WriteSequences.{items_wrote_none, items_wrote_more, items_unwritten, wrote_map, unwritten_map, pair_wrote, pair_unwritten_first, pair_unwritten_second}
+use Rattle.wincode.specs.WriteSequences.{items_wrote_more, items_unwritten, wrote_map, unwritten_map, pair_wrote, pair_unwritten_first, pair_unwritten_second}
 use Rattle.wincode.specs.declared.error.WriteError.{WriteError}
 
 -- so far the items before `rest` were written

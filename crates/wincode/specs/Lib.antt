@@ -24,4 +24,10 @@ pub mod HeldLaws
 pub mod TagLaws
 pub mod Short
 pub mod ShortLaws
+pub mod Gathered
+pub mod GatheredLaws
+pub mod ScatteredLaws
+pub mod BackLaws
+pub mod Keys
+pub mod KeyLaws
 pub mod Show

@@ -10,6 +10,12 @@ abbrev pub item_size : TypeMeta → ItemSize
 item_size Dynamic = Unknown
 item_size (Static s z) = Bytes s
 
+-- two parts, one after the other, have the sum of their sizes
+abbrev pub pair_size : TypeMeta → TypeMeta → ItemSize
+pair_size Dynamic n = Unknown
+pair_size (Static a x) Dynamic = Unknown
+pair_size (Static a x) (Static b y) = if nat_lt (a + b) (2 ^ 64) then Bytes (a + b) else Vast
+
 abbrev pub is_known : ItemSize → Bool
 is_known Unknown = false
 is_known (Bytes s) = true

@@ -2,18 +2,26 @@
 //!
 //! What `schema::lists` says of its lists holds here, with the length's text, its limit and its refusals
 //! those of the scheme. All arguments are written.
-ghost use Rattle.std.specs.Prelude.{◌≡◌, List, map};
+ghost use Rattle.std.specs.Prelude.{◌≡◌, ℕ, Bool, List, map};
+ghost use Rattle.std.specs.BinaryHeap.{heap_items};
 ghost use Rattle.std.specs.Box.{boxed_slice_items};
+ghost use Rattle.std.specs.List.Sorted.{IsPermutation};
 ghost use Rattle.std.specs.Rc.{rc_slice_items};
 ghost use Rattle.std.proofs.Common.{lit≤};
+ghost use Rattle.wincode_gather.specs.Seen.{heap_sees, Made};
 ghost use Rattle.wincode_io.specs.Joins.{Each};
+ghost use Rattle.wincode.specs.BackLaws.{heap_reads_back};
+ghost use Rattle.wincode.specs.Gathered.{gathered_read, scattered_write};
+ghost use Rattle.wincode.specs.GatheredLaws.{bag_read_laws};
 ghost use Rattle.wincode.specs.InWindow.{is_static};
 ghost use Rattle.wincode.specs.Lists.{list_read, list_write, IsListRefused};
 ghost use Rattle.wincode.specs.ListLaws.{list_read_laws, list_write_laws, list_reads_back};
+ghost use Rattle.wincode.specs.ScatteredLaws.{scattered_write_laws};
 ghost use Rattle.wincode.specs.Sizes.{item_size};
 
 use crate::error::{ReadResult, WriteResult};
 use crate::io::{Lending, Reader, Writer};
+use crate::keys::Told;
 use crate::len::SeqLen;
 use crate::meta::TypeMeta;
 use crate::schema::from_items::get_list;
@@ -313,6 +321,84 @@ where
     ghost reads_back = { list_reads_back Len.scheme Len.scheme_laws 16 (λ r. (rc_slice_items r))
         T.SchemaWrite.proper T.SchemaWrite.seen T.SchemaWrite.writing T.SchemaRead.seen T.SchemaRead.reading
         T.reads_back };
+}
+
+/// A `BinaryHeap` behind such a length: some list of its items.
+pub struct BinaryHeap<T, Len>(PhantomData<(T, Len)>);
+
+impl<T: SchemaWrite, Len: SeqLen> SchemaWrite for BinaryHeap<T, Len>
+where
+    T::Src: Ord,
+{
+    type Src = collections::BinaryHeap<T::Src>;
+
+    ghost Value = { List T.Value };
+
+    ghost seen = { λ h. map T.seen (heap_items h) };
+
+    ghost proper = { λ h. Each T.proper (heap_items h) };
+
+    ghost writing = { scattered_write Len.scheme T.writing };
+
+    ghost in_one_piece = { is_static T.writing.meta };
+
+    fn type_meta() -> TypeMeta {
+        TypeMeta::Dynamic
+    }
+
+    fn size_of(src: &collections::BinaryHeap<T::Src>) -> WriteResult<usize> {
+        size_of_list::<Len, T, collections::BinaryHeap<T::Src>, 24>(src)
+    }
+
+    fn write<W: Writer>(writer: &mut W, src: &collections::BinaryHeap<T::Src>) -> WriteResult<()> {
+        write_list::<Len, T, collections::BinaryHeap<T::Src>, W, 24>(writer, src)
+    }
+
+    ghost write_laws = { scattered_write_laws Len.scheme heap_items T.write_laws };
+}
+
+impl<L: Lending, T: SchemaRead<L>, Len: SeqLen> SchemaRead<L> for BinaryHeap<T, Len>
+where
+    T::Dst: Ord,
+{
+    type Dst = collections::BinaryHeap<T::Dst>;
+
+    ghost Value = { (T.Value → Bool) → ℕ };
+
+    ghost seen = { λ h. heap_sees T.seen (heap_items h) };
+
+    ghost proper = { λ v. Unit {0} };
+
+    ghost reading = { gathered_read T.seen (Made IsPermutation (heap_sees T.seen)) Len.scheme T.reading };
+
+    ghost refusal = { IsListRefused Len.scheme Len.refusal (item_size T.reading.meta) T.reading T.refusal };
+
+    fn type_meta() -> TypeMeta {
+        TypeMeta::Dynamic
+    }
+
+    fn prealloc_size() -> usize {
+        24
+    }
+
+    fn read<R: Reader<L>>(
+        alloc: Global,
+        reader: &mut R,
+        dst: &mut Option<collections::BinaryHeap<T::Dst>>,
+    ) -> ReadResult<()> {
+        *dst = Some(get_list::<collections::BinaryHeap<T::Dst>, Len, L, T, R>(alloc, reader)?);
+        Ok(())
+    }
+
+    ghost read_laws = { bag_read_laws Len.scheme Len.scheme_laws T.seen T.read_laws };
+}
+
+impl<L: Lending, T: RoundTrip<L> + Told<L>, Len: SeqLen> RoundTrip<L> for BinaryHeap<T, Len>
+where
+    T::Src: Ord + Drop,
+{
+    ghost reads_back = { heap_reads_back Len.scheme Len.scheme_laws heap_items T.told T.SchemaWrite.proper
+        T.SchemaWrite.seen T.SchemaWrite.writing T.SchemaRead.seen T.SchemaRead.reading T.reads_back };
 }
 
 /// An item by itself, which is read and written as `T`.

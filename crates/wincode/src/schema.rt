@@ -12,6 +12,7 @@ pub(crate) mod in_window;
 pub(crate) mod item_size;
 pub mod leaves;
 pub mod lists;
+pub mod maps;
 pub mod tags;
 pub mod text;
 pub(crate) mod to_items;

@@ -1,7 +1,10 @@
 //! Reading items, one after another, and lists behind their length.
 ghost use Rattle.std.specs.Prelude.{◌≡◌, List, map, false, IfOk, IfErr};
+ghost use Rattle.std.specs.BinaryHeap.{heap_items};
 ghost use Rattle.std.specs.Box.{boxed_slice_items};
+ghost use Rattle.std.specs.List.Sorted.{IsPermutation};
 ghost use Rattle.std.specs.Rc.{rc_slice_items};
+ghost use Rattle.wincode_gather.specs.Collections.{IsSetOf, IsMapOf, IsHashSetOf, IsHashMapOf};
 ghost use Rattle.wincode_io.specs.Joins.{AreItems};
 ghost use Rattle.wincode.specs.Lists.{reads_list, AreRefused, IsRunRefused, IsListRefused};
 ghost use Rattle.wincode.specs.Outcomes.{Gives, Refuses};
@@ -14,7 +17,8 @@ use crate::schema::item_size::ItemSize;
 use crate::schema::{SchemaGet, SchemaRead};
 use std::alloc::Global;
 use std::boxed::BoxedSlice;
-use std::collections::{LinkedList, VecDeque};
+use std::collections::{BTreeMap, BTreeSet, BinaryHeap, HashMap, HashSet, LinkedList, VecDeque};
+use std::hash::Hash;
 use std::rc::RcSlice;
 use wincode_gather::Gather;
 
@@ -111,6 +115,64 @@ impl<L: Lending, U: Drop, T: SchemaRead<L, Dst = U>> FromItems<L, T> for LinkedL
         n: usize,
     ) -> ReadResult<LinkedList<U>> {
         gather_items::<LinkedList<U>, L, T, R>(alloc, reader, n)
+    }
+}
+
+impl<L: Lending, U: Ord + Drop, T: SchemaRead<L, Dst = U>> FromItems<L, T> for BinaryHeap<U> {
+    ghost made = { λ ds h. IsPermutation ds (heap_items h) };
+
+    fn from_items<R: Reader<L>>(
+        alloc: Global,
+        reader: &mut R,
+        n: usize,
+    ) -> ReadResult<BinaryHeap<U>> {
+        gather_items::<BinaryHeap<U>, L, T, R>(alloc, reader, n)
+    }
+}
+
+impl<L: Lending, A: Ord + Drop, B: Drop, T: SchemaRead<L, Dst = (A, B)>> FromItems<L, T>
+    for BTreeMap<A, B> {
+    ghost made = { λ ds m. IsMapOf A.cmp ds m.entries };
+
+    fn from_items<R: Reader<L>>(
+        alloc: Global,
+        reader: &mut R,
+        n: usize,
+    ) -> ReadResult<BTreeMap<A, B>> {
+        gather_items::<BTreeMap<A, B>, L, T, R>(alloc, reader, n)
+    }
+}
+
+impl<L: Lending, A: Eq + Hash + Drop, B: Drop, T: SchemaRead<L, Dst = (A, B)>> FromItems<L, T>
+    for HashMap<A, B> {
+    ghost made = { λ ds m. IsHashMapOf A.eq ds m.entries };
+
+    fn from_items<R: Reader<L>>(
+        alloc: Global,
+        reader: &mut R,
+        n: usize,
+    ) -> ReadResult<HashMap<A, B>> {
+        gather_items::<HashMap<A, B>, L, T, R>(alloc, reader, n)
+    }
+}
+
+impl<L: Lending, A: Ord + Drop, T: SchemaRead<L, Dst = A>> FromItems<L, T> for BTreeSet<A> {
+    ghost made = { λ ds s. IsSetOf A.cmp ds s.keys };
+
+    fn from_items<R: Reader<L>>(
+        alloc: Global,
+        reader: &mut R,
+        n: usize,
+    ) -> ReadResult<BTreeSet<A>> {
+        gather_items::<BTreeSet<A>, L, T, R>(alloc, reader, n)
+    }
+}
+
+impl<L: Lending, A: Eq + Hash + Drop, T: SchemaRead<L, Dst = A>> FromItems<L, T> for HashSet<A> {
+    ghost made = { λ ds s. IsHashSetOf A.eq ds s.keys };
+
+    fn from_items<R: Reader<L>>(alloc: Global, reader: &mut R, n: usize) -> ReadResult<HashSet<A>> {
+        gather_items::<HashSet<A>, L, T, R>(alloc, reader, n)
     }
 }
 

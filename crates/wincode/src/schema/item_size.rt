@@ -1,6 +1,6 @@
 //! The size that the items of a list have.
 ghost use Rattle.std.specs.Prelude.{◌≡◌};
-ghost use Rattle.wincode.specs.Sizes.{item_size, run_size, behind_size};
+ghost use Rattle.wincode.specs.Sizes.{item_size, pair_size, run_size, behind_size};
 
 use crate::meta::TypeMeta;
 
@@ -23,6 +23,21 @@ impl ItemSize {
         match item {
             TypeMeta::Static { size, .. } => ItemSize::Bytes(size),
             TypeMeta::Dynamic => ItemSize::Unknown,
+        }
+    }
+
+    /// The size of two parts of which so much is known, one after the other.
+    pub(crate) fn of_pair(first: TypeMeta, second: TypeMeta) -> ItemSize
+        ensures { result ≡ pair_size first second }
+    {
+        match (first, second) {
+            (TypeMeta::Static { size: a, .. }, TypeMeta::Static { size: b, .. }) => {
+                match a.checked_add(b) {
+                    Some(size) => ItemSize::Bytes(size),
+                    None => ItemSize::Vast,
+                }
+            }
+            _ => ItemSize::Unknown,
         }
     }
 

@@ -1,9 +1,15 @@
 //! Writing items, one after another, and lists behind their length.
 ghost use Rattle.std.specs.Prelude.{◌≡◌, ℕ, ◌+◌, List, length, map, IfOk, IfErr, OnOk};
+ghost use Rattle.std.specs.BTreeMap.{IsOrdered};
+ghost use Rattle.std.specs.BinaryHeap.{heap_items};
+ghost use Rattle.std.specs.HashMap.{IsUnique};
+ghost use Rattle.std.specs.List.{IsDistinct};
+ghost use Rattle.std.specs.List.Sorted.{IsStrictlySortedBy};
 ghost use Rattle.wincode_io.specs.Joins.{Each, total};
 ghost use Rattle.wincode.specs.Lists.{items_write, list_write, IsSumRefused};
 ghost use Rattle.wincode.specs.InWindow.{is_static};
 ghost use Rattle.wincode.specs.Outcomes.{IsSized, Wrote, Unwritten, IsSizeRefused, IsPieceRefused};
+ghost use Rattle.wincode.specs.Pairs.{pair_write};
 ghost use Rattle.wincode.specs.Sizes.{is_known, IsValueSize};
 
 use crate::error::{WriteResult, write_length_encoding_overflow};
@@ -11,16 +17,22 @@ use crate::io::{WriteWindow, Writer};
 use crate::len::SeqLen;
 use crate::schema::SchemaWrite;
 use crate::schema::item_size::ItemSize;
-use std::collections::{LinkedList, VecDeque};
+use crate::schema::tuples::{Members2, size_of_members_2};
+use std::collections::{BTreeMap, BTreeSet, BinaryHeap, HashMap, HashSet, LinkedList, VecDeque};
+use std::hash::Hash;
 
 /// Items that are gone over in order, by reference.
 pub(crate) trait ToItems<T: SchemaWrite> {
     // Its items, in that order.
     ghost listed: { Self → List T.Src };
 
+    // What holds of each such collection.
+    ghost sound: { Self → Type 0 };
+
     /// How many there are.
     fn count(&self) -> usize
-        ensures { result ≡ length (listed self.now) };
+        ensures count { result ≡ length (listed self.now) }
+        ensures sound { sound self.now };
 
     /// Their sizes, added to the size of what stands before them.
     fn add_sizes(&self, before: usize) -> WriteResult<usize>
@@ -54,6 +66,8 @@ pub(crate) fn add_sizes<T: SchemaWrite>(before: usize, items: &[T::Src]) -> Writ
 impl<'a, U: 'a, T: SchemaWrite<Src = U>> ToItems<T> for &'a [U] {
     ghost listed = { λ s. s.now };
 
+    ghost sound = { λ s. Unit {0} };
+
     fn count(&self) -> usize {
         self.len()
     }
@@ -70,6 +84,8 @@ impl<'a, U: 'a, T: SchemaWrite<Src = U>> ToItems<T> for &'a [U] {
 /// From front to back, wherever they lie in memory.
 impl<U, T: SchemaWrite<Src = U>> ToItems<T> for VecDeque<U> {
     ghost listed = { λ q. q.items };
+
+    ghost sound = { λ q. Unit {0} };
 
     fn count(&self) -> usize {
         self.len()
@@ -90,6 +106,8 @@ impl<U, T: SchemaWrite<Src = U>> ToItems<T> for VecDeque<U> {
 
 impl<U, T: SchemaWrite<Src = U>> ToItems<T> for LinkedList<U> {
     ghost listed = { λ l. l };
+
+    ghost sound = { λ l. Unit {0} };
 
     fn count(&self) -> usize {
         self.len()
@@ -115,6 +133,159 @@ impl<U, T: SchemaWrite<Src = U>> ToItems<T> for LinkedList<U> {
     }
 }
 
+/// In the order in which the heap keeps them.
+impl<U: Ord, T: SchemaWrite<Src = U>> ToItems<T> for BinaryHeap<U> {
+    ghost listed = { heap_items };
+
+    ghost sound = { λ h. Unit {0} };
+
+    fn count(&self) -> usize {
+        self.as_slice().len()
+    }
+
+    fn add_sizes(&self, before: usize) -> WriteResult<usize> {
+        add_sizes::<T>(before, self.as_slice())
+    }
+
+    fn write_to<W: Writer>(&self, writer: &mut W) -> WriteResult<()> {
+        T::write_items::<W>(writer, self.as_slice())
+    }
+}
+
+/// In the order of the keys.
+impl<A: Ord, B, K: SchemaWrite<Src = A>, V: SchemaWrite<Src = B>> ToItems<Members2<K, V>>
+    for BTreeMap<A, B> {
+    ghost listed = { λ m. m.entries };
+
+    ghost sound = { IsOrdered A.cmp };
+
+    fn count(&self) -> usize {
+        self.len()
+    }
+
+    fn add_sizes(&self, before: usize) -> WriteResult<usize> {
+        let mut sum = before;
+        for (key, value) in self {
+            let size = size_of_members_2::<K, V>(key, value)?;
+            sum = match sum.checked_add(size) {
+                Some(more) => more,
+                None => return Err(write_length_encoding_overflow("usize::MAX")),
+            };
+        }
+        Ok(sum)
+    }
+
+    fn write_to<W: Writer>(&self, writer: &mut W) -> WriteResult<()> {
+        for (key, value) in self {
+            write_pair::<K, V, W>(writer, key, value)?;
+        }
+        Ok(())
+    }
+}
+
+impl<A: Eq + Hash, B, K: SchemaWrite<Src = A>, V: SchemaWrite<Src = B>> ToItems<Members2<K, V>>
+    for HashMap<A, B> {
+    ghost listed = { λ m. m.entries };
+
+    ghost sound = { IsUnique A.eq };
+
+    fn count(&self) -> usize {
+        self.len()
+    }
+
+    fn add_sizes(&self, before: usize) -> WriteResult<usize> {
+        let mut sum = before;
+        for (key, value) in self {
+            let size = size_of_members_2::<K, V>(key, value)?;
+            sum = match sum.checked_add(size) {
+                Some(more) => more,
+                None => return Err(write_length_encoding_overflow("usize::MAX")),
+            };
+        }
+        Ok(sum)
+    }
+
+    fn write_to<W: Writer>(&self, writer: &mut W) -> WriteResult<()> {
+        for (key, value) in self {
+            write_pair::<K, V, W>(writer, key, value)?;
+        }
+        Ok(())
+    }
+}
+
+/// In order.
+impl<A: Ord, K: SchemaWrite<Src = A>> ToItems<K> for BTreeSet<A> {
+    ghost listed = { λ s. s.keys };
+
+    ghost sound = { λ s. IsStrictlySortedBy A.cmp s.keys };
+
+    fn count(&self) -> usize {
+        self.len()
+    }
+
+    fn add_sizes(&self, before: usize) -> WriteResult<usize> {
+        let mut sum = before;
+        for key in self {
+            let size = K::size_of(key)?;
+            sum = match sum.checked_add(size) {
+                Some(more) => more,
+                None => return Err(write_length_encoding_overflow("usize::MAX")),
+            };
+        }
+        Ok(sum)
+    }
+
+    fn write_to<W: Writer>(&self, writer: &mut W) -> WriteResult<()> {
+        for key in self {
+            K::write(writer, key)?;
+        }
+        Ok(())
+    }
+}
+
+impl<A: Eq + Hash, K: SchemaWrite<Src = A>> ToItems<K> for HashSet<A> {
+    ghost listed = { λ s. s.keys };
+
+    ghost sound = { λ s. IsDistinct A.eq s.keys };
+
+    fn count(&self) -> usize {
+        self.len()
+    }
+
+    fn add_sizes(&self, before: usize) -> WriteResult<usize> {
+        let mut sum = before;
+        for key in self {
+            let size = K::size_of(key)?;
+            sum = match sum.checked_add(size) {
+                Some(more) => more,
+                None => return Err(write_length_encoding_overflow("usize::MAX")),
+            };
+        }
+        Ok(sum)
+    }
+
+    fn write_to<W: Writer>(&self, writer: &mut W) -> WriteResult<()> {
+        for key in self {
+            K::write(writer, key)?;
+        }
+        Ok(())
+    }
+}
+
+/// Writes a key, and then its value, through no window of their own.
+fn write_pair<K: SchemaWrite, V: SchemaWrite, W: Writer>(
+    writer: &mut W,
+    key: &K::Src,
+    value: &V::Src,
+) -> WriteResult<()>
+    ensures ok { OnOk result (Wrote (pair_write K.writing V.writing) (W.state writer.old) (W.state writer.new) (K.seen key.now, V.seen value.now)) }
+    ensures value { OnOk result (K.proper key.now × V.proper value.now) }
+    ensures err { IfErr result (Unwritten (pair_write K.writing V.writing) (W.state writer.old) (W.state writer.new) (K.seen key.now, V.seen value.now)) }
+{
+    K::write(writer, key)?;
+    V::write(writer, value)
+}
+
 /// The size of a list of these items, in bytes. `COUNT` is what a list counts against the limit of a
 /// list of lists.
 pub(crate) fn size_of_list<Len: SeqLen, T: SchemaWrite, C: ToItems<T>, const COUNT: usize>(
@@ -134,6 +305,7 @@ fn write_parts<Len: SeqLen, T: SchemaWrite, C: ToItems<T>, W: Writer, const COUN
 ) -> WriteResult<()>
     ensures ok { OnOk result (Wrote (list_write Len.scheme COUNT T.writing) (W.state writer.old) (W.state writer.new) (map T.seen (C.listed src.now))) }
     ensures value { OnOk result (Each T.proper (C.listed src.now)) }
+    ensures sound { C.sound src.now }
     ensures err { IfErr result (Unwritten (list_write Len.scheme COUNT T.writing) (W.state writer.old) (W.state writer.new) (map T.seen (C.listed src.now))) }
 {
     Len::write::<W>(writer, src.count())?;
@@ -152,6 +324,7 @@ pub(crate) fn write_list_of<
     requires size { IsValueSize T.writing size }
     ensures ok { OnOk result (Wrote (list_write Len.scheme COUNT T.writing) (W.state writer.old) (W.state writer.new) (map T.seen (C.listed src.now))) }
     ensures value { OnOk result (Each T.proper (C.listed src.now)) }
+    ensures sound { C.sound src.now }
     ensures err { IfErr result (Unwritten (list_write Len.scheme COUNT T.writing) (W.state writer.old) (W.state writer.new) (map T.seen (C.listed src.now))) }
     ensures piece { IfErr result (IsPieceRefused (is_known size) (list_write Len.scheme COUNT T.writing) (W.state writer.old) (W.state writer.new) (map T.seen (C.listed src.now))) }
 {
@@ -178,6 +351,7 @@ pub(crate) fn write_list<Len: SeqLen, T: SchemaWrite, C: ToItems<T>, W: Writer, 
 ) -> WriteResult<()>
     ensures ok { OnOk result (Wrote (list_write Len.scheme COUNT T.writing) (W.state writer.old) (W.state writer.new) (map T.seen (C.listed src.now))) }
     ensures value { OnOk result (Each T.proper (C.listed src.now)) }
+    ensures sound { C.sound src.now }
     ensures err { IfErr result (Unwritten (list_write Len.scheme COUNT T.writing) (W.state writer.old) (W.state writer.new) (map T.seen (C.listed src.now))) }
     ensures piece { IfErr result (IsPieceRefused (is_static T.writing.meta) (list_write Len.scheme COUNT T.writing) (W.state writer.old) (W.state writer.new) (map T.seen (C.listed src.now))) }
 {
