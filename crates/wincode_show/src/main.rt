@@ -2,9 +2,12 @@
 #![tactic(auto)]
 
 mod byte_len;
+#[cfg(test)]
+mod endless;
 mod entry;
 #[cfg(test)]
 mod refusing;
+mod square;
 #[cfg(test)]
 mod tests;
 

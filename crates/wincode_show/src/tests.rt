@@ -7,6 +7,7 @@ mod large;
 mod leaves;
 mod lifetimes;
 mod lists;
+mod maps;
 mod parts;
 mod program;
 mod readers;
@@ -19,6 +20,7 @@ mod vectors;
 use super::entry::{Entry, rewrite};
 use arrays::array_answer;
 use lists::list_answer;
+use maps::map_answer;
 use parts::part_answer;
 use std::alloc::Global;
 use std::io::ErrorKind;
@@ -293,6 +295,9 @@ fn answer(alloc: Global, name: &str, bytes: &[u8]) -> Result<String, Fail> {
         return Ok(found);
     }
     if let Some(found) = list_answer(alloc, name, bytes)? {
+        return Ok(found);
+    }
+    if let Some(found) = map_answer(alloc, name, bytes)? {
         return Ok(found);
     }
     let found = other_answer(alloc, name, bytes)?;

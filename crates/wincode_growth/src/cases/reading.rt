@@ -1,7 +1,7 @@
 //! Reading: want of memory leaves the destination, and the reader where the schema says.
 use super::{Ending, Unlike};
 use std::alloc::Global;
-use std::collections::{LinkedList, VecDeque};
+use std::collections::{BTreeMap, BTreeSet, BinaryHeap, HashMap, HashSet, LinkedList, VecDeque};
 use std::rc::Rc;
 use wincode::io::Lifetime;
 use wincode::len::ShortU16Len;
@@ -66,6 +66,18 @@ fn inside(alloc: Global) -> Result<Ending, Unlike> {
     Ok(option.and(pair).and(array).and(result).and(texts).and(two))
 }
 
+/// Insertions, behind the window of all pairs or items.
+fn inserted(alloc: Global) -> Result<Ending, Unlike> {
+    let pairs = [2u8, 0, 0, 0, 0, 0, 0, 0, 1, 2, 3, 4, 9];
+    let map = read::<BTreeMap<u8, u8>>(alloc, pairs.as_slice(), 1, &[1])?;
+    let hashed = read::<HashMap<u8, u8>>(alloc, pairs.as_slice(), 1, &[1])?;
+    let items = [4u8, 0, 0, 0, 0, 0, 0, 0, 1, 2, 3, 4, 9];
+    let set = read::<BTreeSet<u8>>(alloc, items.as_slice(), 1, &[1])?;
+    let hashed_set = read::<HashSet<u8>>(alloc, items.as_slice(), 1, &[1])?;
+    let heap = read::<BinaryHeap<u8>>(alloc, items.as_slice(), 1, &[1])?;
+    Ok(map.and(hashed).and(set).and(hashed_set).and(heap))
+}
+
 /// The same by the call that most programs make.
 fn deserialized(alloc: Global) -> Result<Ending, Unlike> {
     let text = [1u8, 0, 0, 0, 0, 0, 0, 0, 97];
@@ -79,5 +91,7 @@ fn deserialized(alloc: Global) -> Result<Ending, Unlike> {
 pub fn all(alloc: Global) -> Result<Ending, Unlike> {
     let one = one_growth(alloc)?;
     let parts = inside(alloc)?;
-    Ok(one.and(lists(alloc)?).and(parts).and(deserialized(alloc)?))
+    let gathered = inserted(alloc)?;
+    let listed = one.and(lists(alloc)?).and(parts);
+    Ok(listed.and(gathered).and(deserialized(alloc)?))
 }

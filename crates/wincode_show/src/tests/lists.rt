@@ -53,7 +53,10 @@ fn answers_the_vectors_of_lists(rt: HostRuntime) -> Result<(), Fail> {
 }
 
 /// What reading these bytes answers, and what is left of them: the text that the value has, or the error.
-fn read_as<'a, T: RoundTrip<Lifetime<'a>>>(alloc: Global, bytes: &'a [u8]) -> Result<String, Fail>
+pub fn read_as<'a, T: RoundTrip<Lifetime<'a>>>(
+    alloc: Global,
+    bytes: &'a [u8],
+) -> Result<String, Fail>
 where
     T::Src: Drop,
 {
