@@ -6,6 +6,7 @@
 #![tactic(auto)]
 
 use std::alloc::Global;
+use std::collections::{BTreeMap, HashMap};
 use std::env;
 use std::marker::PhantomData;
 use std::rt::{Clock, Env};
@@ -23,6 +24,8 @@ const BYTES: usize = 4_000_000;
 const SIDE: u64 = 1_000;
 
 const TEXTS: usize = 100_000;
+
+const PAIRS: u64 = 100_000;
 
 const RECORDS: usize = 50_000;
 
@@ -142,6 +145,18 @@ impl<T: Look> Look for Vec<T> {
             None => 0,
         };
         last.wrapping_add(self.len() as u64)
+    }
+}
+
+impl Look for BTreeMap<u64, u64> {
+    fn look(&self) -> u64 {
+        self.len() as u64
+    }
+}
+
+impl Look for HashMap<u64, u64> {
+    fn look(&self) -> u64 {
+        self.len() as u64
     }
 }
 
@@ -314,6 +329,20 @@ fn time_texts(rt: &(impl Clock + Print + AllocGlobal)) -> Result<(), Failure> {
     time_value(rt, "texts", &list, text.as_slice())
 }
 
+fn time_maps(rt: &(impl Clock + Print + AllocGlobal)) -> Result<(), Failure> {
+    let mut ordered: BTreeMap<u64, u64> = BTreeMap::new(rt.alloc());
+    let mut hashed: HashMap<u64, u64> = HashMap::new(rt.alloc());
+    for key in 0..PAIRS {
+        if ordered.insert(key, key).is_err() || hashed.insert(key, key).is_err() {
+            return Err(Failure::OutOfMemory);
+        }
+    }
+    let text = serialize(rt.alloc(), &ordered).map_err(|_| Failure::Write)?;
+    time_value(rt, "sorted pairs", &ordered, text.as_slice())?;
+    let text = serialize(rt.alloc(), &hashed).map_err(|_| Failure::Write)?;
+    time_value(rt, "hashed pairs", &hashed, text.as_slice())
+}
+
 fn time_record_list(rt: &(impl Clock + Print + AllocGlobal)) -> Result<(), Failure> {
     let Ok(list) = vec![in rt.alloc(); RECORD; RECORDS] else {
         return Err(Failure::OutOfMemory);
@@ -358,6 +387,7 @@ fn main(rt: HostRuntime) -> Result<(), Failure> {
         time_bytes(&rt)?;
         time_lists(&rt)?;
         time_texts(&rt)?;
+        time_maps(&rt)?;
         time_record_list(&rt)?;
         return time_records(&rt);
     }
