@@ -1,3 +1,4 @@
 pub mod Served
 pub mod CursorSteps
 pub mod FormSteps
+pub mod EditSteps

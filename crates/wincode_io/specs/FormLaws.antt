@@ -1,10 +1,10 @@
 -- The byte forms of numbers, of arrays, and of what holds one of them.
 use Rattle.std.specs.Int.{cast_signed, cast_unsigned, Width}
-use Rattle.std.specs.Prelude.{◌≡◌, ℕ, ◌*◌, ◌^◌, ◌<◌, List, length, FitsSigned}
+use Rattle.std.specs.Prelude.{◌≡◌, ℕ, ◌*◌, ◌^◌, ◌<◌, List, [], ◌∷◌, length, FitsSigned}
 use Rattle.std.specs.List.{All, flat_map}
 use mir.Val.{bits}
 use mir.ValLaws.{of_z_fits, to_z-Fits}
-use Rattle.std.proofs.Common.{sym, ap, ◌∙◌, get_or}
+use Rattle.std.proofs.Common.{sym, ap, ◌∙◌, get_or, zero, suc, refl, arith}
 use Rattle.std.proofs.lemmas.Int.{to_z-of_z, of_z-to_z}
 use Rattle.wincode_io.specs.Numbers.{le, worth}
 use Rattle.wincode_io.specs.NumberLaws.{length-le, le-bytes, worth-le, worth_within, le-worth_within}
@@ -54,3 +54,11 @@ wrapped_form {proper = proper} {form = form} {value = value} wrap of back forth 
   proper_value = λ b h e. rw (back (value b)) (l.proper_value b h e);
   form_value = λ b h e. ap form (back (value b)) ∙ l.form_value b h e;
 }
+
+-- bytes, as forms of one byte each, are their own values
+pub byte_values : (n : ℕ) (b : List ℕ) → length b ≡ n → values worth 1 n b ≡ b
+unfolding values worth
+byte_values zero [] e = refl
+byte_values zero (x ∷ b) e = absurd (omega (arith, e))
+byte_values (suc n) [] e = absurd (omega (arith, e))
+byte_values (suc n) (x ∷ b) e = ap (λ y. y ∷ values worth 1 n b) (omega arith) ∙ ap (λ ys. x ∷ ys) (byte_values n b (omega (arith, e)))

@@ -1,5 +1,6 @@
 //! Bytes to read a value from.
 ghost use Rattle.std.specs.Prelude.{◌≡◌};
+ghost use Rattle.std.proofs.Common.{refl};
 ghost use Rattle.wincode_io.specs.Readers.{ReaderState, memory, shared, for_writing};
 
 use super::lending::{Lending, Lifetime};
@@ -69,4 +70,13 @@ impl<'a> Input for &'a mut [u8] {
     fn reader(self) -> &'a mut [u8] {
         self
     }
+}
+
+/// Bytes to read a value from that are lent for writing.
+pub trait InputMut: Input {
+    ghost lends: { (s : Self) → (Self.Input.begins s).lends ≡ for_writing };
+}
+
+impl<'a> InputMut for &'a mut [u8] {
+    ghost lends = { λ s. refl };
 }

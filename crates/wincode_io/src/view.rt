@@ -36,7 +36,15 @@ impl<B: Held, T: ZeroCopy> View<B, T> {
     pub fn get(&self) -> T
         ensures { result ≡ T.value (B.holds self.now.bytes) }
     {
-        T::of_form(self.bytes.as_held())
+        T::of_form(self.as_bytes())
+    }
+
+    /// The bytes of the form.
+    pub fn as_bytes(&self) -> &[u8]
+        ensures value { result.now ≡ B.holds self.now.bytes }
+        ensures size { length result.now ≡ T.size }
+    {
+        self.bytes.as_held()
     }
 }
 
@@ -106,7 +114,22 @@ impl<B: Held, T: ZeroCopy> SliceView<B, T> {
         requires { i < self.now.n }
         ensures { result ≡ T.value (part T.size (B.holds self.now.forms) i) }
     {
-        form_at::<T>(self.forms.as_held(), self.n, i)
+        form_at::<T>(self.as_bytes(), self.n, i)
+    }
+
+    /// The bytes of the forms, one after another.
+    pub fn as_bytes(&self) -> &[u8]
+        ensures value { result.now ≡ B.holds self.now.forms }
+        ensures size { length result.now ≡ self.now.n * T.size }
+    {
+        self.forms.as_held()
+    }
+
+    /// The bytes of the forms, in place of the view.
+    pub fn into_bytes(self) -> B
+        ensures { result ≡ self.forms }
+    {
+        self.forms
     }
 }
 
