@@ -66,7 +66,7 @@ bytes_sized n b vs r = sized vs b r.1 ∙ r.0 where
   sized [] b j = ap length j
   sized (v ∷ vs) b j = ap length j.4 ∙ ap (λ x. length (x ++ j.1)) j.2.1 ∙ ap suc (sized vs j.1 j.3)
 
-mapped : (xs : List ℕ) → map (λ v. v) xs ≡ xs
+pub mapped : {X : Type 0} (xs : List X) → map (λ v. v) xs ≡ xs
 mapped [] = refl
 mapped (x ∷ xs) = ap (λ ys. x ∷ ys) (mapped xs)
 

@@ -12,4 +12,6 @@ pub mod Text
 pub mod Arrays
 pub mod InWindow
 pub mod Tags
-pub mod Recoding
+pub mod Views
+pub mod Edits
+pub mod FormRuns

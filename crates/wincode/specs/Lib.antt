@@ -30,4 +30,10 @@ pub mod ScatteredLaws
 pub mod BackLaws
 pub mod Keys
 pub mod KeyLaws
-pub mod Show
+pub mod Views
+pub mod ViewLaws
+pub mod Edits
+pub mod AsForms
+pub mod OneText
+pub mod OneTextLaws
+pub mod Serde

@@ -19,6 +19,8 @@ ghost use Rattle.wincode.specs.ListLaws.{list_read_laws, list_write_laws, list_r
 ghost use Rattle.wincode.specs.ScatteredLaws.{scattered_write_laws};
 ghost use Rattle.wincode.specs.Sizes.{item_size};
 
+mod pod;
+
 use crate::error::{ReadResult, WriteResult};
 use crate::io::{Lending, Reader, Writer};
 use crate::keys::Told;
@@ -27,6 +29,7 @@ use crate::meta::TypeMeta;
 use crate::schema::from_items::get_list;
 use crate::schema::to_items::{size_of_list, write_list};
 use crate::schema::{RoundTrip, SchemaRead, SchemaWrite};
+pub use pod::Pod;
 use std::alloc::Global;
 use std::marker::PhantomData;
 use std::{boxed, collections, rc, vec};
@@ -429,6 +432,10 @@ impl<T: SchemaWrite> SchemaWrite for Elem<T> {
         T::write::<W>(writer, src)
     }
 
+    fn write_items<W: Writer>(writer: &mut W, items: &[T::Src]) -> WriteResult<()> {
+        T::write_items::<W>(writer, items)
+    }
+
     ghost write_laws = { T.write_laws };
 }
 
@@ -459,6 +466,15 @@ impl<L: Lending, T: SchemaRead<L>> SchemaRead<L> for Elem<T> {
         dst: &mut Option<T::Dst>,
     ) -> ReadResult<()> {
         T::read::<R>(alloc, reader, dst)
+    }
+
+    fn read_items<R: Reader<L>>(
+        alloc: Global,
+        reader: &mut R,
+        n: usize,
+        into: &mut vec::Vec<T::Dst>,
+    ) -> ReadResult<()> {
+        T::read_items::<R>(alloc, reader, n, into)
     }
 
     ghost read_laws = { T.read_laws };

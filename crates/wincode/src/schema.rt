@@ -6,6 +6,7 @@ ghost use Rattle.wincode.specs.Lists.{items_write, AreRefused};
 ghost use Rattle.wincode.specs.Outcomes.{Gives, Puts, Adds, Refuses, Refusal, IsSized, Wrote, Unwritten, IsSizeRefused, IsPieceRefused};
 
 pub mod arrays;
+pub(crate) mod as_forms;
 pub mod boxes;
 pub(crate) mod from_items;
 pub(crate) mod in_window;
@@ -17,6 +18,7 @@ pub mod tags;
 pub mod text;
 pub(crate) mod to_items;
 pub mod tuples;
+pub mod views;
 
 use crate::error::{ReadError, ReadResult, WriteResult};
 use crate::io::{Lending, Reader, Writer};

@@ -1,7 +1,7 @@
 //! Collections that are made of a list, one item after another.
 #![tactic(auto)]
 
-ghost use Rattle.std.specs.Prelude.{◌≡◌, ℕ, ◌<◌, List, [], ◌∷◌, ◌++◌, slice_index, IfOk, OnOk, OnErr};
+ghost use Rattle.std.specs.Prelude.{◌≡◌, List, [], ◌∷◌, ◌++◌, IfOk, OnOk};
 ghost use Rattle.std.specs.BinaryHeap.{heap_items};
 ghost use Rattle.std.specs.List.Sorted.{IsPermutation};
 ghost use Rattle.wincode_gather.specs.Collections.{IsSetOf, IsMapOf, IsHashSetOf, IsHashMapOf};
@@ -120,13 +120,4 @@ impl<K: Eq + Hash + Drop> Gather<K> for HashSet<K> {
         self.insert(item)?;
         Ok(())
     }
-}
-
-/// Adds the bytes to the list: one growth, and one copy. Refused, the list holds what it held.
-pub fn add_bytes(bytes: &[u8], into: &mut Vec<u8>) -> Result<(), AllocError>
-    ensures ok { OnOk result (into.new.items ≡ into.old.items ++ bytes.now) }
-    ensures err { OnErr result (into.new.items ≡ into.old.items) }
-    ensures small { (i : ℕ) → slice_index bytes.now i < 256 }
-{
-    into.extend_from_slice(bytes)
 }

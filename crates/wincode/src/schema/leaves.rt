@@ -11,10 +11,11 @@ ghost use Rattle.wincode.specs.Outcomes.{never, IsDenied};
 use crate::error::{ReadError, ReadResult, WriteResult, invalid_bool_encoding};
 use crate::io::{Lending, Reader, Writer, fill_array};
 use crate::meta::TypeMeta;
+use crate::schema::as_forms::{read_all, write_all};
 use crate::schema::{RoundTrip, SchemaRead, SchemaWrite};
 use std::alloc::Global;
 use std::marker::PhantomData;
-use wincode_gather::add_bytes;
+use wincode_bulk::add_bytes;
 
 /// The first `N` bytes, which are then gone; `ReadSizeLimit(N)` where fewer are left, and they stay.
 pub(crate) fn take_array<L: Lending, R: Reader<L>, const N: usize>(
@@ -147,6 +148,11 @@ impl SchemaWrite for u16 {
         Ok(())
     }
 
+    /// All at once: refused, nothing is written.
+    fn write_items<W: Writer>(writer: &mut W, items: &[u16]) -> WriteResult<()> {
+        write_all::<u16, W>(writer, items)
+    }
+
     ghost write_laws = { number_write_laws 2 true };
 }
 
@@ -178,6 +184,17 @@ impl<L: Lending> SchemaRead<L> for u16 {
         let bytes = take_array::<L, R, 2>(reader)?;
         *dst = Some(u16::from_le_bytes(bytes));
         Ok(())
+    }
+
+    /// All at once: `ReadSizeLimit` of the size of all where fewer bytes are left. Refused, for memory
+    /// too, all bytes stay.
+    fn read_items<R: Reader<L>>(
+        _alloc: Global,
+        reader: &mut R,
+        n: usize,
+        into: &mut Vec<u16>,
+    ) -> ReadResult<()> {
+        read_all::<L, R, u16>(reader, n, into)
     }
 
     ghost read_laws = { number_read_laws 2 true (lit≤ tt) };
@@ -216,6 +233,11 @@ impl SchemaWrite for u32 {
         Ok(())
     }
 
+    /// All at once: refused, nothing is written.
+    fn write_items<W: Writer>(writer: &mut W, items: &[u32]) -> WriteResult<()> {
+        write_all::<u32, W>(writer, items)
+    }
+
     ghost write_laws = { number_write_laws 4 true };
 }
 
@@ -247,6 +269,17 @@ impl<L: Lending> SchemaRead<L> for u32 {
         let bytes = take_array::<L, R, 4>(reader)?;
         *dst = Some(u32::from_le_bytes(bytes));
         Ok(())
+    }
+
+    /// All at once: `ReadSizeLimit` of the size of all where fewer bytes are left. Refused, for memory
+    /// too, all bytes stay.
+    fn read_items<R: Reader<L>>(
+        _alloc: Global,
+        reader: &mut R,
+        n: usize,
+        into: &mut Vec<u32>,
+    ) -> ReadResult<()> {
+        read_all::<L, R, u32>(reader, n, into)
     }
 
     ghost read_laws = { number_read_laws 4 true (lit≤ tt) };
@@ -285,6 +318,11 @@ impl SchemaWrite for u64 {
         Ok(())
     }
 
+    /// All at once: refused, nothing is written.
+    fn write_items<W: Writer>(writer: &mut W, items: &[u64]) -> WriteResult<()> {
+        write_all::<u64, W>(writer, items)
+    }
+
     ghost write_laws = { number_write_laws 8 true };
 }
 
@@ -316,6 +354,17 @@ impl<L: Lending> SchemaRead<L> for u64 {
         let bytes = take_array::<L, R, 8>(reader)?;
         *dst = Some(u64::from_le_bytes(bytes));
         Ok(())
+    }
+
+    /// All at once: `ReadSizeLimit` of the size of all where fewer bytes are left. Refused, for memory
+    /// too, all bytes stay.
+    fn read_items<R: Reader<L>>(
+        _alloc: Global,
+        reader: &mut R,
+        n: usize,
+        into: &mut Vec<u64>,
+    ) -> ReadResult<()> {
+        read_all::<L, R, u64>(reader, n, into)
     }
 
     ghost read_laws = { number_read_laws 8 true (lit≤ tt) };
@@ -354,6 +403,11 @@ impl SchemaWrite for u128 {
         Ok(())
     }
 
+    /// All at once: refused, nothing is written.
+    fn write_items<W: Writer>(writer: &mut W, items: &[u128]) -> WriteResult<()> {
+        write_all::<u128, W>(writer, items)
+    }
+
     ghost write_laws = { number_write_laws 16 true };
 }
 
@@ -389,6 +443,17 @@ impl<L: Lending> SchemaRead<L> for u128 {
         let bytes = take_array::<L, R, 16>(reader)?;
         *dst = Some(u128::from_le_bytes(bytes));
         Ok(())
+    }
+
+    /// All at once: `ReadSizeLimit` of the size of all where fewer bytes are left. Refused, for memory
+    /// too, all bytes stay.
+    fn read_items<R: Reader<L>>(
+        _alloc: Global,
+        reader: &mut R,
+        n: usize,
+        into: &mut Vec<u128>,
+    ) -> ReadResult<()> {
+        read_all::<L, R, u128>(reader, n, into)
     }
 
     ghost read_laws = { number_read_laws 16 true (lit≤ tt) };
@@ -500,6 +565,11 @@ impl SchemaWrite for i8 {
         Ok(())
     }
 
+    /// All at once: refused, nothing is written.
+    fn write_items<W: Writer>(writer: &mut W, items: &[i8]) -> WriteResult<()> {
+        write_all::<i8, W>(writer, items)
+    }
+
     ghost write_laws = { signed_write_laws w8 true };
 }
 
@@ -531,6 +601,17 @@ impl<L: Lending> SchemaRead<L> for i8 {
         let bytes = take_array::<L, R, 1>(reader)?;
         *dst = Some(i8::from_le_bytes(bytes));
         Ok(())
+    }
+
+    /// All at once: `ReadSizeLimit` of the size of all where fewer bytes are left. Refused, for memory
+    /// too, all bytes stay.
+    fn read_items<R: Reader<L>>(
+        _alloc: Global,
+        reader: &mut R,
+        n: usize,
+        into: &mut Vec<i8>,
+    ) -> ReadResult<()> {
+        read_all::<L, R, i8>(reader, n, into)
     }
 
     ghost read_laws = { signed_read_laws w8 refl true (lit≤ tt) };
@@ -569,6 +650,11 @@ impl SchemaWrite for i16 {
         Ok(())
     }
 
+    /// All at once: refused, nothing is written.
+    fn write_items<W: Writer>(writer: &mut W, items: &[i16]) -> WriteResult<()> {
+        write_all::<i16, W>(writer, items)
+    }
+
     ghost write_laws = { signed_write_laws w16 true };
 }
 
@@ -600,6 +686,17 @@ impl<L: Lending> SchemaRead<L> for i16 {
         let bytes = take_array::<L, R, 2>(reader)?;
         *dst = Some(i16::from_le_bytes(bytes));
         Ok(())
+    }
+
+    /// All at once: `ReadSizeLimit` of the size of all where fewer bytes are left. Refused, for memory
+    /// too, all bytes stay.
+    fn read_items<R: Reader<L>>(
+        _alloc: Global,
+        reader: &mut R,
+        n: usize,
+        into: &mut Vec<i16>,
+    ) -> ReadResult<()> {
+        read_all::<L, R, i16>(reader, n, into)
     }
 
     ghost read_laws = { signed_read_laws w16 refl true (lit≤ tt) };
@@ -638,6 +735,11 @@ impl SchemaWrite for i32 {
         Ok(())
     }
 
+    /// All at once: refused, nothing is written.
+    fn write_items<W: Writer>(writer: &mut W, items: &[i32]) -> WriteResult<()> {
+        write_all::<i32, W>(writer, items)
+    }
+
     ghost write_laws = { signed_write_laws w32 true };
 }
 
@@ -669,6 +771,17 @@ impl<L: Lending> SchemaRead<L> for i32 {
         let bytes = take_array::<L, R, 4>(reader)?;
         *dst = Some(i32::from_le_bytes(bytes));
         Ok(())
+    }
+
+    /// All at once: `ReadSizeLimit` of the size of all where fewer bytes are left. Refused, for memory
+    /// too, all bytes stay.
+    fn read_items<R: Reader<L>>(
+        _alloc: Global,
+        reader: &mut R,
+        n: usize,
+        into: &mut Vec<i32>,
+    ) -> ReadResult<()> {
+        read_all::<L, R, i32>(reader, n, into)
     }
 
     ghost read_laws = { signed_read_laws w32 refl true (lit≤ tt) };
@@ -707,6 +820,11 @@ impl SchemaWrite for i64 {
         Ok(())
     }
 
+    /// All at once: refused, nothing is written.
+    fn write_items<W: Writer>(writer: &mut W, items: &[i64]) -> WriteResult<()> {
+        write_all::<i64, W>(writer, items)
+    }
+
     ghost write_laws = { signed_write_laws w64 true };
 }
 
@@ -738,6 +856,17 @@ impl<L: Lending> SchemaRead<L> for i64 {
         let bytes = take_array::<L, R, 8>(reader)?;
         *dst = Some(i64::from_le_bytes(bytes));
         Ok(())
+    }
+
+    /// All at once: `ReadSizeLimit` of the size of all where fewer bytes are left. Refused, for memory
+    /// too, all bytes stay.
+    fn read_items<R: Reader<L>>(
+        _alloc: Global,
+        reader: &mut R,
+        n: usize,
+        into: &mut Vec<i64>,
+    ) -> ReadResult<()> {
+        read_all::<L, R, i64>(reader, n, into)
     }
 
     ghost read_laws = { signed_read_laws w64 refl true (lit≤ tt) };
@@ -776,6 +905,11 @@ impl SchemaWrite for i128 {
         Ok(())
     }
 
+    /// All at once: refused, nothing is written.
+    fn write_items<W: Writer>(writer: &mut W, items: &[i128]) -> WriteResult<()> {
+        write_all::<i128, W>(writer, items)
+    }
+
     ghost write_laws = { signed_write_laws w128 true };
 }
 
@@ -811,6 +945,17 @@ impl<L: Lending> SchemaRead<L> for i128 {
         let bytes = take_array::<L, R, 16>(reader)?;
         *dst = Some(i128::from_le_bytes(bytes));
         Ok(())
+    }
+
+    /// All at once: `ReadSizeLimit` of the size of all where fewer bytes are left. Refused, for memory
+    /// too, all bytes stay.
+    fn read_items<R: Reader<L>>(
+        _alloc: Global,
+        reader: &mut R,
+        n: usize,
+        into: &mut Vec<i128>,
+    ) -> ReadResult<()> {
+        read_all::<L, R, i128>(reader, n, into)
     }
 
     ghost read_laws = { signed_read_laws w128 refl true (lit≤ tt) };

@@ -248,7 +248,7 @@ impl<'a, U: 'a, T: SchemaWrite<Src = U>> SchemaWrite for &'a [T] {
 
     ghost proper = { λ s. Each T.proper s.now };
 
-    ghost writing = { list_write (bincode 4194304) 24 T.writing };
+    ghost writing = { list_write (bincode 18446744073709551615) 16 T.writing };
 
     ghost in_one_piece = { is_static T.writing.meta };
 
@@ -257,19 +257,19 @@ impl<'a, U: 'a, T: SchemaWrite<Src = U>> SchemaWrite for &'a [T] {
     }
 
     fn size_of(src: &&'a [U]) -> WriteResult<usize> {
-        size_of_list::<BincodeLen<4194304>, T, &'a [U], 24>(src)
+        size_of_list::<BincodeLen<18446744073709551615>, T, &'a [U], 16>(src)
     }
 
     fn write<W: Writer>(writer: &mut W, src: &&'a [U]) -> WriteResult<()> {
-        write_list::<BincodeLen<4194304>, T, &'a [U], W, 24>(writer, src)
+        write_list::<BincodeLen<18446744073709551615>, T, &'a [U], W, 16>(writer, src)
     }
 
     fn write_items<W: Writer>(writer: &mut W, items: &[&'a [U]]) -> WriteResult<()> {
         for item in items {
-            write_list::<BincodeLen<4194304>, T, &'a [U], W, 24>(writer, item)?;
+            write_list::<BincodeLen<18446744073709551615>, T, &'a [U], W, 16>(writer, item)?;
         }
         Ok(())
     }
 
-    ghost write_laws = { list_write_laws (bincode 4194304) 24 (λ s. s.now) T.proper T.seen T.writing T.write_laws };
+    ghost write_laws = { list_write_laws (bincode 18446744073709551615) 16 (λ s. s.now) T.proper T.seen T.writing T.write_laws };
 }

@@ -76,7 +76,8 @@ where
         )
     }
 
-    ghost write_laws = { sounder_laws (IsOrdered K.Src.cmp) (list_write_laws (bincode 4194304) 24 (λ m. m.entries) (λ e. K.proper e.0 × V.proper e.1) (sees K.seen V.seen) (pair_write K.writing V.writing) (pair_write_laws K.write_laws V.write_laws)) };
+    ghost write_laws = { sounder_laws (IsOrdered K.Src.cmp) (list_write_laws (bincode 4194304) 24 (λ m. m.entries) (λ e. K.proper e.0 × V.proper e.1) (sees K.seen V.seen)
+        (pair_write K.writing V.writing) (pair_write_laws K.write_laws V.write_laws)) };
 }
 
 impl<L: Lending, K: Key<L> + Ord, V: SchemaRead<L>> SchemaRead<L> for BTreeMap<K, V>
@@ -93,7 +94,8 @@ where
 
     ghost reading = { gathered_read (sees K.seen V.seen) (Made (IsMapOf K.Dst.cmp) (map (sees K.seen V.seen))) (bincode 4194304) (pair_read K.reading V.reading) };
 
-    ghost refusal = { IsListRefused (bincode 4194304) (IsLengthRefused 4194304) (pair_size K.reading.meta V.reading.meta) (pair_read K.reading V.reading) (IsPairRefused K.reading K.refusal V.reading V.refusal) };
+    ghost refusal = { IsListRefused (bincode 4194304) (IsLengthRefused 4194304) (pair_size K.reading.meta V.reading.meta) (pair_read K.reading V.reading)
+        (IsPairRefused K.reading K.refusal V.reading V.refusal) };
 
     fn type_meta() -> TypeMeta {
         TypeMeta::Dynamic
@@ -181,7 +183,8 @@ where
 
     ghost reading = { gathered_read (sees K.seen V.seen) (Made (IsHashMapOf K.Dst.eq) (hash_map_sees K.Dst.eq K.seen V.seen)) (bincode 4194304) (pair_read K.reading V.reading) };
 
-    ghost refusal = { IsListRefused (bincode 4194304) (IsLengthRefused 4194304) (pair_size K.reading.meta V.reading.meta) (pair_read K.reading V.reading) (IsPairRefused K.reading K.refusal V.reading V.refusal) };
+    ghost refusal = { IsListRefused (bincode 4194304) (IsLengthRefused 4194304) (pair_size K.reading.meta V.reading.meta) (pair_read K.reading V.reading)
+        (IsPairRefused K.reading K.refusal V.reading V.refusal) };
 
     fn type_meta() -> TypeMeta {
         TypeMeta::Dynamic

@@ -9,5 +9,5 @@ use Rattle.wincode.proofs.schema.lists.RefSliceSchemaWrite.write_items.Given as 
 abbrev pub invariant-loop-item : goal.invariant-loop-item
 invariant-loop-item g l =
     let T = g.T.SchemaWrite in
-    Wrote (items_write (list_write (bincode 4194304) 24 T.writing)) (g.W.Writer.state l.fn.writer) (g.W.Writer.state l.writer) (map (λ s. map T.seen s.now) (take l.item-index l.items))
+    Wrote (items_write (list_write (bincode 18446744073709551615) 16 T.writing)) (g.W.Writer.state l.fn.writer) (g.W.Writer.state l.writer) (map (λ s. map T.seen s.now) (take l.item-index l.items))
     × Each (λ s. Each T.proper s.now) (take l.item-index l.items)

@@ -1,0 +1,54 @@
+-- Edits of forms behind their number, in the bytes where they stand.
+use Rattle.std.proofs.Common.{◌≡◌, ◌∙◌, sym, ap, subst, ℕ, ◌-◌, ◌*◌, ◌<◌, ◌≤◌, ◌^◌, List, ◌++◌, length, take, drop, arith, length-take, length-drop, take-append-drop}
+use Rattle.std.specs.List.{All}
+use borrow.Rule.Slice.PartMut.{put_mid}
+use Rattle.wincode_io.specs.Bytes.{IsBytes}
+use Rattle.wincode_io.specs.Edits.{all_edited, in_places}
+use Rattle.wincode_io.specs.Forms.{IsByteForm}
+use Rattle.wincode_io.specs.JoinedForms.{IsBytes-take}
+use Rattle.wincode_io.specs.NumberLaws.{worth_within, le-worth_within}
+use Rattle.wincode_io.specs.Numbers.{le, worth}
+use Rattle.wincode_io.proofs.EditSteps.{values_all_edited}
+use Rattle.wincode.specs.Edits.{HasForms, HasCount, EditedInPlace}
+
+module _ (b : List ℕ) (all : IsBytes b) (long : 8 ≤ length b) (n : ℕ) (is : n ≡ worth (take 8 b)) where
+  pub number_size : length (take 8 b) ≡ 8
+  number_size = omega (arith, length-take 8 b, long)
+
+  pub number_is : take 8 b ≡ le 8 n
+  number_is = sym (ap (le 8) is ∙ le-worth_within 8 (take 8 b) (IsBytes-take 8 b all) number_size)
+
+  pub number_few : n < 2 ^ 64
+  number_few = subst (λ m. m < 2 ^ 64) (sym is) (worth_within 8 (take 8 b) (IsBytes-take 8 b all) number_size)
+
+  pub number_joins : b ≡ le 8 n ++ drop 8 b
+  number_joins = sym (take-append-drop 8 b) ∙ ap (λ x. x ++ drop 8 b) number_is
+
+  abbrev pub has_count : HasCount b
+  has_count = record { count = n; more = drop 8 b; few = number_few; joins = number_joins }
+
+  pub left_of : length (drop 8 b) ≡ length b - 8
+  left_of = length-drop 8 b
+
+  module _ (s t : ℕ) (sized : t ≡ n * s) (fits : t ≤ length b - 8) where
+    abbrev pub has_forms : HasForms s b
+    has_forms = record {
+      count = n;
+      forms = take t (drop 8 b);
+      more = drop t (drop 8 b);
+      few = number_few;
+      size = omega (arith, length-take t (drop 8 b), length-drop 8 b, fits, sized);
+      joins = number_joins ∙ ap (λ x. le 8 n ++ x) (sym (take-append-drop t (drop 8 b)));
+    }
+
+    -- `k` is t, as the length of a part of the bytes is counted
+    pub edited_in_place : {X : Type 0} {proper : X → Type 0} {form : X → List ℕ} {value : List ℕ → X} → IsByteForm proper s form value
+        → (es : List (ℕ × X)) → All (λ e. e.0 < n) es → All (λ e. proper e.1) es
+        → (k : ℕ) → k ≡ t → (forms : List ℕ) → forms ≡ all_edited s (take k (drop 8 b)) (in_places form es) → EditedInPlace s form value b es (put_mid 8 k b forms)
+    edited_in_place {form = form} law es within proper k same forms e = record {
+      has = has_forms;
+      within = within;
+      is = ap (λ x. x ++ (forms ++ drop k (drop 8 b))) number_is ∙ ap (λ x. le 8 n ++ (x ++ drop k (drop 8 b))) e
+          ∙ ap (λ m. le 8 n ++ (all_edited s (take m (drop 8 b)) (in_places form es) ++ drop m (drop 8 b))) same;
+      values_are = values_all_edited law n (take t (drop 8 b)) es within proper has_forms.size;
+    }

@@ -1,0 +1,106 @@
+-- The laws of schemas whose values have one text each, and of those that ask for no borrow, from those of their parts.
+use Rattle.std.proofs.Common.{◌≡◌, ◌∙◌, sym, ap, ℕ, Bool, List, [], ◌∷◌, ◌++◌, length, max, arith, Option, Some, None, Result, Ok, Err}
+use Rattle.std.specs.Int.{Width}
+use Rattle.wincode_io.specs.Joins.{Joined}
+use Rattle.wincode_io.specs.Numbers.{le}
+use Rattle.wincode_io.specs.Writers.{byte_limit}
+use Rattle.wincode.specs.Arrays.{array_read}
+use Rattle.wincode.specs.Grammar.{ReadGrammar}
+use Rattle.wincode.specs.Held.{held_read}
+use Rattle.wincode.specs.Leaves.{number_read, signed_read, bool_read, unit_read}
+use Rattle.wincode.specs.Lengths.{Scheme, bincode}
+use Rattle.wincode.specs.Lists.{list_read}
+use Rattle.wincode.specs.OneText.{IsOneText}
+use Rattle.wincode.specs.Pairs.{pair_read}
+use Rattle.wincode.specs.Short.{short_read}
+use Rattle.wincode.specs.Tags.{tagged_read, option_tag, OptionReads, option_part_read, option_read, result_tag, SidesRead, sides_read, result_read}
+use Rattle.wincode.specs.Text.{char_read, text_read}
+use Rattle.wincode.specs.Views.{form_read, lent_read}
+
+-- ---- leaves, whose text is a function of the value
+
+pub number_one_text : (k : ℕ) (any : Bool) → IsOneText (number_read k any)
+number_one_text k any = record { same = λ a b v p q. p.1 ∙ sym q.1 }
+
+pub signed_one_text : (w : Width) (any : Bool) → IsOneText (signed_read w any)
+signed_one_text w any = record { same = λ a b v p q. p.1 ∙ sym q.1 }
+
+pub bool_one_text : IsOneText bool_read
+bool_one_text = record { same = λ a b v p q. p ∙ sym q }
+
+pub unit_one_text : IsOneText unit_read
+unit_one_text = record { same = λ a b v p q. p ∙ sym q }
+
+pub char_one_text : IsOneText char_read
+char_one_text = record { same = λ a b v p q. p.1 ∙ sym q.1 }
+
+pub text_one_text : (prealloc asks : ℕ) (sparing : Bool) → IsOneText (text_read prealloc asks sparing)
+text_one_text prealloc asks sparing = record { same = λ a b v p q. p.2 ∙ sym q.2 }
+
+pub short_one_text : IsOneText short_read
+short_one_text = record { same = λ a b v p q. p.1 ∙ sym q.1 }
+
+-- ---- parts joined
+
+joined_same : (a b x y u w : List ℕ) → a ≡ x ++ y → b ≡ u ++ w → x ≡ u → y ≡ w → a ≡ b
+joined_same a b x y u w p q e f = p ∙ ap (λ t. t ++ y) e ∙ ap (λ t. u ++ t) f ∙ sym q
+
+pub pair_one_text : {V W : Type 0} {g : ReadGrammar V} {h : ReadGrammar W} → IsOneText g → IsOneText h → IsOneText (pair_read g h)
+pair_one_text one two = record { same = λ a b v p q. joined_same a b p.0 p.1 q.0 q.1 p.4 q.4 (one.same p.0 q.0 v.0 p.2 q.2) (two.same p.1 q.1 v.1 p.3 q.3) }
+
+items_same : {V : Type 0} (g : ReadGrammar V) → IsOneText g → (vs : List V) (a b : List ℕ) → Joined (λ v t. g.reads t v) vs a → Joined (λ v t. g.reads t v) vs b → a ≡ b
+items_same g one [] a b p q = p ∙ sym q
+items_same g one (v ∷ vs) a b p q = joined_same a b p.0 p.1 q.0 q.1 p.4 q.4 (one.same p.0 q.0 v p.2 q.2) (items_same g one vs p.1 q.1 p.3 q.3)
+
+pub array_one_text : {V : Type 0} (n : ℕ) {g : ReadGrammar V} → IsOneText g → IsOneText (array_read n g)
+array_one_text n {g = g} one = record { same = λ a b vs p q. items_same g one vs a b p.1 q.1 }
+
+some_same : {A : Type 0} (o : Option A) (x y : A) → o ≡ Some x → o ≡ Some y → x ≡ y
+some_same o x y p q = let e : Some x ≡ Some y = sym p ∙ q in cc
+
+-- a scheme gives each length one text
+pub list_one_text : {V : Type 0} (s : Scheme) (count : ℕ) {g : ReadGrammar V} → IsOneText g → IsOneText (list_read s count g)
+list_one_text s count {g = g} one = record {
+  same = λ a b vs p q.
+      let t = p.1 in
+      let u = q.1 in
+      joined_same a b t.0 t.1 u.0 u.1 t.4 u.4 (some_same (s.text (length vs)) t.0 u.0 t.2 u.2) (items_same g one vs t.1 u.1 t.3 u.3);
+}
+
+-- ---- a tag, and then what it names
+
+pub form_one_text : {X : Type 0} (proper : X → Type 0) (s : ℕ) (form : X → List ℕ) (any : Bool) (prealloc asks : ℕ) → IsOneText (form_read proper s form any prealloc asks)
+form_one_text proper s form any prealloc asks = record { same = λ a b v p q. p.1 ∙ sym q.1 }
+
+-- a list that is lent has the texts of one that isn't
+pub lent_one_text : {V : Type 0} (asks : ℕ) {g : ReadGrammar V} → IsOneText g → IsOneText (lent_read asks g)
+lent_one_text asks {g = g} one = record { same = (list_one_text (bincode byte_limit) 16 one).same }
+
+pub tagged_one_text : {V : Type 0} (k : ℕ) (tag : V → ℕ) {part : ReadGrammar V} → IsOneText part → IsOneText (tagged_read k tag part)
+tagged_one_text k tag one = record { same = λ a b v p q. p.2 ∙ ap (λ t. le k (tag v) ++ t) (one.same p.0 q.0 v p.1 q.1) ∙ sym q.2 }
+
+option_same : {V : Type 0} (g : ReadGrammar V) → IsOneText g → (a b : List ℕ) (o : Option V) → OptionReads g.reads a o → OptionReads g.reads b o → a ≡ b
+option_same g one a b None p q = p ∙ sym q
+option_same g one a b (Some v) p q = one.same a b v p q
+
+pub option_one_text : {V : Type 0} {g : ReadGrammar V} → IsOneText g → IsOneText (option_read g)
+option_one_text {g = g} one = tagged_one_text 1 option_tag {part = option_part_read g} (record { same = option_same g one })
+
+sides_same : {V W : Type 0} (g : ReadGrammar V) (h : ReadGrammar W) → IsOneText g → IsOneText h
+    → (a b : List ℕ) (r : Result V W) → SidesRead g.reads h.reads a r → SidesRead g.reads h.reads b r → a ≡ b
+sides_same g h one two a b (Ok v) p q = one.same a b v p q
+sides_same g h one two a b (Err w) p q = two.same a b w p q
+
+pub result_one_text : {V W : Type 0} {g : ReadGrammar V} {h : ReadGrammar W} → IsOneText g → IsOneText h → IsOneText (result_read g h)
+result_one_text {g = g} {h = h} one two = tagged_one_text 4 result_tag {part = sides_read g h} (record { same = sides_same g h one two })
+
+-- ---- what is held
+
+pub held_one_text : {V : Type 0} {g : ReadGrammar V} → IsOneText g → IsOneText (held_read g)
+held_one_text one = record { same = one.same }
+
+-- ---- no borrow
+
+-- two parts ask for none, where neither does
+pub both_owned : {m n : ℕ} → m ≡ 0 → n ≡ 0 → max m n ≡ 0
+both_owned p q = omega (arith, p, q)

@@ -1,0 +1,294 @@
+//! One text for each value: every schema but those of maps, sets and heaps, which take their items in any order.
+ghost use Rattle.std.specs.Prelude.{true, false, max};
+ghost use Rattle.std.specs.Int.{w8, w16, w32, w64, w128};
+ghost use Rattle.wincode_io.specs.Readers.{shared, for_writing};
+ghost use Rattle.wincode.specs.Lengths.{bincode};
+ghost use Rattle.wincode.specs.Views.{form_prealloc};
+ghost use Rattle.wincode.specs.OneTextLaws.{number_one_text, signed_one_text, bool_one_text, unit_one_text, char_one_text, text_one_text, short_one_text};
+ghost use Rattle.wincode.specs.OneTextLaws.{pair_one_text, array_one_text, list_one_text, option_one_text, result_one_text, held_one_text, form_one_text, lent_one_text};
+
+use crate::containers::{self, Pod};
+use crate::io::{Borrowed, Lending, SliceView, View, ZeroCopy};
+use crate::len::{SeqLen, ShortU16};
+use crate::markers::OneText;
+use std::collections::{LinkedList, VecDeque};
+use std::marker::PhantomData;
+use std::rc::Rc;
+
+impl<L: Lending> OneText<L> for u8 {
+    ghost one_text = { number_one_text 1 true };
+}
+
+impl<L: Lending> OneText<L> for u16 {
+    ghost one_text = { number_one_text 2 true };
+}
+
+impl<L: Lending> OneText<L> for u32 {
+    ghost one_text = { number_one_text 4 true };
+}
+
+impl<L: Lending> OneText<L> for u64 {
+    ghost one_text = { number_one_text 8 true };
+}
+
+impl<L: Lending> OneText<L> for u128 {
+    ghost one_text = { number_one_text 16 true };
+}
+
+impl<L: Lending> OneText<L> for usize {
+    ghost one_text = { number_one_text 8 false };
+}
+
+impl<L: Lending> OneText<L> for i8 {
+    ghost one_text = { signed_one_text w8 true };
+}
+
+impl<L: Lending> OneText<L> for i16 {
+    ghost one_text = { signed_one_text w16 true };
+}
+
+impl<L: Lending> OneText<L> for i32 {
+    ghost one_text = { signed_one_text w32 true };
+}
+
+impl<L: Lending> OneText<L> for i64 {
+    ghost one_text = { signed_one_text w64 true };
+}
+
+impl<L: Lending> OneText<L> for i128 {
+    ghost one_text = { signed_one_text w128 true };
+}
+
+impl<L: Lending> OneText<L> for isize {
+    ghost one_text = { signed_one_text w64 false };
+}
+
+impl<L: Lending> OneText<L> for bool {
+    ghost one_text = { bool_one_text };
+}
+
+impl<L: Lending> OneText<L> for char {
+    ghost one_text = { char_one_text };
+}
+
+impl<L: Lending> OneText<L> for () {
+    ghost one_text = { unit_one_text };
+}
+
+impl<L: Lending, T> OneText<L> for PhantomData<T> {
+    ghost one_text = { unit_one_text };
+}
+
+impl<L: Lending> OneText<L> for String {
+    ghost one_text = { text_one_text 24 0 false };
+}
+
+impl<'s, L: Lending> OneText<L> for &'s str {
+    ghost one_text = { text_one_text 16 1 true };
+}
+
+impl<L: Lending> OneText<L> for ShortU16 {
+    ghost one_text = { short_one_text };
+}
+
+impl<L: Lending, T: OneText<L>> OneText<L> for Option<T> {
+    ghost one_text = { option_one_text T.one_text };
+}
+
+impl<L: Lending, T: OneText<L>, E: OneText<L>> OneText<L> for Result<T, E> {
+    ghost one_text = { result_one_text T.one_text E.one_text };
+}
+
+impl<L: Lending, T: OneText<L>> OneText<L> for Box<T> {
+    ghost one_text = { held_one_text T.one_text };
+}
+
+impl<L: Lending, T: OneText<L>> OneText<L> for Rc<T> {
+    ghost one_text = { held_one_text T.one_text };
+}
+
+impl<L: Lending, T: OneText<L>> OneText<L> for Vec<T> {
+    ghost one_text = { list_one_text (bincode 4194304) 24 T.one_text };
+}
+
+impl<L: Lending, T: OneText<L>> OneText<L> for VecDeque<T> {
+    ghost one_text = { list_one_text (bincode 4194304) 24 T.one_text };
+}
+
+impl<L: Lending, T: OneText<L>> OneText<L> for LinkedList<T> {
+    ghost one_text = { list_one_text (bincode 4194304) 24 T.one_text };
+}
+
+impl<L: Lending, T: OneText<L>, Len: SeqLen> OneText<L> for containers::Vec<T, Len> {
+    ghost one_text = { list_one_text Len.scheme 24 T.one_text };
+}
+
+impl<L: Lending, T: OneText<L>, Len: SeqLen> OneText<L> for containers::VecDeque<T, Len> {
+    ghost one_text = { list_one_text Len.scheme 24 T.one_text };
+}
+
+impl<L: Lending, T: OneText<L>, Len: SeqLen> OneText<L> for containers::BoxedSlice<T, Len> {
+    ghost one_text = { list_one_text Len.scheme 16 T.one_text };
+}
+
+impl<L: Lending, T: OneText<L>, Len: SeqLen> OneText<L> for containers::RcSlice<T, Len> {
+    ghost one_text = { list_one_text Len.scheme 16 T.one_text };
+}
+
+impl<L: Lending, T: OneText<L>> OneText<L> for containers::Elem<T> {
+    ghost one_text = { T.one_text };
+}
+
+impl<L: Lending, T: OneText<L>, const N: usize> OneText<L> for [T; N] {
+    ghost one_text = { array_one_text N T.one_text };
+}
+
+impl<L: Lending, A: OneText<L>, B: OneText<L>> OneText<L> for (A, B) {
+    ghost one_text = { pair_one_text A.one_text B.one_text };
+}
+
+impl<L: Lending, A: OneText<L>, B: OneText<L>, C: OneText<L>> OneText<L> for (A, B, C) {
+    ghost one_text = { pair_one_text A.one_text (pair_one_text B.one_text C.one_text) };
+}
+
+impl<L: Lending, A: OneText<L>, B: OneText<L>, C: OneText<L>, D: OneText<L>> OneText<L>
+    for (A, B, C, D) {
+    ghost one_text = { pair_one_text A.one_text (pair_one_text B.one_text (pair_one_text C.one_text D.one_text)) };
+}
+
+impl<L: Lending, A: OneText<L>, B: OneText<L>, C: OneText<L>, D: OneText<L>, E: OneText<L>> OneText<
+    L,
+> for (A, B, C, D, E) {
+    ghost one_text = { pair_one_text A.one_text (pair_one_text B.one_text (pair_one_text C.one_text (pair_one_text D.one_text E.one_text))) };
+}
+
+impl<
+    L: Lending,
+    A: OneText<L>,
+    B: OneText<L>,
+    C: OneText<L>,
+    D: OneText<L>,
+    E: OneText<L>,
+    F: OneText<L>,
+> OneText<L> for (A, B, C, D, E, F) {
+    ghost one_text = { pair_one_text A.one_text (pair_one_text B.one_text (pair_one_text C.one_text (pair_one_text D.one_text (pair_one_text E.one_text F.one_text)))) };
+}
+
+impl<
+    L: Lending,
+    A: OneText<L>,
+    B: OneText<L>,
+    C: OneText<L>,
+    D: OneText<L>,
+    E: OneText<L>,
+    F: OneText<L>,
+    G: OneText<L>,
+> OneText<L> for (A, B, C, D, E, F, G) {
+    ghost one_text = { pair_one_text A.one_text (pair_one_text B.one_text (pair_one_text C.one_text (pair_one_text D.one_text (pair_one_text E.one_text
+        (pair_one_text F.one_text G.one_text))))) };
+}
+
+impl<
+    L: Lending,
+    A: OneText<L>,
+    B: OneText<L>,
+    C: OneText<L>,
+    D: OneText<L>,
+    E: OneText<L>,
+    F: OneText<L>,
+    G: OneText<L>,
+    H: OneText<L>,
+> OneText<L> for (A, B, C, D, E, F, G, H) {
+    ghost one_text = { pair_one_text A.one_text (pair_one_text B.one_text (pair_one_text C.one_text (pair_one_text D.one_text (pair_one_text E.one_text
+        (pair_one_text F.one_text (pair_one_text G.one_text H.one_text)))))) };
+}
+
+impl<
+    L: Lending,
+    A: OneText<L>,
+    B: OneText<L>,
+    C: OneText<L>,
+    D: OneText<L>,
+    E: OneText<L>,
+    F: OneText<L>,
+    G: OneText<L>,
+    H: OneText<L>,
+    I: OneText<L>,
+> OneText<L> for (A, B, C, D, E, F, G, H, I) {
+    ghost one_text = { pair_one_text A.one_text (pair_one_text B.one_text (pair_one_text C.one_text (pair_one_text D.one_text (pair_one_text E.one_text
+        (pair_one_text F.one_text (pair_one_text G.one_text (pair_one_text H.one_text I.one_text))))))) };
+}
+
+impl<
+    L: Lending,
+    A: OneText<L>,
+    B: OneText<L>,
+    C: OneText<L>,
+    D: OneText<L>,
+    E: OneText<L>,
+    F: OneText<L>,
+    G: OneText<L>,
+    H: OneText<L>,
+    I: OneText<L>,
+    J: OneText<L>,
+> OneText<L> for (A, B, C, D, E, F, G, H, I, J) {
+    ghost one_text = { pair_one_text A.one_text (pair_one_text B.one_text (pair_one_text C.one_text (pair_one_text D.one_text (pair_one_text E.one_text
+        (pair_one_text F.one_text (pair_one_text G.one_text (pair_one_text H.one_text (pair_one_text I.one_text J.one_text)))))))) };
+}
+
+impl<
+    L: Lending,
+    A: OneText<L>,
+    B: OneText<L>,
+    C: OneText<L>,
+    D: OneText<L>,
+    E: OneText<L>,
+    F: OneText<L>,
+    G: OneText<L>,
+    H: OneText<L>,
+    I: OneText<L>,
+    J: OneText<L>,
+    K: OneText<L>,
+> OneText<L> for (A, B, C, D, E, F, G, H, I, J, K) {
+    ghost one_text = { pair_one_text A.one_text (pair_one_text B.one_text (pair_one_text C.one_text (pair_one_text D.one_text (pair_one_text E.one_text
+        (pair_one_text F.one_text (pair_one_text G.one_text (pair_one_text H.one_text (pair_one_text I.one_text (pair_one_text J.one_text K.one_text))))))))) };
+}
+
+impl<
+    L: Lending,
+    A: OneText<L>,
+    B: OneText<L>,
+    C: OneText<L>,
+    D: OneText<L>,
+    E: OneText<L>,
+    F: OneText<L>,
+    G: OneText<L>,
+    H: OneText<L>,
+    I: OneText<L>,
+    J: OneText<L>,
+    K: OneText<L>,
+    M: OneText<L>,
+> OneText<L> for (A, B, C, D, E, F, G, H, I, J, K, M) {
+    ghost one_text = { pair_one_text A.one_text (pair_one_text B.one_text (pair_one_text C.one_text (pair_one_text D.one_text (pair_one_text E.one_text
+        (pair_one_text F.one_text (pair_one_text G.one_text (pair_one_text H.one_text (pair_one_text I.one_text (pair_one_text J.one_text (pair_one_text K.one_text M.one_text)))))))))) };
+}
+
+impl<L: Lending, T: ZeroCopy> OneText<L> for Pod<T> {
+    ghost one_text = { form_one_text T.proper T.size T.form true (form_prealloc T.size) 0 };
+}
+
+impl<L: Lending, B: Borrowed<L>, T: ZeroCopy> OneText<L> for View<B, T> {
+    ghost one_text = { form_one_text T.proper T.size T.form false 8 B.asks };
+}
+
+impl<L: Lending, B: Borrowed<L>, T: ZeroCopy> OneText<L> for SliceView<B, T> {
+    ghost one_text = { lent_one_text B.asks (form_one_text T.proper T.size T.form true (max T.size 1) 0) };
+}
+
+impl<'s, L: Lending> OneText<L> for &'s [u8] {
+    ghost one_text = { lent_one_text shared (number_one_text 1 true) };
+}
+
+impl<'s, L: Lending> OneText<L> for &'s mut [u8] {
+    ghost one_text = { lent_one_text for_writing (number_one_text 1 true) };
+}

@@ -1,0 +1,125 @@
+//! The calls that most programs make, as methods of every schema.
+ghost use Rattle.std.specs.Prelude.{◌≡◌, IfOk, IfErr, OnOk, OnErr};
+ghost use Rattle.wincode.specs.Outcomes.{Gives, Puts, Refuses, IsUnread, IsSized, Wrote, IsSizeRefused, IsSerialized, IsUnserialized, IsUnended};
+ghost use Rattle.wincode.specs.Serde.{IsInFront, HoldsFront};
+
+use crate::error::{ReadResult, WriteError, WriteResult};
+use crate::io::{Input, Lending, Reader, WriteWindow, Writer};
+use crate::markers::SchemaReadOwned;
+use crate::schema::{SchemaGet, SchemaRead, SchemaWrite};
+use std::alloc::Global;
+
+/// A value to bytes, for every schema that writes.
+pub trait Serialize: SchemaWrite {
+    /// The bytes of the value, exactly those of one of its texts. It is refused as `size_of` refuses, or
+    /// as `OutOfMemory` where the one growth for them is refused.
+    fn serialize(alloc: Global, src: &Self::Src) -> WriteResult<Vec<u8>>
+        ensures ok { IfOk result (λ v. IsSerialized Self.SchemaWrite.writing (Self.SchemaWrite.seen src.now) v.items) }
+        ensures value { OnOk result (Self.SchemaWrite.proper src.now) }
+        ensures err { IfErr result (IsUnserialized Self.SchemaWrite.writing (Self.SchemaWrite.seen src.now)) };
+
+    /// Writes the value, and then ends the piece of writing by `finish`. Where the schema writes in one
+    /// piece, a refusal has added nothing.
+    fn serialize_into<W: Writer>(writer: &mut W, src: &Self::Src) -> WriteResult<()>
+        ensures ok { OnOk result (Wrote Self.SchemaWrite.writing (W.state writer.old) (W.state writer.new) (Self.SchemaWrite.seen src.now)) }
+        ensures value { OnOk result (Self.SchemaWrite.proper src.now) }
+        ensures err { IfErr result (IsUnended W.buffers Self.SchemaWrite.writing Self.SchemaWrite.in_one_piece (W.state writer.old) (W.state writer.new) (Self.SchemaWrite.seen src.now)) };
+
+    /// The length, in bytes, of the value's texts.
+    fn serialized_size(src: &Self::Src) -> WriteResult<u64>
+        ensures ok { IfOk result (IsSized Self.SchemaWrite.writing (Self.SchemaWrite.seen src.now)) }
+        ensures err { IfErr result (IsSizeRefused Self.SchemaWrite.writing (Self.SchemaWrite.seen src.now)) };
+}
+
+impl<T: SchemaWrite> Serialize for T {
+    fn serialize(alloc: Global, src: &T::Src) -> WriteResult<Vec<u8>> {
+        let size = T::size_of(src)?;
+        let mut bytes = match Vec::with_capacity(alloc, size) {
+            Ok(bytes) => bytes,
+            Err(_) => return Err(WriteError::OutOfMemory),
+        };
+        let mut window = WriteWindow::new(&mut bytes, size);
+        T::write(&mut window, src)?;
+        Ok(bytes)
+    }
+
+    fn serialize_into<W: Writer>(writer: &mut W, src: &T::Src) -> WriteResult<()> {
+        T::write(writer, src)?;
+        writer.finish()?;
+        Ok(())
+    }
+
+    fn serialized_size(src: &T::Src) -> WriteResult<u64> {
+        Ok(T::size_of(src)? as u64)
+    }
+}
+
+/// A value from bytes, for every schema that reads. What follows the value is never looked at.
+pub trait Deserialize<L: Lending>: SchemaRead<L> {
+    /// The value at the front of the bytes. It is refused as `read` of a reader of the bytes is.
+    fn deserialize<I: Input<Lends = L>>(alloc: Global, bytes: I) -> ReadResult<Self::Dst>
+        ensures ok { IfOk result (λ v. IsInFront Self.SchemaRead.reading.reads (I.begins bytes) (Self.SchemaRead.seen v)) }
+        ensures err { IfErr result (IsUnread Self.SchemaRead.reading Self.SchemaRead.refusal (I.begins bytes)) };
+
+    /// As `deserialize`, and puts the value into the destination. Refused, the destination is as it was.
+    fn deserialize_into<I: Input<Lends = L>>(
+        alloc: Global,
+        bytes: I,
+        dst: &mut Option<Self::Dst>,
+    ) -> ReadResult<()>
+        ensures ok { OnOk result (HoldsFront Self.SchemaRead.reading.reads Self.SchemaRead.seen (I.begins bytes) dst.new) }
+        ensures err { IfErr result (IsUnread Self.SchemaRead.reading Self.SchemaRead.refusal (I.begins bytes)) }
+        ensures same { OnErr result (dst.new ≡ dst.old) };
+}
+
+impl<L: Lending, T: SchemaRead<L>> Deserialize<L> for T {
+    fn deserialize<I: Input<Lends = L>>(alloc: Global, bytes: I) -> ReadResult<T::Dst> {
+        let mut reader = bytes.reader();
+        T::get(alloc, &mut reader)
+    }
+
+    fn deserialize_into<I: Input<Lends = L>>(
+        alloc: Global,
+        bytes: I,
+        dst: &mut Option<T::Dst>,
+    ) -> ReadResult<()> {
+        let mut reader = bytes.reader();
+        T::read(alloc, &mut reader, dst)
+    }
+}
+
+/// A value from a reader, for every schema that asks for no borrow.
+pub trait DeserializeOwned<L: Lending>: SchemaReadOwned<L> {
+    /// The value in front of what the reader has, of which exactly the rest is left. It is refused as
+    /// `get` is, and never for a borrow.
+    fn deserialize_from<R: Reader<L>>(alloc: Global, reader: &mut R) -> ReadResult<Self::Dst>
+        ensures ok { IfOk result (λ v. Gives Self.SchemaRead.reading.reads (R.state reader.old) (R.state reader.new) (Self.SchemaRead.seen v)) }
+        ensures err { IfErr result (Refuses Self.SchemaRead.reading.reads 0 Self.SchemaRead.reading.sparing (R.state reader.old) (R.state reader.new)) }
+        ensures refused { IfErr result (Self.SchemaRead.refusal (R.state reader.old) (R.state reader.new)) };
+
+    /// As `deserialize_from`, and puts the value into the destination. Refused, the destination is as it
+    /// was.
+    fn deserialize_from_into<R: Reader<L>>(
+        alloc: Global,
+        reader: &mut R,
+        dst: &mut Option<Self::Dst>,
+    ) -> ReadResult<()>
+        ensures ok { OnOk result (Puts Self.SchemaRead.reading.reads Self.SchemaRead.seen (R.state reader.old) (R.state reader.new) dst.new) }
+        ensures err { IfErr result (Refuses Self.SchemaRead.reading.reads 0 Self.SchemaRead.reading.sparing (R.state reader.old) (R.state reader.new)) }
+        ensures refused { IfErr result (Self.SchemaRead.refusal (R.state reader.old) (R.state reader.new)) }
+        ensures same { OnErr result (dst.new ≡ dst.old) };
+}
+
+impl<L: Lending, T: SchemaReadOwned<L>> DeserializeOwned<L> for T {
+    fn deserialize_from<R: Reader<L>>(alloc: Global, reader: &mut R) -> ReadResult<T::Dst> {
+        T::get(alloc, reader)
+    }
+
+    fn deserialize_from_into<R: Reader<L>>(
+        alloc: Global,
+        reader: &mut R,
+        dst: &mut Option<T::Dst>,
+    ) -> ReadResult<()> {
+        T::read(alloc, reader, dst)
+    }
+}

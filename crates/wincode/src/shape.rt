@@ -1,0 +1,126 @@
+//! Types of a user's own that are written and read as another, a tuple say, without a grammar or a law of
+//! their own.
+ghost use Rattle.std.specs.Prelude.{◌≡◌, IfOk, IfErr, OnOk};
+ghost use Rattle.wincode.specs.Outcomes.{IsSized, IsSizeRefused, Wrote, Unwritten, IsPieceRefused};
+ghost use Rattle.wincode.specs.PairLaws.{write_laws_by, reads_back_by};
+
+use crate::error::{ReadResult, WriteResult};
+use crate::io::{Lending, Reader, Writer};
+use crate::markers::{OneText, SchemaReadOwned};
+use crate::meta::TypeMeta;
+use crate::schema::{RoundTrip, SchemaGet, SchemaRead, SchemaWrite};
+use std::alloc::Global;
+use std::marker::PhantomData;
+
+/// What is written and read as its parts, by the schema `As` of these. A struct says what its parts are, in
+/// order, how it is made of them, and sizes and writes them by `size_of_members_N` and `write_members_N`.
+pub trait Shape: Drop {
+    type Parts: Drop;
+
+    type As: SchemaWrite<Src = Self::Parts>;
+
+    // Its parts.
+    ghost parts: { Self → Self.Parts };
+
+    /// The value that these are the parts of.
+    fn make(made_of: Self::Parts) -> Self
+        ensures { parts result ≡ made_of };
+
+    /// The size of its parts, as `As` has it.
+    fn parts_size(&self) -> WriteResult<usize>
+        ensures ok { IfOk result (IsSized Self.As.SchemaWrite.writing (Self.As.SchemaWrite.seen (parts self.now))) }
+        ensures err { IfErr result (IsSizeRefused Self.As.SchemaWrite.writing (Self.As.SchemaWrite.seen (parts self.now))) };
+
+    /// Writes its parts, as `As` does.
+    fn write_parts<W: Writer>(&self, writer: &mut W) -> WriteResult<()>
+        ensures ok { OnOk result (Wrote Self.As.SchemaWrite.writing (W.state writer.old) (W.state writer.new) (Self.As.SchemaWrite.seen (parts self.now))) }
+        ensures value { OnOk result (Self.As.SchemaWrite.proper (parts self.now)) }
+        ensures err { IfErr result (Unwritten Self.As.SchemaWrite.writing (W.state writer.old) (W.state writer.new) (Self.As.SchemaWrite.seen (parts self.now))) }
+        ensures piece { IfErr result
+            (IsPieceRefused Self.As.SchemaWrite.in_one_piece Self.As.SchemaWrite.writing (W.state writer.old) (W.state writer.new) (Self.As.SchemaWrite.seen (parts self.now))) };
+}
+
+/// The schema of a type that has a shape: that of its parts.
+pub struct By<T>(PhantomData<T>);
+
+impl<T: Shape> SchemaWrite for By<T> {
+    type Src = T;
+
+    ghost Value = { T.As.SchemaWrite.Value };
+
+    ghost seen = { λ x. T.As.SchemaWrite.seen (T.parts x) };
+
+    ghost proper = { λ x. T.As.SchemaWrite.proper (T.parts x) };
+
+    ghost writing = { T.As.SchemaWrite.writing };
+
+    ghost in_one_piece = { T.As.SchemaWrite.in_one_piece };
+
+    fn type_meta() -> TypeMeta {
+        <T::As as SchemaWrite>::type_meta()
+    }
+
+    fn size_of(src: &T) -> WriteResult<usize> {
+        src.parts_size()
+    }
+
+    fn write<W: Writer>(writer: &mut W, src: &T) -> WriteResult<()> {
+        src.write_parts::<W>(writer)
+    }
+
+    ghost write_laws = { write_laws_by T.parts T.As.SchemaWrite.write_laws };
+}
+
+impl<L: Lending, T: Shape> SchemaRead<L> for By<T>
+where
+    T::As: SchemaRead<L, Dst = T::Parts>,
+{
+    type Dst = T;
+
+    ghost Value = { T.As.SchemaRead.Value };
+
+    ghost seen = { λ x. T.As.SchemaRead.seen (T.parts x) };
+
+    ghost proper = { T.As.SchemaRead.proper };
+
+    ghost reading = { T.As.SchemaRead.reading };
+
+    ghost refusal = { T.As.SchemaRead.refusal };
+
+    fn type_meta() -> TypeMeta {
+        <T::As as SchemaRead<L>>::type_meta()
+    }
+
+    fn prealloc_size() -> usize {
+        <T::As as SchemaRead<L>>::prealloc_size()
+    }
+
+    fn read<R: Reader<L>>(alloc: Global, reader: &mut R, dst: &mut Option<T>) -> ReadResult<()> {
+        let parts = <T::As as SchemaGet<L>>::get(alloc, reader)?;
+        *dst = Some(T::make(parts));
+        Ok(())
+    }
+
+    ghost read_laws = { T.As.SchemaRead.read_laws };
+}
+
+impl<L: Lending, T: Shape> RoundTrip<L> for By<T>
+where
+    T::As: RoundTrip<L>,
+{
+    ghost reads_back = { reads_back_by T.parts T.As.reads_back };
+}
+
+impl<L: Lending, T: Shape> OneText<L> for By<T>
+where
+    T::As: SchemaRead<L, Dst = T::Parts> + OneText<L>,
+{
+    ghost one_text = { T.As.one_text };
+}
+
+impl<L: Lending, T: Shape> SchemaReadOwned<L> for By<T>
+where
+    T::As: SchemaRead<L, Dst = T::Parts> + SchemaReadOwned<L>,
+{
+    ghost owned = { T.As.owned };
+}
