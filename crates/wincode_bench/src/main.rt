@@ -13,11 +13,19 @@ use std::rt::{Clock, Env};
 use std::time::Instant;
 use thiserror::Error;
 use wincode::io::Lifetime;
-use wincode::{SchemaGet, SchemaRead, SchemaWrite, deserialize, serialize};
+use wincode::len::BincodeLen;
+use wincode::serde::Serialize;
+use wincode::{SchemaGet, SchemaRead, SchemaWrite, containers, serialize};
 
 const RUNS: u32 = 20;
 
 const NUMBERS: u64 = 500_000;
+
+/// Lists of so many numbers show that the time grows with the bytes.
+const MANY_NUMBERS: [u64; 4] = [1_000_000, 2_000_000, 4_000_000, 8_000_000];
+
+/// A list of numbers with a limit that holds these.
+type LongList = containers::Vec<u64, BincodeLen<100_000_000>>;
 
 const BYTES: usize = 4_000_000;
 
@@ -160,33 +168,35 @@ impl Look for HashMap<u64, u64> {
     }
 }
 
-/// Reads a value, and looks at it.
+/// Reads a value by the schema `S`, and looks at it.
 #[derive(Drop)]
-struct Reading<'a, T> {
+struct Reading<'a, S> {
     bytes: &'a [u8],
     due: u64,
-    of: PhantomData<T>,
+    of: PhantomData<S>,
 }
 
-impl<'a, T: Look + SchemaRead<Lifetime<'a>, Dst = T>> Work for Reading<'a, T> {
+impl<'a, T: Look, S: SchemaRead<Lifetime<'a>, Dst = T>> Work for Reading<'a, S> {
     fn run(&self, alloc: Global) -> Result<(), Failure> {
-        match deserialize::<&'a [u8], T>(alloc, self.bytes) {
+        let mut reader = self.bytes;
+        match <S as SchemaGet<Lifetime<'a>>>::get(alloc, &mut reader) {
             Ok(value) if value.look() == self.due => Ok(()),
             _ => Err(Failure::Read),
         }
     }
 }
 
-/// Writes a value, and looks at its text.
+/// Writes a value by the schema `S`, and looks at its text.
 #[derive(Drop)]
-struct Writing<'a, T> {
+struct Writing<'a, T, S> {
     value: &'a T,
     text: &'a [u8],
+    of: PhantomData<S>,
 }
 
-impl<'a, T: SchemaWrite<Src = T>> Work for Writing<'a, T> {
+impl<'a, T, S: SchemaWrite<Src = T>> Work for Writing<'a, T, S> {
     fn run(&self, alloc: Global) -> Result<(), Failure> {
-        match serialize(alloc, self.value) {
+        match <S as Serialize>::serialize(alloc, self.value) {
             Ok(bytes) if bytes.last() == self.text.last() => Ok(()),
             _ => Err(Failure::Write),
         }
@@ -283,8 +293,8 @@ fn print_row(
     ).map_err(|_| Failure::Print)
 }
 
-/// Times a value's reading and writing beside a copy of its text.
-fn time_value<'a, T: Look + SchemaWrite<Src = T> + SchemaRead<Lifetime<'a>, Dst = T>>(
+/// Times a value's reading and writing by the schema `S` beside a copy of its text.
+fn time_value<'a, T: Look, S: SchemaWrite<Src = T> + SchemaRead<Lifetime<'a>, Dst = T>>(
     rt: &(impl Clock + Print + AllocGlobal),
     name: &str,
     value: &'a T,
@@ -293,20 +303,44 @@ fn time_value<'a, T: Look + SchemaWrite<Src = T> + SchemaRead<Lifetime<'a>, Dst 
     let alloc = rt.alloc();
     let copy = least(rt, alloc, &Copy(text))?;
     print_row(rt, name, "copied", copy, copy)?;
-    let reading = Reading::<T> {
+    let reading = Reading::<S> {
         bytes: text,
         due: value.look(),
         of: PhantomData,
     };
     print_row(rt, name, "read", least(rt, alloc, &reading)?, copy)?;
-    let writing = Writing { value, text };
+    let writing = Writing::<T, S> {
+        value,
+        text,
+        of: PhantomData,
+    };
     print_row(rt, name, "written", least(rt, alloc, &writing)?, copy)
 }
 
 fn time_numbers(rt: &(impl Clock + Print + AllocGlobal)) -> Result<(), Failure> {
     let list = numbers(rt.alloc(), NUMBERS)?;
     let text = serialize(rt.alloc(), &list).map_err(|_| Failure::Write)?;
-    time_value(rt, "numbers", &list, text.as_slice())
+    time_value::<Vec<u64>, Vec<u64>>(rt, "numbers", &list, text.as_slice())
+}
+
+fn time_many_numbers(rt: &(impl Clock + Print + AllocGlobal)) -> Result<(), Failure> {
+    for n in MANY_NUMBERS {
+        let list = numbers(rt.alloc(), n)?;
+        let text = serialize(rt.alloc(), &list).map_err(|_| Failure::Write)?;
+        time_value::<Vec<u64>, LongList>(rt, "a million numbers and more", &list, text.as_slice())?;
+    }
+    Ok(())
+}
+
+fn time_text(rt: &(impl Clock + Print + AllocGlobal)) -> Result<(), Failure> {
+    let mut value = String::new(rt.alloc());
+    for _i in 0..BYTES / 20 {
+        if value.push_str("twenty bytes of text").is_err() {
+            return Err(Failure::OutOfMemory);
+        }
+    }
+    let text = serialize(rt.alloc(), &value).map_err(|_| Failure::Write)?;
+    time_value::<String, String>(rt, "one text", &value, text.as_slice())
 }
 
 fn time_bytes(rt: &(impl Clock + Print + AllocGlobal)) -> Result<(), Failure> {
@@ -314,19 +348,19 @@ fn time_bytes(rt: &(impl Clock + Print + AllocGlobal)) -> Result<(), Failure> {
         return Err(Failure::OutOfMemory);
     };
     let text = serialize(rt.alloc(), &list).map_err(|_| Failure::Write)?;
-    time_value(rt, "bytes", &list, text.as_slice())
+    time_value::<Vec<u8>, Vec<u8>>(rt, "bytes", &list, text.as_slice())
 }
 
 fn time_lists(rt: &(impl Clock + Print + AllocGlobal)) -> Result<(), Failure> {
     let lists = square(rt.alloc(), SIDE)?;
     let text = serialize(rt.alloc(), &lists).map_err(|_| Failure::Write)?;
-    time_value(rt, "lists of numbers", &lists, text.as_slice())
+    time_value::<Vec<Vec<u64>>, Vec<Vec<u64>>>(rt, "lists of numbers", &lists, text.as_slice())
 }
 
 fn time_texts(rt: &(impl Clock + Print + AllocGlobal)) -> Result<(), Failure> {
     let list = texts(rt.alloc())?;
     let text = serialize(rt.alloc(), &list).map_err(|_| Failure::Write)?;
-    time_value(rt, "texts", &list, text.as_slice())
+    time_value::<Vec<String>, Vec<String>>(rt, "texts", &list, text.as_slice())
 }
 
 fn time_maps(rt: &(impl Clock + Print + AllocGlobal)) -> Result<(), Failure> {
@@ -338,9 +372,14 @@ fn time_maps(rt: &(impl Clock + Print + AllocGlobal)) -> Result<(), Failure> {
         }
     }
     let text = serialize(rt.alloc(), &ordered).map_err(|_| Failure::Write)?;
-    time_value(rt, "sorted pairs", &ordered, text.as_slice())?;
+    time_value::<BTreeMap<u64, u64>, BTreeMap<u64, u64>>(
+        rt,
+        "sorted pairs",
+        &ordered,
+        text.as_slice(),
+    )?;
     let text = serialize(rt.alloc(), &hashed).map_err(|_| Failure::Write)?;
-    time_value(rt, "hashed pairs", &hashed, text.as_slice())
+    time_value::<HashMap<u64, u64>, HashMap<u64, u64>>(rt, "hashed pairs", &hashed, text.as_slice())
 }
 
 fn time_record_list(rt: &(impl Clock + Print + AllocGlobal)) -> Result<(), Failure> {
@@ -348,7 +387,7 @@ fn time_record_list(rt: &(impl Clock + Print + AllocGlobal)) -> Result<(), Failu
         return Err(Failure::OutOfMemory);
     };
     let text = serialize(rt.alloc(), &list).map_err(|_| Failure::Write)?;
-    time_value(rt, "records in a list", &list, text.as_slice())
+    time_value::<Vec<Record>, Vec<Record>>(rt, "records in a list", &list, text.as_slice())
 }
 
 fn time_records(rt: &(impl Clock + Print + AllocGlobal)) -> Result<(), Failure> {
@@ -384,7 +423,9 @@ fn is_timed(rt: &(impl Env + AllocGlobal)) -> bool {
 fn main(rt: HostRuntime) -> Result<(), Failure> {
     if is_timed(&rt) {
         time_numbers(&rt)?;
+        time_many_numbers(&rt)?;
         time_bytes(&rt)?;
+        time_text(&rt)?;
         time_lists(&rt)?;
         time_texts(&rt)?;
         time_maps(&rt)?;

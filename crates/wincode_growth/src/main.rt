@@ -13,13 +13,7 @@ use std::alloc::Global;
 fn all(alloc: Global) -> Result<Ending, Unlike> {
     let reading = cases::reading::all(alloc)?;
     let writing = cases::writing::all(alloc)?;
-    let recoding = cases::recodes(alloc)?;
-    Ok(
-        reading
-            .and(writing)
-            .and(recoding)
-            .and(cases::relays(alloc)?),
-    )
+    Ok(reading.and(writing))
 }
 
 fn main(rt: HostRuntime) -> Result<(), Unlike> {

@@ -1,12 +1,13 @@
 //! A struct of the repository's own, with its schema by hand, and a call for every schema that reads
 //! what it writes.
-ghost use Rattle.std.specs.Prelude.{◌<◌, ◌^◌, true, IfOk, IfErr, IsTrue};
+ghost use Rattle.std.specs.Prelude.{◌<◌, ◌^◌, true, IfOk, IfErr, IsTrue, refl};
 ghost use Rattle.std.proofs.Common.{lit≤};
 ghost use Rattle.wincode.specs.Lengths.{bincode};
 ghost use Rattle.wincode.specs.LengthLaws.{bincode_laws};
 ghost use Rattle.wincode.specs.Leaves.{number_read, number_write};
 ghost use Rattle.wincode.specs.LeafLaws.{number_read_laws, number_write_laws, number_reads_back};
 ghost use Rattle.wincode.specs.ListLaws.{list_read_laws, list_write_laws, list_reads_back};
+ghost use Rattle.wincode.specs.OneTextLaws.{number_one_text, list_one_text, pair_one_text};
 ghost use Rattle.wincode.specs.PairLaws.{pair_read_laws, pair_write_laws, pair_reads_back, write_laws_by, reads_back_by};
 ghost use Rattle.wincode_show.specs.Rewriting.{Rewritten, IsNotRewritten};
 
@@ -14,7 +15,8 @@ use std::alloc::Global;
 use wincode::io::{Lending, Reader, Writer};
 use wincode::schema::tuples::{size_of_members_2, write_members_2};
 use wincode::{
-    ReadResult, Result, RoundTrip, SchemaGet, SchemaRead, SchemaWrite, TypeMeta, WriteResult,
+    OneText, ReadResult, Result, RoundTrip, SchemaGet, SchemaRead, SchemaReadOwned, SchemaWrite,
+    TypeMeta, WriteResult,
 };
 
 /// A number with tags.
@@ -95,6 +97,14 @@ impl<L: Lending> SchemaRead<L> for Entry {
 impl<L: Lending> RoundTrip<L> for Entry {
     ghost reads_back = { reads_back_by (λ e. (e.id, e.tags)) (pair_reads_back (number_reads_back 8 true)
         (list_reads_back (bincode 4194304) (bincode_laws 4194304) 24 (λ t. t.items) (λ n. n < 256 ^ 1) (λ n. n) (number_write 1 true) (λ n. n) (number_read 1 true) (number_reads_back 1 true))) };
+}
+
+impl<L: Lending> OneText<L> for Entry {
+    ghost one_text = { pair_one_text (number_one_text 8 true) (list_one_text (bincode 4194304) 24 (number_one_text 1 true)) };
+}
+
+impl<L: Lending> SchemaReadOwned<L> for Entry {
+    ghost owned = { refl };
 }
 
 /// Reads a value from the front of what the reader has, and gives a text of it: what is written reads

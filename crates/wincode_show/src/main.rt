@@ -1,21 +1,33 @@
-//! `wincode_show SHAPE`: reads a value from standard input and writes it again to standard output.
+//! `wincode_show SHAPE`: reads a value from standard input and writes it again to standard output;
+//! `wincode_show explain SHAPE`: writes its parts, a line each.
 #![tactic(auto)]
 
 mod byte_len;
+mod copying;
 #[cfg(test)]
 mod endless;
 mod entry;
+mod event;
+mod explaining;
+mod message;
+mod recoding;
 #[cfg(test)]
 mod refusing;
+mod relaying;
+#[cfg(test)]
+mod single;
 mod square;
 #[cfg(test)]
 mod tests;
+mod transfer;
 
+use explaining::explain;
+use recoding::RelayError;
+use relaying::relay;
 use std::io::ErrorKind;
 use std::process::ExitCode;
 use std::rt::Env;
 use std::{env, io};
-use wincode::show::{RelayError, relay};
 
 /// Why the arguments aren't known: no memory for them, or one that is no text.
 fn unread(error: io::Error) -> RelayError {
@@ -25,18 +37,29 @@ fn unread(error: io::Error) -> RelayError {
     }
 }
 
-/// Recodes by the one argument that was given.
+/// Recodes by the one argument that was given, or explains by the second of two.
 fn run(rt: &(impl Env + Input + Print + AllocGlobal)) -> Result<(), RelayError> {
     let mut words = env::args(rt).map_err(unread)?.skip(1);
-    match (words.next(), words.next()) {
-        (Some(shape), None) => relay(
+    let Some(word) = words.next() else {
+        return Err(RelayError::UnknownShape);
+    };
+    let Some(shape) = words.next() else {
+        return relay(
             rt.alloc(),
-            shape.as_str(),
+            word.as_str(),
             &mut rt.reader(),
             &mut io::writer(rt),
-        ),
-        _ => Err(RelayError::UnknownShape),
+        );
+    };
+    if words.next().is_some() || word.as_str() != "explain" {
+        return Err(RelayError::UnknownShape);
     }
+    explain(
+        rt.alloc(),
+        shape.as_str(),
+        &mut rt.reader(),
+        &mut io::writer(rt),
+    )
 }
 
 /// Runs, prints why it failed, and gives the status.

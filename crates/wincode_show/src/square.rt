@@ -1,15 +1,17 @@
 //! A struct of the repository's own as the key of maps, with its schema by hand.
-ghost use Rattle.std.specs.Prelude.{true};
+ghost use Rattle.std.specs.Prelude.{true, refl};
 ghost use Rattle.std.proofs.Common.{lit≤};
 ghost use Rattle.wincode.specs.KeyLaws.{nat_alike, pair_alike};
 ghost use Rattle.wincode.specs.LeafLaws.{number_read_laws, number_write_laws, number_reads_back};
+ghost use Rattle.wincode.specs.OneTextLaws.{number_one_text, pair_one_text};
 ghost use Rattle.wincode.specs.PairLaws.{pair_read_laws, pair_write_laws, pair_reads_back, write_laws_by, reads_back_by};
 
 use std::alloc::Global;
 use wincode::io::{Lending, Reader, Writer};
 use wincode::schema::tuples::{size_of_members_2, write_members_2};
 use wincode::{
-    Key, ReadResult, RoundTrip, SchemaGet, SchemaRead, SchemaWrite, TypeMeta, WriteResult,
+    Key, OneText, ReadResult, RoundTrip, SchemaGet, SchemaRead, SchemaReadOwned, SchemaWrite,
+    TypeMeta, WriteResult,
 };
 
 /// A square of a board.
@@ -91,4 +93,12 @@ impl<L: Lending> RoundTrip<L> for Square {
 /// Squares of which the same is seen are equal: row by row, and column by column.
 impl<L: Lending> Key<L> for Square {
     ghost alike = { λ s t. pair_alike nat_alike nat_alike (s.row, s.column) (t.row, t.column) };
+}
+
+impl<L: Lending> OneText<L> for Square {
+    ghost one_text = { pair_one_text (number_one_text 1 true) (number_one_text 1 true) };
+}
+
+impl<L: Lending> SchemaReadOwned<L> for Square {
+    ghost owned = { refl };
 }

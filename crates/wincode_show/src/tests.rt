@@ -2,22 +2,30 @@
 ghost use Rattle.std.specs.Prelude.{◌<◌, IfOk};
 
 mod arrays;
+mod bulk;
 mod calls;
+mod explaining;
 mod large;
 mod leaves;
 mod lifetimes;
 mod lists;
 mod maps;
+mod messages;
+mod methods;
+mod own_schemas;
 mod parts;
 mod program;
 mod readers;
 mod relaying;
+mod shapes;
 mod short_lengths;
 mod tuples;
 mod unwritten;
 mod vectors;
+mod views;
 
 use super::entry::{Entry, rewrite};
+use super::relaying::relay;
 use arrays::array_answer;
 use lists::list_answer;
 use maps::map_answer;
@@ -27,9 +35,9 @@ use std::io::ErrorKind;
 use std::test::Fail;
 use tuples::tuple_answer;
 use vectors::VECTORS;
+use views::view_answer;
 use wincode::io::{self, Lifetime, Writer};
 use wincode::len::{BincodeLen, SeqLen};
-use wincode::show::{RelayError, relay};
 use wincode::{
     Error, ReadError, ReadResult, SchemaGet, SchemaRead, SchemaWrite, TypeMeta, WriteError,
     deserialize, error, serialize, serialize_into, serialized_size,
@@ -298,6 +306,9 @@ fn answer(alloc: Global, name: &str, bytes: &[u8]) -> Result<String, Fail> {
         return Ok(found);
     }
     if let Some(found) = map_answer(alloc, name, bytes)? {
+        return Ok(found);
+    }
+    if let Some(found) = view_answer(alloc, name, bytes)? {
         return Ok(found);
     }
     let found = other_answer(alloc, name, bytes)?;

@@ -100,7 +100,9 @@ impl Eprint for Played<'_> {
 #[test]
 fn the_program(rt: HostRuntime) -> Result<(), Fail> {
     let alloc = rt.alloc();
-    let rows: [(&[&'static str], &[u8], u8, &[u8], &str); 5] = [
+    let mut record = [0u8; 41];
+    record[8] = 2;
+    let rows: [(&[&'static str], &[u8], u8, &[u8], &str); 10] = [
         (&["show", "nested"], &NESTED, 0, &NESTED, ""),
         (
             &["show", "nested"],
@@ -109,10 +111,39 @@ fn the_program(rt: HostRuntime) -> Result<(), Fail> {
             &[],
             "Attempting to read 8 bytes\n",
         ),
+        (&["show", "short"], &[3, 1, 2, 3, 255], 0, &[3, 1, 2, 3], ""),
+        (
+            &["show", "record"],
+            &record,
+            1,
+            &[],
+            "Invalid bool encoding: 2\n",
+        ),
         (&["show", "other"], &NESTED, 2, &[], "unknown shape\n"),
         (&["show"], &NESTED, 2, &[], "unknown shape\n"),
         (
             &["show", "nested", "nested"],
+            &NESTED,
+            2,
+            &[],
+            "unknown shape\n",
+        ),
+        (
+            &["show", "explain", "short"],
+            &[1, 7, 255],
+            0,
+            b"0: 01 length 1\n1: 07 item 7\n",
+            "",
+        ),
+        (
+            &["show", "explain", "nested"],
+            &[],
+            1,
+            b"0: refused: Attempting to read 8 bytes\n",
+            "Attempting to read 8 bytes\n",
+        ),
+        (
+            &["show", "explain", "nested", "nested"],
             &NESTED,
             2,
             &[],

@@ -1,11 +1,12 @@
 //! Relaying: inputs of every size, short reads and writes, devices that fail, and how it ends.
 use super::{NESTED, printed};
+use crate::recoding::{RelayError, recode};
+use crate::relaying::relay;
 use std::alloc::Global;
 use std::io::{self, ErrorKind, Read, Write};
 use std::process::Abort;
 use std::test::Fail;
 use wincode::io::ReadError as IoReadError;
-use wincode::show::{RelayError, recode, relay};
 use wincode::{ReadError, WriteError};
 
 /// Gives at most `piece` bytes a call, and fails once it was asked `sound` times, as a device or by a signal.

@@ -1,0 +1,120 @@
+//! A message of the repository's own, with its schema by hand: the worked example of a schema of one's own.
+ghost use Rattle.std.specs.Prelude.{◌<◌, ◌^◌, true, false, IsUtf8, string_bytes, refl};
+ghost use Rattle.std.proofs.Common.{lit≤};
+ghost use Rattle.wincode.specs.LeafLaws.{number_read_laws, number_write_laws, number_reads_back};
+ghost use Rattle.wincode.specs.Leaves.{number_read, number_write};
+ghost use Rattle.wincode.specs.ListLaws.{list_read_laws, list_write_laws, list_reads_back};
+ghost use Rattle.wincode.specs.OneTextLaws.{number_one_text, list_one_text, text_one_text, option_one_text, pair_one_text};
+ghost use Rattle.wincode.specs.PairLaws.{pair_read_laws, pair_write_laws, pair_reads_back, write_laws_by, reads_back_by};
+ghost use Rattle.wincode.specs.Short.{short_scheme};
+ghost use Rattle.wincode.specs.ShortLaws.{short_scheme_laws};
+ghost use Rattle.wincode.specs.TagLaws.{option_read_laws, option_write_laws, option_reads_back};
+ghost use Rattle.wincode.specs.Text.{text_read, text_write};
+ghost use Rattle.wincode.specs.TextLaws.{text_read_laws, text_write_laws, text_reads_back};
+
+use std::alloc::Global;
+use wincode::io::{Lending, Reader, Writer};
+use wincode::len::ShortU16Len;
+use wincode::schema::tuples::{size_of_members_3, write_members_3};
+use wincode::{
+    OneText, ReadResult, RoundTrip, SchemaGet, SchemaRead, SchemaReadOwned, SchemaWrite, TypeMeta,
+    WriteResult, containers,
+};
+
+/// A number with tags, and perhaps a note.
+#[derive(Debug, Drop)]
+pub struct Message {
+    pub id: u64,
+    pub tags: Vec<u8>,
+    pub note: Option<String>,
+}
+
+/// The tags stand behind a short length.
+type Tags = containers::Vec<u8, ShortU16Len>;
+
+/// A message is written and read as the tuple of its fields.
+type Fields = (u64, Tags, Option<String>);
+
+impl SchemaWrite for Message {
+    type Src = Message;
+
+    ghost Value = { ⟦<Fields as SchemaWrite>⟧.Value };
+
+    ghost seen = { λ m. ⟦<Fields as SchemaWrite>⟧.seen (m.id, m.tags, m.note) };
+
+    ghost proper = { λ m. ⟦<Fields as SchemaWrite>⟧.proper (m.id, m.tags, m.note) };
+
+    ghost writing = { ⟦<Fields as SchemaWrite>⟧.writing };
+
+    ghost in_one_piece = { ⟦<Fields as SchemaWrite>⟧.in_one_piece };
+
+    fn type_meta() -> TypeMeta {
+        <Fields as SchemaWrite>::type_meta()
+    }
+
+    fn size_of(src: &Message) -> WriteResult<usize> {
+        size_of_members_3::<u64, Tags, Option<String>>(&src.id, &src.tags, &src.note)
+    }
+
+    fn write<W: Writer>(writer: &mut W, src: &Message) -> WriteResult<()> {
+        write_members_3::<u64, Tags, Option<String>, W>(writer, &src.id, &src.tags, &src.note)
+    }
+
+    ghost write_laws = { write_laws_by (λ m. (m.id, (m.tags, m.note))) (pair_write_laws (number_write_laws 8 true) (pair_write_laws
+        (list_write_laws short_scheme 24 (λ t. t.items) (λ n. n < 256 ^ 1) (λ n. n) (number_write 1 true) (number_write_laws 1 true))
+        (option_write_laws (λ s. IsUtf8 (string_bytes s)) (λ s. string_bytes s) (text_write 24) (text_write_laws 24 (λ s. IsUtf8 (string_bytes s)) (λ s. string_bytes s))))) };
+}
+
+impl<L: Lending> SchemaRead<L> for Message {
+    type Dst = Message;
+
+    ghost Value = { ⟦<Fields as SchemaRead<L>>⟧.Value };
+
+    ghost seen = { λ m. ⟦<Fields as SchemaRead<L>>⟧.seen (m.id, m.tags, m.note) };
+
+    ghost proper = { ⟦<Fields as SchemaRead<L>>⟧.proper };
+
+    ghost reading = { ⟦<Fields as SchemaRead<L>>⟧.reading };
+
+    ghost refusal = { ⟦<Fields as SchemaRead<L>>⟧.refusal };
+
+    fn type_meta() -> TypeMeta {
+        <Fields as SchemaRead<L>>::type_meta()
+    }
+
+    fn prealloc_size() -> usize {
+        <Fields as SchemaRead<L>>::prealloc_size()
+    }
+
+    fn read<R: Reader<L>>(
+        alloc: Global,
+        reader: &mut R,
+        dst: &mut Option<Message>,
+    ) -> ReadResult<()> {
+        let (id, tags, note) = <Fields as SchemaGet<L>>::get(alloc, reader)?;
+        *dst = Some(Message { id, tags, note });
+        Ok(())
+    }
+
+    ghost read_laws = { pair_read_laws (number_read_laws 8 true (lit≤ tt)) (pair_read_laws
+        (list_read_laws short_scheme short_scheme_laws 24 (lit≤ tt) (λ n. n < 256 ^ 1) (number_read 1 true) (number_read_laws 1 true (lit≤ tt)))
+        (option_read_laws IsUtf8 (text_read 24 0 false) (text_read_laws 24 0 false (lit≤ tt)))) };
+}
+
+/// What is written reads back.
+impl<L: Lending> RoundTrip<L> for Message {
+    ghost reads_back = { reads_back_by (λ m. (m.id, (m.tags, m.note))) (pair_reads_back (number_reads_back 8 true) (pair_reads_back
+        (list_reads_back short_scheme short_scheme_laws 24 (λ t. t.items) (λ n. n < 256 ^ 1) (λ n. n) (number_write 1 true) (λ n. n) (number_read 1 true) (number_reads_back 1 true))
+        (option_reads_back (λ s. IsUtf8 (string_bytes s)) (λ s. string_bytes s) (text_write 24) (λ s. string_bytes s) (text_read 24 0 false) (text_reads_back 24 0 false (λ s. string_bytes s))))) };
+}
+
+/// Each message has one text.
+impl<L: Lending> OneText<L> for Message {
+    ghost one_text = { pair_one_text (number_one_text 8 true) (pair_one_text (list_one_text short_scheme 24 (number_one_text 1 true))
+        (option_one_text (text_one_text 24 0 false))) };
+}
+
+/// A message holds all that it was read from.
+impl<L: Lending> SchemaReadOwned<L> for Message {
+    ghost owned = { refl };
+}
