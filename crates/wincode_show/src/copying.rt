@@ -1,6 +1,6 @@
 //! Copying the value in front of a reader, for every schema whose values have one text each.
 ghost use Rattle.std.specs.Prelude.{◌≡◌, ◌++◌, IfOk, IfErr, IsTrue};
-ghost use Rattle.wincode_show.specs.Rewriting.{IsNotRewritten};
+ghost use Rattle.wincode_tests.specs.Rewriting.{IsNotRewritten};
 
 use crate::entry::rewrite;
 use std::alloc::Global;

@@ -1,6 +1,5 @@
-//! A struct of the repository's own, with its schema by hand, and a call for every schema that reads
-//! what it writes.
-ghost use Rattle.std.specs.Prelude.{◌<◌, ◌^◌, true, IfOk, IfErr, IsTrue, refl};
+//! A struct of the repository's own, with its schema by hand.
+ghost use Rattle.std.specs.Prelude.{◌<◌, ◌^◌, true, refl};
 ghost use Rattle.std.proofs.Common.{lit≤};
 ghost use Rattle.wincode.specs.Lengths.{bincode};
 ghost use Rattle.wincode.specs.LengthLaws.{bincode_laws};
@@ -9,14 +8,13 @@ ghost use Rattle.wincode.specs.LeafLaws.{number_read_laws, number_write_laws, nu
 ghost use Rattle.wincode.specs.ListLaws.{list_read_laws, list_write_laws, list_reads_back};
 ghost use Rattle.wincode.specs.OneTextLaws.{number_one_text, list_one_text, pair_one_text};
 ghost use Rattle.wincode.specs.PairLaws.{pair_read_laws, pair_write_laws, pair_reads_back, write_laws_by, reads_back_by};
-ghost use Rattle.wincode_show.specs.Rewriting.{Rewritten, IsNotRewritten};
 
 use std::alloc::Global;
 use wincode::io::{Lending, Reader, Writer};
 use wincode::schema::tuples::{size_of_members_2, write_members_2};
 use wincode::{
-    OneText, ReadResult, Result, RoundTrip, SchemaGet, SchemaRead, SchemaReadOwned, SchemaWrite,
-    TypeMeta, WriteResult,
+    OneText, ReadResult, RoundTrip, SchemaGet, SchemaRead, SchemaReadOwned, SchemaWrite, TypeMeta,
+    WriteResult,
 };
 
 /// A number with tags.
@@ -105,22 +103,4 @@ impl<L: Lending> OneText<L> for Entry {
 
 impl<L: Lending> SchemaReadOwned<L> for Entry {
     ghost owned = { refl };
-}
-
-/// Reads a value from the front of what the reader has, and gives a text of it: what is written reads
-/// as what was read. Refused by `ReadError`, it is as `get`; by `WriteError`, the value was read, and there is
-/// no memory for its text, or more than `usize::MAX` bytes of it.
-pub fn rewrite<L: Lending, R: Reader<L>, T: RoundTrip<L>>(
-    alloc: Global,
-    reader: &mut R,
-) -> Result<Vec<u8>>
-where
-    T::Src: Drop,
-    ensures ok { IfOk result (λ text. IsTrue (R.state reader.old).told → Rewritten T.SchemaRead.seen T.SchemaRead.reading.reads (R.state reader.old) (R.state reader.new) text.items) }
-    ensures err { IfErr result (IsNotRewritten T.SchemaRead.seen T.SchemaRead.reading T.SchemaRead.refusal T.SchemaWrite.seen T.SchemaWrite.writing (R.state reader.old) (R.state reader.new)) }
-{
-    let value = T::get(alloc, reader)?;
-    let mut text = Vec::new(alloc);
-    T::write(&mut text, &value)?;
-    Ok(text)
 }

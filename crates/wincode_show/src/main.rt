@@ -2,21 +2,13 @@
 //! `wincode_show explain SHAPE`: writes its parts, a line each.
 #![tactic(auto)]
 
-mod byte_len;
 mod copying;
-#[cfg(test)]
-mod endless;
 mod entry;
 mod event;
 mod explaining;
 mod message;
 mod recoding;
-#[cfg(test)]
-mod refusing;
 mod relaying;
-#[cfg(test)]
-mod single;
-mod square;
 #[cfg(test)]
 mod tests;
 mod transfer;

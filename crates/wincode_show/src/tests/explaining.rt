@@ -1,8 +1,8 @@
 //! Explained inputs: for each shape one that is explained whole and one that is refused.
-use super::bytes_of;
 use crate::explaining::explain;
 use crate::recoding::RelayError;
 use std::test::Fail;
+use wincode_tests::rows::bytes_of;
 
 /// The shape, the input, the lines, and the error's text, which is empty where the input is explained whole.
 const EXPLAINED: [(&str, &str, &str, &str); 10] = [

@@ -1,5 +1,5 @@
 //! Relaying: inputs of every size, short reads and writes, devices that fail, and how it ends.
-use super::{NESTED, printed};
+use super::NESTED;
 use crate::recoding::{RelayError, recode};
 use crate::relaying::relay;
 use std::alloc::Global;
@@ -8,6 +8,7 @@ use std::process::Abort;
 use std::test::Fail;
 use wincode::io::ReadError as IoReadError;
 use wincode::{ReadError, WriteError};
+use wincode_tests::rows::printed;
 
 /// Gives at most `piece` bytes a call, and fails once it was asked `sound` times, as a device or by a signal.
 #[derive(Drop)]
@@ -237,5 +238,18 @@ fn relay_errors_print(rt: HostRuntime) -> Result<(), Fail> {
         assert_eq!(rt; error.status(), status);
         assert_eq!(rt; printed(alloc, error)?.as_str(), text);
     }
+    Ok(())
+}
+
+#[test]
+fn a_list_of_some_mebibytes(rt: HostRuntime) -> Result<(), Fail> {
+    let alloc = rt.alloc();
+    let mut input = Vec::from_slice(alloc, 1u64.to_le_bytes().as_slice())?;
+    for number in [400_000u64].into_iter().chain(0..400_000) {
+        input.extend_from_slice(number.to_le_bytes().as_slice())?;
+    }
+    let mut output = Vec::new(alloc);
+    relay(alloc, "nested", &mut input.as_slice(), &mut output)?;
+    assert!(rt; output == input);
     Ok(())
 }

@@ -2,8 +2,8 @@ use Rattle.std.proofs.Common.{rules, true, ◌<◌, get_or}
 use Rattle.wincode.specs.Lengths.{IsLength}
 use Rattle.wincode.specs.SizedLaws.{arrays_takes, takes_gives, denied_refuses}
 use Rattle.wincode.specs.declared.error.ReadError.TheVariants as reading
-use Rattle.wincode_show.specs.ByteLengths.{byte_scheme, byte_length, length_byte, one_byte}
-use Rattle.wincode_show.proofs.byte_len.ByteLenSeqLen.read.Goals as goal
+use Rattle.wincode_tests.specs.ByteLengths.{byte_scheme, byte_length, length_byte, one_byte}
+use Rattle.wincode_tests.proofs.byte_len.ByteLenSeqLen.read.Goals as goal
 
 pub returns-in_err-bytes-clause-err : goal.returns-in_err-bytes-clause-err
 returns-in_err-bytes-clause-err g c =

@@ -1,6 +1,6 @@
 //! Worked rows of reading, each through a slice, a slice for writing, a cursor, and a window of each.
 
-use super::bytes_of;
+use crate::rows::bytes_of;
 use std::alloc::Global;
 use std::fmt::Debug;
 use std::test::Fail;

@@ -1,10 +1,11 @@
 //! Lists by each schema: worked rows, and what the Rust crate `wincode` 0.2.5 answered itself, a line each, as
 //! in `vectors`. `Short<T>` is a list behind a short length.
 
-use super::{first_unlike, outcome};
+use super::first_unlike;
 use crate::byte_len::ByteLen;
-use crate::entry::rewrite;
 use crate::refusing::Refusing;
+use crate::rewriting::rewrite;
+use crate::rows::outcome;
 use std::alloc::Global;
 use std::collections::{LinkedList, VecDeque};
 use std::test::Fail;

@@ -1,8 +1,8 @@
 use Rattle.std.proofs.Common.{rules, ◌≡◌, ◌<◌, refl, sym, ap, arith, ◌∷◌, []}
 use Rattle.wincode.specs.Lengths.{length_write, text_len}
 use Rattle.wincode.specs.WriteSequences.{text_wrote, text_unwritten}
-use Rattle.wincode_show.specs.ByteLengths.{byte_scheme, byte_text}
-use Rattle.wincode_show.proofs.byte_len.ByteLenSeqLen.write.Goals as goal
+use Rattle.wincode_tests.specs.ByteLengths.{byte_scheme, byte_text}
+use Rattle.wincode_tests.proofs.byte_len.ByteLenSeqLen.write.Goals as goal
 
 pub returns-in_err-write-clause-err : goal.returns-in_err-write-clause-err
 returns-in_err-write-clause-err g c =

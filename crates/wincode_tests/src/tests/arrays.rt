@@ -1,8 +1,8 @@
 //! Arrays: worked rows, what a refusal leaves, and what it drops.
 ghost use Rattle.std.specs.Prelude.{◌≡◌};
 
-use super::super::entry::rewrite;
-use super::outcome;
+use crate::rewriting::rewrite;
+use crate::rows::outcome;
 use std::alloc::{AllocError, Global};
 use std::rc::Rc;
 use std::test::Fail;

@@ -1,8 +1,9 @@
 //! Options, results and boxes: worked rows, and what the Rust crate `wincode` 0.2.5 answered itself, a
 //! line each, as in `vectors`.
 
-use super::{first_unlike, outcome};
-use crate::entry::rewrite;
+use super::first_unlike;
+use crate::rewriting::rewrite;
+use crate::rows::outcome;
 use std::alloc::Global;
 use std::rc::Rc;
 use std::test::Fail;

@@ -5,9 +5,10 @@ ghost use Rattle.std.specs.Prelude.{◌≡◌, length, IfOk};
 ghost use Rattle.std.proofs.Common.{refl};
 ghost use Rattle.wincode_io.specs.FormLaws.{number_form, array_form, wrapped_form};
 
+use super::first_unlike;
 use super::lists::read_as;
-use super::{first_unlike, outcome};
-use crate::entry::rewrite;
+use crate::rewriting::rewrite;
+use crate::rows::outcome;
 use std::alloc::Global;
 use std::test::Fail;
 use wincode::containers::Pod;

@@ -1,6 +1,6 @@
 //! A schema that refuses every input and its one value, as a member of others.
 ghost use Rattle.std.specs.Prelude.{false};
-ghost use Rattle.wincode_show.specs.Refusing.{nothing_read, nothing_read_laws, IsRefusing, nothing_write, nothing_write_laws};
+ghost use Rattle.wincode_tests.specs.Refusing.{nothing_read, nothing_read_laws, IsRefusing, nothing_write, nothing_write_laws};
 
 use std::alloc::Global;
 use wincode::io::{Lending, Reader, Writer};

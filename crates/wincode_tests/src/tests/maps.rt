@@ -3,10 +3,11 @@
 //! be written in any.
 ghost use Rattle.std.specs.Prelude.{◌<◌};
 
+use super::first_unlike;
 use super::lists::read_as;
-use super::{digits_of, first_unlike, outcome};
 use crate::endless::Endless;
-use crate::entry::rewrite;
+use crate::rewriting::rewrite;
+use crate::rows::{digits_of, outcome};
 use crate::square::Square;
 use std::alloc::Global;
 use std::collections::{BTreeMap, BTreeSet, BinaryHeap, HashMap, HashSet};

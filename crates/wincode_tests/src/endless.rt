@@ -1,8 +1,8 @@
 //! A schema of the largest size, no value of which is read or written: beside a key, pairs of it are past
 //! `usize::MAX`.
 ghost use Rattle.std.specs.Prelude.{false};
-ghost use Rattle.wincode_show.specs.Endless.{endless_read, endless_read_laws, endless_write, endless_write_laws};
-ghost use Rattle.wincode_show.specs.Refusing.{IsRefusing};
+ghost use Rattle.wincode_tests.specs.Endless.{endless_read, endless_read_laws, endless_write, endless_write_laws};
+ghost use Rattle.wincode_tests.specs.Refusing.{IsRefusing};
 
 use std::alloc::Global;
 use wincode::io::{Lending, Reader, Writer};

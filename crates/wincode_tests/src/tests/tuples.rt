@@ -1,7 +1,7 @@
 //! Tuples: worked rows, and each length once.
-use super::outcome;
-use crate::entry::rewrite;
 use crate::refusing::Refusing;
+use crate::rewriting::rewrite;
+use crate::rows::outcome;
 use std::alloc::Global;
 use std::test::Fail;
 use wincode::io::{self, Lifetime, SliceWriter};

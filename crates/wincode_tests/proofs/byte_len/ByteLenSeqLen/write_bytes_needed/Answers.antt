@@ -1,7 +1,7 @@
 use Rattle.std.proofs.Common.{rules, ◌<◌, sym, ap, ◌∷◌, []}
 use Rattle.wincode.specs.Lengths.{text_len}
-use Rattle.wincode_show.specs.ByteLengths.{byte_text}
-use Rattle.wincode_show.proofs.byte_len.ByteLenSeqLen.write_bytes_needed.Goals as goal
+use Rattle.wincode_tests.specs.ByteLengths.{byte_text}
+use Rattle.wincode_tests.proofs.byte_len.ByteLenSeqLen.write_bytes_needed.Goals as goal
 
 pub returns-clause-ok : goal.returns-clause-ok
 returns-clause-ok c =

@@ -1,0 +1,4 @@
+pub mod Endless
+pub mod Refusing
+pub mod ByteLengths
+pub mod Rewriting

@@ -1,0 +1,13 @@
+//! Uses of `wincode` by its trait contracts alone: a call for every schema, schemas and a length scheme of
+//! a caller's own; and its tests: worked rows and vectors.
+#![tactic(auto)]
+
+pub mod byte_len;
+pub mod endless;
+pub mod refusing;
+pub mod rewriting;
+pub mod rows;
+pub mod single;
+pub mod square;
+#[cfg(test)]
+mod tests;
