@@ -2,10 +2,10 @@
 //! `wincode_show explain SHAPE`: writes its parts, a line each.
 #![tactic(auto)]
 
-mod copying;
 mod entry;
 mod event;
 mod explaining;
+mod label;
 mod message;
 mod recoding;
 mod relaying;

@@ -3,6 +3,7 @@
 #![tactic(auto)]
 
 pub mod byte_len;
+pub mod copying;
 pub mod endless;
 pub mod refusing;
 pub mod rewriting;

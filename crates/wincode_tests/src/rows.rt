@@ -1,9 +1,11 @@
 //! What tests of several crates share: rows as digits of base 16, and outcomes as text.
 ghost use Rattle.std.specs.Prelude.{◌<◌, IfOk};
 
+use crate::rewriting::rewrite;
 use std::alloc::Global;
 use std::test::Fail;
-use wincode::Error;
+use wincode::io::Lifetime;
+use wincode::{Error, RoundTrip};
 
 /// The byte of two digits of base 16.
 fn digit(b: u8) -> Result<u8, Fail>
@@ -50,6 +52,39 @@ pub fn outcome(
         Err(Error::ReadError(error)) => Ok(Some(format!(in alloc; "err {error:?} {left}")?)),
         Err(Error::WriteError(_)) => Err(Fail::from("unwritten")),
     }
+}
+
+/// What reading these bytes answers, and what is left of them: the text that the value has, or the error.
+pub fn read_as<'a, T: RoundTrip<Lifetime<'a>>>(
+    alloc: Global,
+    bytes: &'a [u8],
+) -> Result<String, Fail>
+where
+    T::Src: Drop,
+{
+    let mut reader = bytes;
+    let text = rewrite::<Lifetime<'a>, &'a [u8], T>(alloc, &mut reader);
+    let left = reader.len();
+    Ok(outcome(alloc, text, left)?.ok_or("an outcome")?)
+}
+
+/// The first row of the table that is not answered as it says, if there is one. A row is a type's name, bytes
+/// as digits, and the outcome of reading them as that type.
+pub fn first_unlike<F: Fn(Global, &str, &[u8]) -> Result<Option<String>, Fail>>(
+    alloc: Global,
+    table: &str,
+    answer: F,
+) -> Result<Option<String>, Fail> {
+    for row in table.lines() {
+        let (name, rest) = row.split_once('|').ok_or("a name")?;
+        let (digits, outcome) = rest.split_once('|').ok_or("an outcome")?;
+        let bytes = bytes_of(alloc, digits)?;
+        let found = answer(alloc, name, bytes.as_slice())?.ok_or("a type")?;
+        if found.as_str() != outcome {
+            return Ok(Some(format!(in alloc; "{row}: {found}")?));
+        }
+    }
+    Ok(None)
 }
 
 /// The error as text.

@@ -1,9 +1,9 @@
 //! Messages, and what marks schemas whose values have one text.
-use crate::copying::copy_front;
 use crate::message::Message;
 use std::test::Fail;
 use wincode::io::Lifetime;
 use wincode::{SchemaRead, serialize, serialized_size};
+use wincode_tests::copying::copy_front;
 use wincode_tests::rows::{bytes_of, outcome};
 
 /// The text of number 1 with the tags 2 and 3 and the note `a`.

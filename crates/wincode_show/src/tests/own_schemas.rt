@@ -1,5 +1,4 @@
 //! Structs and an enum by their shape: what they are written as, and that it is copied from a reader as it was read.
-use crate::copying::copy_front;
 use crate::event::Event;
 use crate::transfer::{Account, Day, Payment, Transfer};
 use std::alloc::Global;
@@ -7,6 +6,7 @@ use std::test::Fail;
 use wincode::By;
 use wincode::io::{Lending, Reader};
 use wincode::serde::Serialize;
+use wincode_tests::copying::copy_front;
 use wincode_tests::rows::{bytes_of, outcome};
 
 /// A key of 32 bytes of 1, one of 32 bytes of 2, the number 3, and the note `a`.

@@ -1,9 +1,8 @@
 //! Options, results and boxes: worked rows, and what the Rust crate `wincode` 0.2.5 answered itself, a
 //! line each, as in `vectors`.
 
-use super::first_unlike;
 use crate::rewriting::rewrite;
-use crate::rows::outcome;
+use crate::rows::{first_unlike, outcome};
 use std::alloc::Global;
 use std::rc::Rc;
 use std::test::Fail;
@@ -13,7 +12,7 @@ use wincode::{
 };
 
 /// What reading these bytes as the type of the name answers, where it is one of these types.
-pub fn part_answer(alloc: Global, name: &str, bytes: &[u8]) -> Result<Option<String>, Fail> {
+fn part_answer(alloc: Global, name: &str, bytes: &[u8]) -> Result<Option<String>, Fail> {
     let mut reader = bytes;
     let text = if name == "Option<u8>" {
         rewrite::<Lifetime, &[u8], Option<u8>>(alloc, &mut reader)
@@ -42,7 +41,7 @@ pub fn part_answer(alloc: Global, name: &str, bytes: &[u8]) -> Result<Option<Str
 fn answers_the_vectors_of_parts(rt: HostRuntime) -> Result<(), Fail> {
     let rows = PARTS.lines().count();
     assert_eq!(rt; rows, 112);
-    let unlike = first_unlike(rt.alloc(), PARTS)?;
+    let unlike = first_unlike(rt.alloc(), PARTS, part_answer)?;
     assert!(rt; unlike == None, "{unlike:?}");
     Ok(())
 }

@@ -1,14 +1,10 @@
 //! Views, forms and bytes that are lent: worked rows, and what the Rust crate `wincode` 0.2.5 answered itself, a
-//! line each, as in `vectors`. `bytes` is `&[u8]`, and `Short<Pod32>` a list of `Pod<[u8; 32]>` behind a short
+//! line each, as in `vectors` of `wincode_tests`. `bytes` is `&[u8]`, and `Short<Pod32>` a list of `Pod<[u8; 32]>` behind a short
 //! length.
 ghost use Rattle.std.specs.Prelude.{◌≡◌, length, IfOk};
 ghost use Rattle.std.proofs.Common.{refl};
 ghost use Rattle.wincode_io.specs.FormLaws.{number_form, array_form, wrapped_form};
 
-use super::first_unlike;
-use super::lists::read_as;
-use crate::rewriting::rewrite;
-use crate::rows::outcome;
 use std::alloc::Global;
 use std::test::Fail;
 use wincode::containers::Pod;
@@ -21,9 +17,11 @@ use wincode::{
     ReadError, ReadResult, SchemaGet, SchemaRead, SchemaWrite, TypeMeta, WriteError, containers,
     deserialize, deserialize_mut, serialize, serialized_size,
 };
+use wincode_tests::rewriting::rewrite;
+use wincode_tests::rows::{first_unlike, outcome, read_as};
 
 /// What reading these bytes as the type of the name answers, where it is one of these types.
-pub fn view_answer(alloc: Global, name: &str, bytes: &[u8]) -> Result<Option<String>, Fail> {
+fn view_answer(alloc: Global, name: &str, bytes: &[u8]) -> Result<Option<String>, Fail> {
     let mut reader = bytes;
     let text = if name == "bytes" {
         rewrite::<Lifetime, &[u8], &[u8]>(alloc, &mut reader)
@@ -40,7 +38,7 @@ pub fn view_answer(alloc: Global, name: &str, bytes: &[u8]) -> Result<Option<Str
 fn answers_the_vectors_of_views(rt: HostRuntime) -> Result<(), Fail> {
     let rows = VIEWS.lines().count();
     assert_eq!(rt; rows, 28);
-    let unlike = first_unlike(rt.alloc(), VIEWS)?;
+    let unlike = first_unlike(rt.alloc(), VIEWS, view_answer)?;
     assert!(rt; unlike == None, "{unlike:?}");
     Ok(())
 }

@@ -1,23 +1,21 @@
 //! Lists by each schema: worked rows, and what the Rust crate `wincode` 0.2.5 answered itself, a line each, as
-//! in `vectors`. `Short<T>` is a list behind a short length.
+//! in `vectors` of `wincode_tests`. `Short<T>` is a list behind a short length.
 
-use super::first_unlike;
-use crate::byte_len::ByteLen;
-use crate::refusing::Refusing;
-use crate::rewriting::rewrite;
-use crate::rows::outcome;
 use std::alloc::Global;
 use std::collections::{LinkedList, VecDeque};
 use std::test::Fail;
 use wincode::io::{self, Lifetime, SliceWriter};
 use wincode::len::{BincodeLen, ShortU16, ShortU16Len};
 use wincode::{
-    ReadError, RoundTrip, SchemaGet, SchemaRead, SchemaWrite, TypeMeta, WriteError, containers,
-    serialize,
+    ReadError, SchemaGet, SchemaRead, SchemaWrite, TypeMeta, WriteError, containers, serialize,
 };
+use wincode_tests::byte_len::ByteLen;
+use wincode_tests::refusing::Refusing;
+use wincode_tests::rewriting::rewrite;
+use wincode_tests::rows::{first_unlike, outcome, read_as};
 
 /// What reading these bytes as the type of the name answers, where it is a list of one of these types.
-pub fn list_answer(alloc: Global, name: &str, bytes: &[u8]) -> Result<Option<String>, Fail> {
+fn list_answer(alloc: Global, name: &str, bytes: &[u8]) -> Result<Option<String>, Fail> {
     let mut reader = bytes;
     let text = if name == "Vec<bool>" {
         rewrite::<Lifetime, &[u8], Vec<bool>>(alloc, &mut reader)
@@ -48,23 +46,9 @@ pub fn list_answer(alloc: Global, name: &str, bytes: &[u8]) -> Result<Option<Str
 fn answers_the_vectors_of_lists(rt: HostRuntime) -> Result<(), Fail> {
     let rows = LISTS.lines().count();
     assert_eq!(rt; rows, 126);
-    let unlike = first_unlike(rt.alloc(), LISTS)?;
+    let unlike = first_unlike(rt.alloc(), LISTS, list_answer)?;
     assert!(rt; unlike == None, "{unlike:?}");
     Ok(())
-}
-
-/// What reading these bytes answers, and what is left of them: the text that the value has, or the error.
-pub fn read_as<'a, T: RoundTrip<Lifetime<'a>>>(
-    alloc: Global,
-    bytes: &'a [u8],
-) -> Result<String, Fail>
-where
-    T::Src: Drop,
-{
-    let mut reader = bytes;
-    let text = rewrite::<Lifetime<'a>, &'a [u8], T>(alloc, &mut reader);
-    let left = reader.len();
-    Ok(outcome(alloc, text, left)?.ok_or("an outcome")?)
 }
 
 #[test]

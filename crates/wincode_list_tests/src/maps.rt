@@ -1,14 +1,8 @@
 //! Maps, sets and heaps by each schema: worked rows, and what the Rust crate `wincode` 0.2.5 answered
-//! itself, a line each, as in `vectors`. After `sorted:` the items of a text stand in order, since they may
+//! itself, a line each, as in `vectors` of `wincode_tests`. After `sorted:` the items of a text stand in order, since they may
 //! be written in any.
 ghost use Rattle.std.specs.Prelude.{◌<◌};
 
-use super::first_unlike;
-use super::lists::read_as;
-use crate::endless::Endless;
-use crate::rewriting::rewrite;
-use crate::rows::{digits_of, outcome};
-use crate::square::Square;
 use std::alloc::Global;
 use std::collections::{BTreeMap, BTreeSet, BinaryHeap, HashMap, HashSet};
 use std::test::Fail;
@@ -18,9 +12,13 @@ use wincode::{
     ReadError, SchemaGet, SchemaRead, SchemaWrite, TypeMeta, WriteError, containers, deserialize,
     io, serialize, serialized_size,
 };
+use wincode_tests::endless::Endless;
+use wincode_tests::rewriting::rewrite;
+use wincode_tests::rows::{digits_of, first_unlike, outcome, read_as};
+use wincode_tests::square::Square;
 
 /// What reading these bytes as the type of the name answers, where it is a map, a set or a heap.
-pub fn map_answer(alloc: Global, name: &str, bytes: &[u8]) -> Result<Option<String>, Fail> {
+fn map_answer(alloc: Global, name: &str, bytes: &[u8]) -> Result<Option<String>, Fail> {
     let mut reader = bytes;
     let text = if name == "BTreeMap<u8,u8>" {
         rewrite::<Lifetime, &[u8], BTreeMap<u8, u8>>(alloc, &mut reader)
@@ -82,7 +80,7 @@ fn in_order(alloc: Global, text: &[u8], size: usize) -> Result<Vec<u8>, Fail>
 fn answers_the_vectors_of_maps(rt: HostRuntime) -> Result<(), Fail> {
     let rows = MAPS.lines().count();
     assert_eq!(rt; rows, 98);
-    let unlike = first_unlike(rt.alloc(), MAPS)?;
+    let unlike = first_unlike(rt.alloc(), MAPS, map_answer)?;
     assert!(rt; unlike == None, "{unlike:?}");
     Ok(())
 }

@@ -2,7 +2,7 @@
 ghost use Rattle.std.specs.Prelude.{◌≡◌, ◌++◌, IfOk, IfErr, IsTrue};
 ghost use Rattle.wincode_tests.specs.Rewriting.{IsNotRewritten};
 
-use crate::entry::rewrite;
+use crate::rewriting::rewrite;
 use std::alloc::Global;
 use wincode::io::{Lending, Reader};
 use wincode::{OneText, Result, RoundTrip};

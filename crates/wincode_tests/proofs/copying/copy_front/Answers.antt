@@ -1,6 +1,6 @@
 use Rattle.std.proofs.Common.{◌∙◌, ap, ◌++◌}
 use Rattle.std.proofs.lemmas.Result.{IfOk-weaker}
-use Rattle.wincode_show.proofs.copying.copy_front.Goals as goal
+use Rattle.wincode_tests.proofs.copying.copy_front.Goals as goal
 
 pub returns-clause-ok : goal.returns-clause-ok
 returns-clause-ok g c =

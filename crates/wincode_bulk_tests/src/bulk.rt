@@ -1,10 +1,10 @@
 //! Many items at once: what a schema that does so answers, beside one that goes item by item.
 
-use crate::single::Single;
 use std::alloc::Global;
 use std::test::Fail;
 use wincode::io::{Lifetime, SliceWriter};
 use wincode::{RoundTrip, SchemaGet, SchemaRead, SchemaWrite, deserialize, serialize};
+use wincode_tests::single::Single;
 
 /// How many numbers the lists have.
 const COUNTS: [u64; 6] = [0, 1, 31, 32, 33, 1000];
