@@ -74,7 +74,9 @@ pub fn first_unlike<F: Fn(Global, &str, &[u8]) -> Result<Option<String>, Fail>>(
     alloc: Global,
     table: &str,
     answer: F,
-) -> Result<Option<String>, Fail> {
+) -> Result<Option<String>, Fail>
+    requires { F.IsAlwaysCallable answer }
+{
     for row in table.lines() {
         let (name, rest) = row.split_once('|').ok_or("a name")?;
         let (digits, outcome) = rest.split_once('|').ok_or("an outcome")?;
