@@ -220,7 +220,7 @@ impl<A: SchemaWrite, B: SchemaWrite> SchemaWrite for (A, B) {
     ghost in_one_piece = { is_static ⟦<Members2<A, B> as SchemaWrite>⟧.writing.meta };
 
     fn type_meta() -> TypeMeta {
-        <Members2<A, B> as SchemaWrite>::type_meta()
+        joined_meta(A::type_meta(), B::type_meta())
     }
 
     fn size_of(src: &Self::Src) -> WriteResult<usize> {
@@ -248,11 +248,11 @@ impl<L: Lending, A: SchemaRead<L>, B: SchemaRead<L>> SchemaRead<L> for (A, B) {
     ghost refusal = { IsStaticRefused ⟦<Members2<A, B> as SchemaRead<L>>⟧.reading.meta ⟦<Members2<A, B> as SchemaRead<L>>⟧.refusal };
 
     fn type_meta() -> TypeMeta {
-        <Members2<A, B> as SchemaRead<L>>::type_meta()
+        joined_meta(A::type_meta(), B::type_meta())
     }
 
     fn prealloc_size() -> usize {
-        <Members2<A, B> as SchemaRead<L>>::prealloc_size()
+        A::prealloc_size().saturating_add(B::prealloc_size())
     }
 
     fn read<R: Reader<L>>(
@@ -340,7 +340,7 @@ impl<A: SchemaWrite, B: SchemaWrite, C: SchemaWrite> SchemaWrite for (A, B, C) {
     ghost in_one_piece = { is_static ⟦<Members3<A, B, C> as SchemaWrite>⟧.writing.meta };
 
     fn type_meta() -> TypeMeta {
-        <Members3<A, B, C> as SchemaWrite>::type_meta()
+        joined_meta(A::type_meta(), <(B, C) as SchemaWrite>::type_meta())
     }
 
     fn size_of(src: &Self::Src) -> WriteResult<usize> {
@@ -369,11 +369,11 @@ impl<L: Lending, A: SchemaRead<L>, B: SchemaRead<L>, C: SchemaRead<L>> SchemaRea
     ghost refusal = { IsStaticRefused ⟦<Members3<A, B, C> as SchemaRead<L>>⟧.reading.meta ⟦<Members3<A, B, C> as SchemaRead<L>>⟧.refusal };
 
     fn type_meta() -> TypeMeta {
-        <Members3<A, B, C> as SchemaRead<L>>::type_meta()
+        joined_meta(A::type_meta(), <(B, C) as SchemaRead<L>>::type_meta())
     }
 
     fn prealloc_size() -> usize {
-        <Members3<A, B, C> as SchemaRead<L>>::prealloc_size()
+        A::prealloc_size().saturating_add(<(B, C) as SchemaRead<L>>::prealloc_size())
     }
 
     fn read<R: Reader<L>>(
@@ -465,7 +465,7 @@ impl<A: SchemaWrite, B: SchemaWrite, C: SchemaWrite, D: SchemaWrite> SchemaWrite
     ghost in_one_piece = { is_static ⟦<Members4<A, B, C, D> as SchemaWrite>⟧.writing.meta };
 
     fn type_meta() -> TypeMeta {
-        <Members4<A, B, C, D> as SchemaWrite>::type_meta()
+        joined_meta(A::type_meta(), <(B, C, D) as SchemaWrite>::type_meta())
     }
 
     fn size_of(src: &Self::Src) -> WriteResult<usize> {
@@ -496,11 +496,11 @@ impl<L: Lending, A: SchemaRead<L>, B: SchemaRead<L>, C: SchemaRead<L>, D: Schema
     ghost refusal = { IsStaticRefused ⟦<Members4<A, B, C, D> as SchemaRead<L>>⟧.reading.meta ⟦<Members4<A, B, C, D> as SchemaRead<L>>⟧.refusal };
 
     fn type_meta() -> TypeMeta {
-        <Members4<A, B, C, D> as SchemaRead<L>>::type_meta()
+        joined_meta(A::type_meta(), <(B, C, D) as SchemaRead<L>>::type_meta())
     }
 
     fn prealloc_size() -> usize {
-        <Members4<A, B, C, D> as SchemaRead<L>>::prealloc_size()
+        A::prealloc_size().saturating_add(<(B, C, D) as SchemaRead<L>>::prealloc_size())
     }
 
     fn read<R: Reader<L>>(
@@ -605,7 +605,7 @@ impl<A: SchemaWrite, B: SchemaWrite, C: SchemaWrite, D: SchemaWrite, E: SchemaWr
     ghost in_one_piece = { is_static ⟦<Members5<A, B, C, D, E> as SchemaWrite>⟧.writing.meta };
 
     fn type_meta() -> TypeMeta {
-        <Members5<A, B, C, D, E> as SchemaWrite>::type_meta()
+        joined_meta(A::type_meta(), <(B, C, D, E) as SchemaWrite>::type_meta())
     }
 
     fn size_of(src: &Self::Src) -> WriteResult<usize> {
@@ -641,11 +641,11 @@ impl<
     ghost refusal = { IsStaticRefused ⟦<Members5<A, B, C, D, E> as SchemaRead<L>>⟧.reading.meta ⟦<Members5<A, B, C, D, E> as SchemaRead<L>>⟧.refusal };
 
     fn type_meta() -> TypeMeta {
-        <Members5<A, B, C, D, E> as SchemaRead<L>>::type_meta()
+        joined_meta(A::type_meta(), <(B, C, D, E) as SchemaRead<L>>::type_meta())
     }
 
     fn prealloc_size() -> usize {
-        <Members5<A, B, C, D, E> as SchemaRead<L>>::prealloc_size()
+        A::prealloc_size().saturating_add(<(B, C, D, E) as SchemaRead<L>>::prealloc_size())
     }
 
     fn read<R: Reader<L>>(
@@ -777,7 +777,10 @@ impl<
     ghost in_one_piece = { is_static ⟦<Members6<A, B, C, D, E, F> as SchemaWrite>⟧.writing.meta };
 
     fn type_meta() -> TypeMeta {
-        <Members6<A, B, C, D, E, F> as SchemaWrite>::type_meta()
+        joined_meta(
+            A::type_meta(),
+            <(B, C, D, E, F) as SchemaWrite>::type_meta(),
+        )
     }
 
     fn size_of(src: &Self::Src) -> WriteResult<usize> {
@@ -817,11 +820,14 @@ impl<
     ghost refusal = { IsStaticRefused ⟦<Members6<A, B, C, D, E, F> as SchemaRead<L>>⟧.reading.meta ⟦<Members6<A, B, C, D, E, F> as SchemaRead<L>>⟧.refusal };
 
     fn type_meta() -> TypeMeta {
-        <Members6<A, B, C, D, E, F> as SchemaRead<L>>::type_meta()
+        joined_meta(
+            A::type_meta(),
+            <(B, C, D, E, F) as SchemaRead<L>>::type_meta(),
+        )
     }
 
     fn prealloc_size() -> usize {
-        <Members6<A, B, C, D, E, F> as SchemaRead<L>>::prealloc_size()
+        A::prealloc_size().saturating_add(<(B, C, D, E, F) as SchemaRead<L>>::prealloc_size())
     }
 
     fn read<R: Reader<L>>(
@@ -983,7 +989,10 @@ impl<
     ghost in_one_piece = { is_static ⟦<Members7<A, B, C, D, E, F, G> as SchemaWrite>⟧.writing.meta };
 
     fn type_meta() -> TypeMeta {
-        <Members7<A, B, C, D, E, F, G> as SchemaWrite>::type_meta()
+        joined_meta(
+            A::type_meta(),
+            <(B, C, D, E, F, G) as SchemaWrite>::type_meta(),
+        )
     }
 
     fn size_of(src: &Self::Src) -> WriteResult<usize> {
@@ -1026,11 +1035,14 @@ impl<
     ghost refusal = { IsStaticRefused ⟦<Members7<A, B, C, D, E, F, G> as SchemaRead<L>>⟧.reading.meta ⟦<Members7<A, B, C, D, E, F, G> as SchemaRead<L>>⟧.refusal };
 
     fn type_meta() -> TypeMeta {
-        <Members7<A, B, C, D, E, F, G> as SchemaRead<L>>::type_meta()
+        joined_meta(
+            A::type_meta(),
+            <(B, C, D, E, F, G) as SchemaRead<L>>::type_meta(),
+        )
     }
 
     fn prealloc_size() -> usize {
-        <Members7<A, B, C, D, E, F, G> as SchemaRead<L>>::prealloc_size()
+        A::prealloc_size().saturating_add(<(B, C, D, E, F, G) as SchemaRead<L>>::prealloc_size())
     }
 
     fn read<R: Reader<L>>(
@@ -1213,7 +1225,10 @@ impl<
     ghost in_one_piece = { is_static ⟦<Members8<A, B, C, D, E, F, G, H> as SchemaWrite>⟧.writing.meta };
 
     fn type_meta() -> TypeMeta {
-        <Members8<A, B, C, D, E, F, G, H> as SchemaWrite>::type_meta()
+        joined_meta(
+            A::type_meta(),
+            <(B, C, D, E, F, G, H) as SchemaWrite>::type_meta(),
+        )
     }
 
     fn size_of(src: &Self::Src) -> WriteResult<usize> {
@@ -1266,11 +1281,14 @@ impl<
     ghost refusal = { IsStaticRefused ⟦<Members8<A, B, C, D, E, F, G, H> as SchemaRead<L>>⟧.reading.meta ⟦<Members8<A, B, C, D, E, F, G, H> as SchemaRead<L>>⟧.refusal };
 
     fn type_meta() -> TypeMeta {
-        <Members8<A, B, C, D, E, F, G, H> as SchemaRead<L>>::type_meta()
+        joined_meta(
+            A::type_meta(),
+            <(B, C, D, E, F, G, H) as SchemaRead<L>>::type_meta(),
+        )
     }
 
     fn prealloc_size() -> usize {
-        <Members8<A, B, C, D, E, F, G, H> as SchemaRead<L>>::prealloc_size()
+        A::prealloc_size().saturating_add(<(B, C, D, E, F, G, H) as SchemaRead<L>>::prealloc_size())
     }
 
     fn read<R: Reader<L>>(

@@ -4,7 +4,7 @@ ghost use Rattle.wincode.specs.PairLaws.{pair_read_laws, pair_write_laws, pair_r
 ghost use Rattle.wincode.specs.Outcomes.{IsSized, Wrote, Unwritten, IsPieceRefused, IsSizeRefused};
 ghost use Rattle.wincode.specs.InWindow.{IsStaticRefused, is_static};
 
-use super::{Member, Members2, Members8, add_size, size_of_members_8};
+use super::{Member, Members2, Members8, add_size, joined_meta, size_of_members_8};
 use crate::error::{ReadResult, WriteResult};
 use crate::io::{Lending, Reader, Writer};
 use crate::meta::TypeMeta;
@@ -163,7 +163,10 @@ impl<
     ghost in_one_piece = { is_static ⟦<Members9<A, B, C, D, E, F, G, H, I> as SchemaWrite>⟧.writing.meta };
 
     fn type_meta() -> TypeMeta {
-        <Members9<A, B, C, D, E, F, G, H, I> as SchemaWrite>::type_meta()
+        joined_meta(
+            A::type_meta(),
+            <(B, C, D, E, F, G, H, I) as SchemaWrite>::type_meta(),
+        )
     }
 
     fn size_of(src: &Self::Src) -> WriteResult<usize> {
@@ -219,11 +222,16 @@ impl<
     ghost refusal = { IsStaticRefused ⟦<Members9<A, B, C, D, E, F, G, H, I> as SchemaRead<L>>⟧.reading.meta ⟦<Members9<A, B, C, D, E, F, G, H, I> as SchemaRead<L>>⟧.refusal };
 
     fn type_meta() -> TypeMeta {
-        <Members9<A, B, C, D, E, F, G, H, I> as SchemaRead<L>>::type_meta()
+        joined_meta(
+            A::type_meta(),
+            <(B, C, D, E, F, G, H, I) as SchemaRead<L>>::type_meta(),
+        )
     }
 
     fn prealloc_size() -> usize {
-        <Members9<A, B, C, D, E, F, G, H, I> as SchemaRead<L>>::prealloc_size()
+        A::prealloc_size().saturating_add(<(B, C, D, E, F, G, H, I) as SchemaRead<
+            L,
+        >>::prealloc_size())
     }
 
     fn read<R: Reader<L>>(
@@ -436,7 +444,10 @@ impl<
     ghost in_one_piece = { is_static ⟦<Members10<A, B, C, D, E, F, G, H, I, J> as SchemaWrite>⟧.writing.meta };
 
     fn type_meta() -> TypeMeta {
-        <Members10<A, B, C, D, E, F, G, H, I, J> as SchemaWrite>::type_meta()
+        joined_meta(
+            A::type_meta(),
+            <(B, C, D, E, F, G, H, I, J) as SchemaWrite>::type_meta(),
+        )
     }
 
     fn size_of(src: &Self::Src) -> WriteResult<usize> {
@@ -494,11 +505,16 @@ impl<
     ghost refusal = { IsStaticRefused ⟦<Members10<A, B, C, D, E, F, G, H, I, J> as SchemaRead<L>>⟧.reading.meta ⟦<Members10<A, B, C, D, E, F, G, H, I, J> as SchemaRead<L>>⟧.refusal };
 
     fn type_meta() -> TypeMeta {
-        <Members10<A, B, C, D, E, F, G, H, I, J> as SchemaRead<L>>::type_meta()
+        joined_meta(
+            A::type_meta(),
+            <(B, C, D, E, F, G, H, I, J) as SchemaRead<L>>::type_meta(),
+        )
     }
 
     fn prealloc_size() -> usize {
-        <Members10<A, B, C, D, E, F, G, H, I, J> as SchemaRead<L>>::prealloc_size()
+        A::prealloc_size().saturating_add(<(B, C, D, E, F, G, H, I, J) as SchemaRead<
+            L,
+        >>::prealloc_size())
     }
 
     fn read<R: Reader<L>>(
@@ -727,7 +743,10 @@ impl<
     ghost in_one_piece = { is_static ⟦<Members11<A, B, C, D, E, F, G, H, I, J, K> as SchemaWrite>⟧.writing.meta };
 
     fn type_meta() -> TypeMeta {
-        <Members11<A, B, C, D, E, F, G, H, I, J, K> as SchemaWrite>::type_meta()
+        joined_meta(
+            A::type_meta(),
+            <(B, C, D, E, F, G, H, I, J, K) as SchemaWrite>::type_meta(),
+        )
     }
 
     fn size_of(src: &Self::Src) -> WriteResult<usize> {
@@ -818,11 +837,16 @@ impl<
     ghost refusal = { IsStaticRefused ⟦<Members11<A, B, C, D, E, F, G, H, I, J, K> as SchemaRead<L>>⟧.reading.meta ⟦<Members11<A, B, C, D, E, F, G, H, I, J, K> as SchemaRead<L>>⟧.refusal };
 
     fn type_meta() -> TypeMeta {
-        <Members11<A, B, C, D, E, F, G, H, I, J, K> as SchemaRead<L>>::type_meta()
+        joined_meta(
+            A::type_meta(),
+            <(B, C, D, E, F, G, H, I, J, K) as SchemaRead<L>>::type_meta(),
+        )
     }
 
     fn prealloc_size() -> usize {
-        <Members11<A, B, C, D, E, F, G, H, I, J, K> as SchemaRead<L>>::prealloc_size()
+        A::prealloc_size().saturating_add(<(B, C, D, E, F, G, H, I, J, K) as SchemaRead<
+            L,
+        >>::prealloc_size())
     }
 
     fn read<R: Reader<L>>(
@@ -1098,7 +1122,10 @@ impl<
     ghost in_one_piece = { is_static ⟦<Members12<A, B, C, D, E, F, G, H, I, J, K, M> as SchemaWrite>⟧.writing.meta };
 
     fn type_meta() -> TypeMeta {
-        <Members12<A, B, C, D, E, F, G, H, I, J, K, M> as SchemaWrite>::type_meta()
+        joined_meta(
+            A::type_meta(),
+            <(B, C, D, E, F, G, H, I, J, K, M) as SchemaWrite>::type_meta(),
+        )
     }
 
     fn size_of(src: &Self::Src) -> WriteResult<usize> {
@@ -1195,11 +1222,16 @@ impl<
     ghost refusal = { IsStaticRefused ⟦<Members12<A, B, C, D, E, F, G, H, I, J, K, M> as SchemaRead<L>>⟧.reading.meta ⟦<Members12<A, B, C, D, E, F, G, H, I, J, K, M> as SchemaRead<L>>⟧.refusal };
 
     fn type_meta() -> TypeMeta {
-        <Members12<A, B, C, D, E, F, G, H, I, J, K, M> as SchemaRead<L>>::type_meta()
+        joined_meta(
+            A::type_meta(),
+            <(B, C, D, E, F, G, H, I, J, K, M) as SchemaRead<L>>::type_meta(),
+        )
     }
 
     fn prealloc_size() -> usize {
-        <Members12<A, B, C, D, E, F, G, H, I, J, K, M> as SchemaRead<L>>::prealloc_size()
+        A::prealloc_size().saturating_add(<(B, C, D, E, F, G, H, I, J, K, M) as SchemaRead<
+            L,
+        >>::prealloc_size())
     }
 
     fn read<R: Reader<L>>(
