@@ -16,8 +16,8 @@ use Rattle.wincode_io.specs.Numbers.{le}
 use Rattle.wincode_io.specs.NumberLaws.{length-le}
 use Rattle.wincode.specs.Pairs.{pair_write}
 use Rattle.wincode.specs.Text.{char_read, announced, IsCharRefusal, IsCharRefused, text_read, text_write, IsTextBody, IsTextBodyRefused}
-use Rattle.wincode.specs.TextLaws.{text_then, then_text}
-use Rattle.wincode.specs.Sequences.{Then, gives_map, refuses_map, then_gives, then_first, then_second}
+use Rattle.wincode.specs.TextLaws.{text_then}
+use Rattle.wincode.specs.Sequences.{Then, refuses_map, then_first, then_second}
 use Rattle.wincode.specs.WriteSequences as sequence
 use Rattle.wincode.specs.Outcomes.{Gives, Refuses, Accepts, Due, ReaderDue, IsDenied, Wrote, Unwritten}
 use Rattle.wincode.specs.declared.error.WriteError.{WriteError}
@@ -275,9 +275,6 @@ body_gives n old new bytes v t e u = record {
 }
 
 module _ (prealloc asks : ℕ) (sparing : Bool) where
-  pub text_gives : (old mid new : ReaderState) (n : ℕ) (v : List ℕ) → Gives (IsLength (bincode 4194304) 1) old mid n → Gives (IsTextBody n) mid new v → Gives (text_read prealloc asks sparing).reads old new v
-  text_gives old mid new n v r t = gives_map (Then (IsLength (bincode 4194304) 1) IsTextBody) (text_read prealloc asks sparing).reads old new v v (λ b p. then_text prealloc asks sparing b v p) (then_gives (IsLength (bincode 4194304) 1) IsTextBody old mid new n v r t)
-
   pub text_first : (old new : ReaderState) (e : ReadError) → Refuses (IsLength (bincode 4194304) 1) 0 true old new e → Refuses (text_read prealloc asks sparing).reads asks sparing old new e
   text_first old new e r = refuses_map (Then (IsLength (bincode 4194304) 1) IsTextBody) (text_read prealloc asks sparing).reads asks sparing old new e (λ b v p. (v, text_then prealloc asks sparing b v p)) (then_first (IsLength (bincode 4194304) 1) IsTextBody 0 asks true sparing old new e (omega arith) (λ x. absurd (cc x)) r)
 

@@ -1,5 +1,5 @@
 -- Going over the items of a collection, in writing.
-use Rattle.std.proofs.Common.{◌≡◌, ◌∙◌, sym, ap, subst, ℕ, ◌+◌, ◌<◌, ◌≤◌, ◌^◌, List, [], ◌∷◌, ◌++◌, map, arith, append_assoc, append-nil}
+use Rattle.std.proofs.Common.{◌≡◌, ◌∙◌, sym, ap, subst, ℕ, ◌+◌, ◌<◌, ◌≤◌, ◌^◌, List, [], ◌∷◌, ◌++◌, map, arith, append_assoc}
 use Rattle.std.proofs.lemmas.List.{map-append}
 use Rattle.wincode_io.specs.Joins.{Joined, Each, total}
 use Rattle.wincode_io.specs.JoinLaws.{joined_append, each_split, each_append, total-append}
@@ -31,9 +31,6 @@ part_seen see done rest all left e j l = sym (map-append see done (e ∷ rest)) 
 
 part_more : {E : Type 0} (done rest all left : List E) (e : E) → done ++ left ≡ all → left ≡ e ∷ rest → (done ++ (e ∷ [])) ++ rest ≡ all
 part_more done rest all left e j l = append_assoc done (e ∷ []) rest ∙ ap (λ t. done ++ t) (sym l) ∙ j
-
-part_all : {E : Type 0} (done all left : List E) → done ++ left ≡ all → left ≡ [] → done ≡ all
-part_all done all left j l = sym (append-nil done) ∙ ap (λ t. done ++ t) (sym l) ∙ j
 
 -- what holds of two runs of items holds of all
 both : {E V : Type 0} (see : E → V) (xs ys all : List E) → xs ++ ys ≡ all → (Q : List V → Type 0) → Q (map see xs ++ map see ys) → Q (map see all)

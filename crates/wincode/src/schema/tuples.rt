@@ -7,7 +7,7 @@
 ghost use Rattle.std.specs.Prelude.{◌≡◌, ◌+◌, ◌^◌, ◌≤◌, false, IfOk, IfErr, OnOk};
 ghost use Rattle.wincode.specs.Pairs.{pair_meta, pair_read, pair_write, IsPairRefused};
 ghost use Rattle.wincode.specs.PairLaws.{pair_read_laws, pair_write_laws, pair_reads_back, write_laws_by, reads_back_by};
-ghost use Rattle.wincode.specs.Outcomes.{unsaid, IsSized, Wrote, Unwritten, IsPieceRefused, IsSizeRefused, IsOverflow};
+ghost use Rattle.wincode.specs.Outcomes.{IsSized, Wrote, Unwritten, IsPieceRefused, IsSizeRefused, IsOverflow};
 ghost use Rattle.wincode.specs.InWindow.{IsStaticRefused, is_static};
 
 mod longer;
