@@ -1,9 +1,9 @@
 -- Lengths in one byte.
-use Rattle.std.specs.Prelude.{◌≡◌, ℕ, ◌<◌, Bool, true, false, Option, Some, None, List, [], ◌∷◌, ◌++◌, length, get_or, nat_lt, if◌then◌else◌}
+use Rattle.std.specs.Prelude.{◌≡◌, ℕ, ◌<◌, false, Some, None, List, [], ◌∷◌, ◌++◌, length, get_or, nat_lt, if◌then◌else◌}
 use Rattle.std.proofs.Common.{◌∙◌, sym, ap, refl, arith, cond}
 use Rattle.std.proofs.lemmas.Bool.{lt-ltb, ltb-true}
 use Rattle.std.proofs.lemmas.Option.{cond_some}
-use Rattle.wincode.specs.Lengths.{Scheme, SchemeLaws, HasText, IsLength}
+use Rattle.wincode.specs.Lengths.{Scheme, SchemeLaws, IsLength}
 
 abbrev pub byte_scheme : Scheme
 byte_scheme = record {

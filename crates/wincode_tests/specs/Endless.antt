@@ -1,5 +1,5 @@
 -- A schema of the largest size, which accepts nothing and has no values to write.
-use Rattle.std.specs.Prelude.{◌≡◌, true, false}
+use Rattle.std.specs.Prelude.{true, false}
 use Rattle.std.proofs.Common.{arith}
 use Rattle.wincode.specs.Grammar.{ReadGrammar, ReadLaws, WriteGrammar, WriteLaws}
 use Rattle.wincode.specs.declared.meta.TypeMeta.TheVariants.{Static}

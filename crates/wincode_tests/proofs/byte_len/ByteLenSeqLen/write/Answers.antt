@@ -1,4 +1,4 @@
-use Rattle.std.proofs.Common.{rules, ◌≡◌, ◌<◌, refl, sym, ap, arith, ◌∷◌, []}
+use Rattle.std.proofs.Common.{rules, ◌<◌, sym, ap, ◌∷◌, []}
 use Rattle.wincode.specs.Lengths.{length_write, text_len}
 use Rattle.wincode.specs.WriteSequences.{text_wrote, text_unwritten}
 use Rattle.wincode_tests.specs.ByteLengths.{byte_scheme, byte_text}
