@@ -426,7 +426,12 @@ mod tests {
         let mut vector = vec![in rt.alloc(); 1u8, 2]?;
         assert!(rt; matches!(&vector.make_room(TOO_MANY), Err(WriteError::OutOfMemory)));
         assert_eq!(rt; vector.as_slice(), [1u8, 2].as_slice());
-        for (position, n) in [(0, TOO_MANY), (TOO_MANY, 1), (TOO_MANY * 2, 1)] {
+        for (position, n) in [
+            (0, TOO_MANY),
+            (TOO_MANY, 1),
+            (TOO_MANY * 2, 1),
+            (usize::MAX - 1, 1),
+        ] {
             let mut cursor = Cursor::new_at(vec![in rt.alloc(); 1u8, 2]?, position);
             assert!(rt; matches!(&cursor.make_room(n), Err(WriteError::OutOfMemory)));
             assert_eq!(rt; cursor.position(), position);

@@ -12,7 +12,6 @@ use wincode::{
     ReadError, SchemaGet, SchemaRead, SchemaWrite, TypeMeta, WriteError, containers, deserialize,
     io, serialize, serialized_size,
 };
-use wincode_tests::endless::Endless;
 use wincode_tests::rewriting::rewrite;
 use wincode_tests::rows::{digits_of, first_unlike, outcome, read_as};
 use wincode_tests::square::Square;
@@ -32,7 +31,7 @@ fn map_answer(alloc: Global, name: &str, bytes: &[u8]) -> Result<Option<String>,
         return scattered_answer(alloc, name, bytes);
     };
     let left = reader.len();
-    outcome(alloc, text, left)
+    Ok(Some(outcome(alloc, text, left)?))
 }
 
 /// So, where the items may be written in any order.
@@ -55,7 +54,7 @@ fn scattered_answer(alloc: Global, name: &str, bytes: &[u8]) -> Result<Option<St
             let digits = digits_of(alloc, sorted.as_slice())?;
             Ok(Some(format!(in alloc; "ok {left} sorted:{digits}")?))
         }
-        refused => outcome(alloc, refused, left),
+        refused => Ok(Some(outcome(alloc, refused, left)?)),
     }
 }
 
@@ -195,35 +194,6 @@ fn maps_are_written(rt: HostRuntime) -> Result<(), Fail> {
     assert!(rt;
         short.as_slice() == [2u8, 4, 6].as_slice() || short.as_slice() == [2u8, 6, 4].as_slice()
     );
-    Ok(())
-}
-
-#[test]
-fn pairs_past_every_size(rt: HostRuntime) -> Result<(), Fail> {
-    let alloc = rt.alloc();
-    type Map = BTreeMap<u8, Endless>;
-    let mut map: Map = BTreeMap::new(alloc);
-    let mut text = Vec::new(alloc);
-    <Map as SchemaWrite>::write(&mut text, &map)?;
-    assert_eq!(rt; text.as_slice(), [0u8, 0, 0, 0, 0, 0, 0, 0].as_slice());
-    let mut none = [0u8, 0, 0, 0, 0, 0, 0, 0, 9].as_slice();
-    let empty = <Map as SchemaGet<Lifetime>>::get(alloc, &mut none)?;
-    assert!(rt; empty.is_empty());
-    assert_eq!(rt; none, [9u8].as_slice());
-    let mut one = [1u8, 0, 0, 0, 0, 0, 0, 0, 5, 9].as_slice();
-    let long = <Map as SchemaGet<Lifetime>>::get(alloc, &mut one);
-    assert!(rt; matches!(&long, Err(ReadError::LengthEncodingOverflow("usize::MAX"))));
-    assert_eq!(rt; one, [5u8, 9].as_slice());
-    map.insert(5, Endless)?;
-    let mut unwritten = Vec::new(alloc);
-    let refused = <Map as SchemaWrite>::write(&mut unwritten, &map);
-    assert!(rt;
-        matches!(
-            &refused,
-            Err(WriteError::LengthEncodingOverflow("usize::MAX"))
-        )
-    );
-    assert!(rt; unwritten.is_empty());
     Ok(())
 }
 

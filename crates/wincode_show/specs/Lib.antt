@@ -1,3 +1,4 @@
 pub mod Shapes
 pub mod Recoding
 pub mod Events
+pub mod Faults

@@ -5,6 +5,7 @@
 mod entry;
 mod event;
 mod explaining;
+mod faults;
 mod label;
 mod message;
 mod recoding;

@@ -1,5 +1,6 @@
 //! The program and its schemas: worked rows, and what is refused.
 mod explaining;
+mod faults;
 mod labels;
 mod messages;
 mod own_schemas;

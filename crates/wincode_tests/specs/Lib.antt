@@ -1,4 +1,4 @@
-pub mod Endless
+pub mod Block
 pub mod Refusing
 pub mod ByteLengths
 pub mod Rewriting

@@ -2,9 +2,9 @@
 //! a caller's own; and its tests: worked rows and vectors.
 #![tactic(auto)]
 
+pub mod block;
 pub mod byte_len;
 pub mod copying;
-pub mod endless;
 pub mod refusing;
 pub mod rewriting;
 pub mod rows;

@@ -39,17 +39,13 @@ pub fn digits_of(alloc: Global, bytes: &[u8]) -> Result<String, Fail> {
 }
 
 /// What reading answered, as the table has it.
-pub fn outcome(
-    alloc: Global,
-    text: wincode::Result<Vec<u8>>,
-    left: usize,
-) -> Result<Option<String>, Fail> {
+pub fn outcome(alloc: Global, text: wincode::Result<Vec<u8>>, left: usize) -> Result<String, Fail> {
     match text {
         Ok(text) => {
             let digits = digits_of(alloc, text.as_slice())?;
-            Ok(Some(format!(in alloc; "ok {left} {digits}")?))
+            Ok(format!(in alloc; "ok {left} {digits}")?)
         }
-        Err(Error::ReadError(error)) => Ok(Some(format!(in alloc; "err {error:?} {left}")?)),
+        Err(Error::ReadError(error)) => Ok(format!(in alloc; "err {error:?} {left}")?),
         Err(Error::WriteError(_)) => Err(Fail::from("unwritten")),
     }
 }
@@ -65,7 +61,7 @@ where
     let mut reader = bytes;
     let text = rewrite::<Lifetime<'a>, &'a [u8], T>(alloc, &mut reader);
     let left = reader.len();
-    Ok(outcome(alloc, text, left)?.ok_or("an outcome")?)
+    outcome(alloc, text, left)
 }
 
 /// The first row of the table that is not answered as it says, if there is one. A row is a type's name, bytes

@@ -116,7 +116,7 @@ fn unsigned_answer(alloc: Global, name: &str, bytes: &[u8]) -> Result<Option<Str
         return Ok(None);
     };
     let left = reader.len();
-    outcome(alloc, text, left)
+    Ok(Some(outcome(alloc, text, left)?))
 }
 
 fn signed_answer(alloc: Global, name: &str, bytes: &[u8]) -> Result<Option<String>, Fail> {
@@ -137,7 +137,7 @@ fn signed_answer(alloc: Global, name: &str, bytes: &[u8]) -> Result<Option<Strin
         return Ok(None);
     };
     let left = reader.len();
-    outcome(alloc, text, left)
+    Ok(Some(outcome(alloc, text, left)?))
 }
 
 fn other_answer(alloc: Global, name: &str, bytes: &[u8]) -> Result<Option<String>, Fail> {
@@ -156,7 +156,7 @@ fn other_answer(alloc: Global, name: &str, bytes: &[u8]) -> Result<Option<String
         return Ok(None);
     };
     let left = reader.len();
-    outcome(alloc, text, left)
+    Ok(Some(outcome(alloc, text, left)?))
 }
 
 fn text_answer(alloc: Global, name: &str, bytes: &[u8]) -> Result<Option<String>, Fail> {
@@ -173,7 +173,7 @@ fn text_answer(alloc: Global, name: &str, bytes: &[u8]) -> Result<Option<String>
         return Ok(None);
     };
     let left = reader.len();
-    outcome(alloc, text, left)
+    Ok(Some(outcome(alloc, text, left)?))
 }
 
 /// What reading these bytes as the type of the name answers.

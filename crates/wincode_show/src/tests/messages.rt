@@ -53,7 +53,7 @@ fn messages_read_and_written(rt: HostRuntime) -> Result<(), Fail> {
         let mut reader = bytes.as_slice();
         let text = copy_front::<Lifetime, &[u8], Message>(alloc, &mut reader);
         let left = reader.len();
-        let found = outcome(alloc, text, left)?.ok_or("an outcome")?;
+        let found = outcome(alloc, text, left)?;
         assert_eq!(rt; found.as_str(), *wanted);
     }
     Ok(())

@@ -69,7 +69,7 @@ fn copied(alloc: Global, name: &str, digits: &str) -> Result<String, Fail> {
         _ => copy_front::<wincode::io::Lifetime, &[u8], By<Event>>(alloc, &mut reader),
     };
     let left = reader.len();
-    Ok(outcome(alloc, text, left)?.ok_or("an outcome")?)
+    outcome(alloc, text, left)
 }
 
 /// A transfer from any reader.

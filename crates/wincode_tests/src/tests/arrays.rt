@@ -26,7 +26,7 @@ pub fn array_answer(alloc: Global, name: &str, bytes: &[u8]) -> Result<Option<St
         return Ok(None);
     };
     let left = reader.len();
-    outcome(alloc, text, left)
+    Ok(Some(outcome(alloc, text, left)?))
 }
 
 #[test]

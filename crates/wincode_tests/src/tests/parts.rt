@@ -34,7 +34,7 @@ fn part_answer(alloc: Global, name: &str, bytes: &[u8]) -> Result<Option<String>
         return Ok(None);
     };
     let left = reader.len();
-    outcome(alloc, text, left)
+    Ok(Some(outcome(alloc, text, left)?))
 }
 
 #[test]

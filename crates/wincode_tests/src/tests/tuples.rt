@@ -35,7 +35,7 @@ pub fn tuple_answer(alloc: Global, name: &str, bytes: &[u8]) -> Result<Option<St
         return Ok(None);
     };
     let left = reader.len();
-    outcome(alloc, text, left)
+    Ok(Some(outcome(alloc, text, left)?))
 }
 
 #[test]
@@ -68,6 +68,20 @@ fn windows_of_tuples(rt: HostRuntime) -> Result<(), Fail> {
     );
     assert!(rt; writer.written().is_empty());
     Ok(())
+}
+
+#[test]
+fn a_record_without_room(rt: HostRuntime) {
+    let mut room = [0u8; 40];
+    let mut writer = SliceWriter::new(room.as_mut_slice());
+    let full = <Record as SchemaWrite>::write(&mut writer, &(7, true, [9; 32]));
+    assert!(rt;
+        matches!(
+            &full,
+            Err(WriteError::Io(io::WriteError::WriteSizeLimit(41)))
+        )
+    );
+    assert!(rt; writer.written().is_empty());
 }
 
 #[test]
@@ -138,7 +152,7 @@ fn each_length(alloc: Global, n: usize) -> Result<Option<String>, Fail> {
         _ => return Ok(None),
     };
     let left = reader.len();
-    outcome(alloc, text, left)
+    Ok(Some(outcome(alloc, text, left)?))
 }
 
 type Ten = (u8, u8, u8, u8, u8, u8, u8, u8, u8, u8);

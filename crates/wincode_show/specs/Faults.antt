@@ -1,0 +1,25 @@
+-- Devices that serve so many calls and then fail each time.
+use Rattle.std.specs.Prelude.{◌≡◌, ℕ, ◌+◌, min, List, length, true, false, None}
+use Rattle.wincode_io.specs.Readers.{ReaderState, nothing}
+use Rattle.wincode_io.specs.Writers.{WriterState, byte_limit}
+
+-- How many calls more it serves, and how often it failed.
+pub record DeviceState : Type 0 where
+  pub sound : ℕ
+  pub failures : ℕ
+
+-- it was asked, and served
+abbrev pub HasServed : DeviceState → DeviceState → Type 0
+HasServed old new = (old.sound ≡ new.sound + 1) × (new.failures ≡ old.failures)
+
+-- it was asked, and failed; the count of its failures stays at `usize::MAX`
+abbrev pub HasFailed : DeviceState → DeviceState → Type 0
+HasFailed old new = (old.sound ≡ 0) × (new ≡ record { sound = 0; failures = min (old.failures + 1) byte_limit })
+
+-- a reader of these bytes, all of them at hand, over a device
+abbrev pub over_device : List ℕ → DeviceState → ReaderState
+over_device bytes device = record { rest = bytes; ready = length bytes; lends = nothing; steady = false; failures = device.failures; told = true; place = None }
+
+-- a writer, over a device
+abbrev pub with_device : {S K : Type 0} {put : S → List ℕ → S} {room : S → ℕ} → WriterState put room K → DeviceState → WriterState put room K
+with_device writer device = record { content = writer.content; kept = writer.kept; steady = false; failures = device.failures; ready = writer.ready }
