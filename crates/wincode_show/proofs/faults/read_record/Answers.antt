@@ -1,0 +1,13 @@
+use Rattle.std.proofs.Common.{subst}
+use Rattle.std.specs.Result.{IfErr}
+use Rattle.wincode.specs.Outcomes.{IsUnread}
+use Rattle.wincode_show.specs.Shapes.{read_of, refusal_of}
+use Rattle.wincode_show.specs.declared.recoding.KnownShape.TheVariants.{Record}
+use Rattle.wincode_show.proofs.Faulty.{unread}
+use Rattle.wincode_show.proofs.faults.read_record.Goals as goal
+
+pub returns-clause-err : goal.returns-clause-err
+returns-clause-err c =
+    subst (λ old. IfErr c.get.result (IsUnread (read_of Record) (refusal_of Record) old)) c.new-reader.ensures (
+      unread (read_of Record) (refusal_of Record) _ _ c.get.result c.get.ensures.err c.get.ensures.refused
+    )
