@@ -114,37 +114,37 @@ unfolding le
 lists_refused n h = let e : n ≡ 174763 = length_is _ 174763 n 24 (lit< tt) refl h in absurd (omega (arith, h.0.1, e))
 
 -- None is a byte 0, Some of 7 the bytes 1 and 7, and the error 9 five bytes
-pub none_reads : (option_read (number_read 1 true)).reads (0 ∷ []) None
+pub none_reads : (option_read 1 (number_read 1 true)).reads (0 ∷ []) None
 unfolding le
 none_reads = ([], refl, refl)
 
-pub some_reads : (option_read (number_read 1 true)).reads (1 ∷ 7 ∷ []) (Some 7)
+pub some_reads : (option_read 1 (number_read 1 true)).reads (1 ∷ 7 ∷ []) (Some 7)
 unfolding le
 some_reads = (7 ∷ [], (lit< tt, refl), refl)
 
-pub error_reads : (result_read (number_read 1 true) (number_read 1 true)).reads (1 ∷ 0 ∷ 0 ∷ 0 ∷ 9 ∷ []) (Err 9)
+pub error_reads : (result_read 4 (number_read 1 true) (number_read 1 true)).reads (1 ∷ 0 ∷ 0 ∷ 0 ∷ 9 ∷ []) (Err 9)
 unfolding le
 error_reads = (9 ∷ [], (lit< tt, refl), refl)
 
-pub some_writes : (option_write (number_write 1 true)).writes (Some 7) (1 ∷ 7 ∷ [])
+pub some_writes : (option_write 1 (number_write 1 true)).writes (Some 7) (1 ∷ 7 ∷ [])
 unfolding le
 some_writes = (7 ∷ [], refl, refl)
 
-pub error_writes : (result_write (number_write 1 true) (number_write 1 true)).writes (Err 9) (1 ∷ 0 ∷ 0 ∷ 0 ∷ 9 ∷ [])
+pub error_writes : (result_write 4 (number_write 1 true) (number_write 1 true)).writes (Err 9) (1 ∷ 0 ∷ 0 ∷ 0 ∷ 9 ∷ [])
 unfolding le
 error_writes = (9 ∷ [], refl, refl)
 
 -- no option begins with a byte 2
-pub no_third : (x : List ℕ) (o : Option ℕ) → (option_read (number_read 1 true)).reads (2 ∷ x) o → ⊥
+pub no_third : (x : List ℕ) (o : Option ℕ) → (option_read 1 (number_read 1 true)).reads (2 ∷ x) o → ⊥
 unfolding le
 no_third x None r = absurd (cc r.2)
 no_third x (Some v) r = absurd (cc r.2)
 
 -- sides of one size have it behind a tag of four bytes, and sides of two sizes none
-pub one_size : (result_read (number_read 2 true) (number_read 2 true)).meta ≡ Static 6 false
+pub one_size : (result_read 4 (number_read 2 true) (number_read 2 true)).meta ≡ Static 6 false
 one_size = refl
 
-pub two_sizes : (result_read (number_read 1 true) (number_read 2 true)).meta ≡ Dynamic
+pub two_sizes : (result_read 4 (number_read 1 true) (number_read 2 true)).meta ≡ Dynamic
 two_sizes = refl
 
 -- the least and the greatest short numbers of one, two and three bytes

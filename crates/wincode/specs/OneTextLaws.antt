@@ -83,16 +83,20 @@ option_same : {V : Type 0} (g : ReadGrammar V) → IsOneText g → (a b : List �
 option_same g one a b None p q = p ∙ sym q
 option_same g one a b (Some v) p q = one.same a b v p q
 
-pub option_one_text : {V : Type 0} {g : ReadGrammar V} → IsOneText g → IsOneText (option_read g)
-option_one_text {g = g} one = tagged_one_text 1 option_tag {part = option_part_read g} (record { same = option_same g one })
+pub option_one_text : {V : Type 0} (k : ℕ) {g : ReadGrammar V} → IsOneText g → IsOneText (option_read k g)
+option_one_text k {g = g} one = tagged_one_text k option_tag {part = option_part_read g} (record { same = option_same g one })
 
 sides_same : {V W : Type 0} (g : ReadGrammar V) (h : ReadGrammar W) → IsOneText g → IsOneText h
     → (a b : List ℕ) (r : Result V W) → SidesRead g.reads h.reads a r → SidesRead g.reads h.reads b r → a ≡ b
 sides_same g h one two a b (Ok v) p q = one.same a b v p q
 sides_same g h one two a b (Err w) p q = two.same a b w p q
 
-pub result_one_text : {V W : Type 0} {g : ReadGrammar V} {h : ReadGrammar W} → IsOneText g → IsOneText h → IsOneText (result_read g h)
-result_one_text {g = g} {h = h} one two = tagged_one_text 4 result_tag {part = sides_read g h} (record { same = sides_same g h one two })
+-- sides without their tag
+pub sides_one_text : {V W : Type 0} {g : ReadGrammar V} {h : ReadGrammar W} → IsOneText g → IsOneText h → IsOneText (sides_read g h)
+sides_one_text {g = g} {h = h} one two = record { same = sides_same g h one two }
+
+pub result_one_text : {V W : Type 0} (k : ℕ) {g : ReadGrammar V} {h : ReadGrammar W} → IsOneText g → IsOneText h → IsOneText (result_read k g h)
+result_one_text k {g = g} {h = h} one two = tagged_one_text k result_tag {part = sides_read g h} (sides_one_text one two)
 
 -- ---- what is held
 

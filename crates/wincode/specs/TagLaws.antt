@@ -1,5 +1,5 @@
 -- The laws of a tag and then what it names.
-use Rattle.std.proofs.Common.{◌≡◌, ◌∙◌, sym, ap, ℕ, ◌+◌, ◌<◌, ◌≤◌, ◌^◌, Bool, true, false, List, [], ◌++◌, length, max, nat_eq, nat_lt, cond, refl, arith, length-append, Option, Some, None, Result, Ok, Err}
+use Rattle.std.proofs.Common.{◌≡◌, ◌∙◌, sym, ap, ℕ, ◌+◌, ◌*◌, ◌-◌, ◌<◌, ◌≤◌, ◌^◌, ◌⊎◌, inl, inr, suc, zero, pow-suc, Bool, true, false, List, [], ◌++◌, length, max, nat_eq, nat_lt, cond, refl, arith, length-append, Option, Some, None, Result, Ok, Err}
 use Rattle.std.proofs.lemmas.Bool.{eqb-true}
 use Rattle.std.specs.Option.{option_map}
 use Rattle.std.specs.Result.{result_map_both}
@@ -12,16 +12,58 @@ use Rattle.wincode.specs.LeafLaws.{number_one}
 use Rattle.wincode.specs.Pairs.{pair_meta}
 use Rattle.wincode.specs.Sequences.{Then, then_gives, then_first, then_second, then_unambiguous, strip, gives_map, refuses_map}
 use Rattle.wincode.specs.Outcomes.{Gives, Refuses}
-use Rattle.wincode.specs.Tags.{tagged_read, tagged_write, option_tag, OptionReads, option_part_read, option_read, OptionWrites, IfPart, option_size, option_part_write, option_write, result_tag, sides_meta, SidesRead, sides_read, result_read, SidesWrite, IfSide, sides_size, sides_write, result_write}
+use Rattle.wincode.specs.Tags.{IsTagSize, greatest_tag, tagged_read, tagged_write, counted_read, counted_write, option_tag, OptionReads, option_part_read, option_read, OptionWrites, IfPart, option_size, option_part_write, option_write, sides_tag, result_tag, sides_meta, SidesRead, sides_read, result_read, SidesWrite, IfSide, sides_size, sides_write, result_write}
 use Rattle.wincode.specs.declared.meta.TypeMeta.{TypeMeta}
 use Rattle.wincode.specs.declared.meta.TypeMeta.TheVariants.{Static, Dynamic}
 use Rattle.wincode.specs.declared.error.ReadError.{ReadError}
 use Rattle.wincode.specs.declared.error.ReadError.TheVariants as reading
 use Rattle.wincode_io.specs.Joins.{IsUnambiguous}
 
+-- ---- the size of a tag
+
+pub one_byte : IsTagSize 1
+one_byte = inl refl
+
+pub two_bytes : IsTagSize 2
+two_bytes = inr (inl refl)
+
+pub four_bytes : IsTagSize 4
+four_bytes = inr (inr (inl refl))
+
+pub eight_bytes : IsTagSize 8
+eight_bytes = inr (inr (inr refl))
+
+pub some_bytes : {k : ℕ} → IsTagSize k → 1 ≤ k
+some_bytes (inl e) = omega (arith, e)
+some_bytes (inr (inl e)) = omega (arith, e)
+some_bytes (inr (inr (inl e))) = omega (arith, e)
+some_bytes (inr (inr (inr e))) = omega (arith, e)
+
+-- a number of one byte is a tag of any size
+pub small_tag : (k : ℕ) → 1 ≤ k → (t : ℕ) → t < 256 → t < 256 ^ k
+small_tag zero some t h = absurd (omega (arith, some))
+small_tag (suc zero) some t h = omega (arith, h)
+small_tag (suc (suc k)) some t h =
+    let r = small_tag (suc k) (omega arith) t h in
+    let e : 256 ^ suc (suc k) ≡ 256 * 256 ^ suc k = rw pow-suc (omega arith) in
+    omega (arith, r, e)
+
+pub small_tag_at_most : (k : ℕ) → 1 ≤ k → (t : ℕ) → t < 256 → t ≤ greatest_tag k
+small_tag_at_most k some t h = omega (arith, small_tag k some t h)
+
+-- ---- a tag, and then what it names
+
 -- what stands behind the tag t
 abbrev pub IsCase : {V : Type 0} → (V → ℕ) → (List ℕ → V → Type 0) → ℕ → List ℕ → V → Type 0
 IsCase tag reads t b v = (tag v ≡ t) × reads b v
+
+-- The laws of what stands behind a tag of k bytes, of which texts behind one tag alone are told apart.
+pub record CaseLaws {V : Type 0} (k : ℕ) (tag : V → ℕ) (proper : V → Type 0) (part : ReadGrammar V) : Type 0 where
+  pub small : (v : V) → tag v < 256 ^ k
+  pub one : (t : ℕ) → IsUnambiguous (IsCase tag part.reads t)
+  pub is_proper : (b : List ℕ) (v : V) → part.reads b v → proper v
+  pub statics : IsReadStatic part.reads part.meta
+  pub prealloc : 1 ≤ part.prealloc
 
 spares : (b : Bool) → true ≡ false → b ≡ false
 spares b e = cc
@@ -83,6 +125,19 @@ module _ {V : Type 0} (k : ℕ) (tag : V → ℕ) (small : (v : V) → tag v < 2
         due = λ a. let m = strip Tag Case (number_one k true) old new t r a in none m.front.value m.front.found.is_read.0;
       })
 
+-- so, by the laws of what stands behind the tag
+pub cases_read_laws : {V : Type 0} {k : ℕ} {tag : V → ℕ} {proper : V → Type 0} {part : ReadGrammar V} → CaseLaws k tag proper part → ReadLaws proper (tagged_read k tag part)
+cases_read_laws {k = k} {tag = tag} {proper = proper} {part = part} l =
+    tagged_read_laws k tag l.small part proper l.one l.is_proper l.statics l.prealloc
+
+-- what has one tag alone
+pub one_case : {V : Type 0} {k : ℕ} {p : V → Type 0} {g : ReadGrammar V} (t : ℕ) → t < 256 ^ k → ReadLaws p g → CaseLaws k (λ v. t) p g
+one_case t small l = record { small = λ v. small; one = λ u a b x y v w i j e. l.one_front a b x y v w i.1 j.1 e; is_proper = l.is_proper; statics = l.statics; prealloc = l.prealloc }
+
+-- counted otherwise against a limit
+pub counted_cases : {V : Type 0} {k : ℕ} {tag : V → ℕ} {p : V → Type 0} {g : ReadGrammar V} (n : ℕ) → 1 ≤ n → CaseLaws k tag p g → CaseLaws k tag p (counted_read n g)
+counted_cases n some l = record { small = l.small; one = l.one; is_proper = l.is_proper; statics = l.statics; prealloc = some }
+
 -- ---- writing a tag and then what it names
 
 module _ {X V : Type 0} (p : X → Type 0) (seen : X → V) (k : ℕ) (tag : V → ℕ) (part : WriteGrammar V) where
@@ -112,9 +167,9 @@ tagged_reads_back p ws w rs r k wtag rtag same l = record {
 
 -- ---- options
 
-pub option_small : {V : Type 0} (o : Option V) → option_tag o < 256 ^ 1
-option_small None = omega arith
-option_small (Some v) = omega arith
+pub option_small : {V : Type 0} (k : ℕ) → 1 ≤ k → (o : Option V) → option_tag o < 256 ^ k
+option_small k some None = small_tag k some 0 (omega arith)
+option_small k some (Some v) = small_tag k some 1 (omega arith)
 
 option_one : {V : Type 0} (g : ReadGrammar V) → IsUnambiguous g.reads → (t : ℕ) → IsUnambiguous (IsCase option_tag (OptionReads g.reads) t)
 option_one g one t a b x y None None p q e = (p.1 ∙ sym q.1, refl)
@@ -126,8 +181,9 @@ option_proper : {V : Type 0} (p : V → Type 0) (g : ReadGrammar V) → ReadLaws
 option_proper p g l b None r = tt
 option_proper p g l b (Some v) r = l.is_proper b v r
 
-pub option_read_laws : {V : Type 0} (p : V → Type 0) (g : ReadGrammar V) → ReadLaws p g → ReadLaws (IfPart p) (option_read g)
-option_read_laws p g l = tagged_read_laws 1 option_tag option_small (option_part_read g) (IfPart p) (option_one g l.one_front) (option_proper p g l) tt l.prealloc
+pub option_read_laws : {V : Type 0} (k : ℕ) → 1 ≤ k → (p : V → Type 0) (g : ReadGrammar V) → ReadLaws p g → ReadLaws (IfPart p) (option_read k g)
+option_read_laws k some p g l =
+    tagged_read_laws k option_tag (option_small k some) (option_part_read g) (IfPart p) (option_one g l.one_front) (option_proper p g l) tt l.prealloc
 
 module _ {X V : Type 0} (p : X → Type 0) (seen : X → V) (g : WriteGrammar V) (l : WriteLaws p seen g) where
   option_text : (o : Option V) → IfPart g.can o → (b : List ℕ) × OptionWrites g.writes o b
@@ -146,8 +202,8 @@ module _ {X V : Type 0} (p : X → Type 0) (seen : X → V) (g : WriteGrammar V)
   pub option_part_laws : WriteLaws (IfPart p) (option_map seen) (option_part_write g)
   option_part_laws = record { has_text = option_text; text_size = option_text_size; can_fit = option_fit; statics = tt }
 
-  pub option_write_laws : WriteLaws (IfPart p) (option_map seen) (option_write g)
-  option_write_laws = tagged_write_laws (IfPart p) (option_map seen) 1 option_tag (option_part_write g) option_part_laws
+pub option_write_laws : {X V : Type 0} (k : ℕ) (p : X → Type 0) (seen : X → V) (g : WriteGrammar V) → WriteLaws p seen g → WriteLaws (IfPart p) (option_map seen) (option_write k g)
+option_write_laws k p seen g l = tagged_write_laws (IfPart p) (option_map seen) k option_tag (option_part_write g) (option_part_laws p seen g l)
 
 module _ {X V W : Type 0} (p : X → Type 0) (ws : X → W) (w : WriteGrammar W) (rs : X → V) (r : ReadGrammar V) (l : ReadsBack p ws w rs r) where
   option_back : (o : Option X) (b : List ℕ) → IfPart p o → OptionWrites w.writes (option_map ws o) b → IfPart w.fits (option_map ws o) → OptionReads r.reads b (option_map rs o)
@@ -162,15 +218,18 @@ module _ {X V W : Type 0} (p : X → Type 0) (ws : X → W) (w : WriteGrammar W)
   option_same_tag None = refl
   option_same_tag (Some x) = refl
 
-  pub option_reads_back : ReadsBack (IfPart p) (option_map ws) (option_write w) (option_map rs) (option_read r)
-  option_reads_back = tagged_reads_back (IfPart p) (option_map ws) (option_part_write w) (option_map rs) (option_part_read r) 1 option_tag option_tag option_same_tag
-      (record { back = option_back; within = option_within; same_prealloc = l.same_prealloc; same_meta = refl })
+  option_part_back : ReadsBack (IfPart p) (option_map ws) (option_part_write w) (option_map rs) (option_part_read r)
+  option_part_back = record { back = option_back; within = option_within; same_prealloc = l.same_prealloc; same_meta = refl }
+
+pub option_reads_back : {X V W : Type 0} (k : ℕ) (p : X → Type 0) (ws : X → W) (w : WriteGrammar W) (rs : X → V) (r : ReadGrammar V) → ReadsBack p ws w rs r → ReadsBack (IfPart p) (option_map ws) (option_write k w) (option_map rs) (option_read k r)
+option_reads_back k p ws w rs r l =
+    tagged_reads_back (IfPart p) (option_map ws) (option_part_write w) (option_map rs) (option_part_read r) k option_tag option_tag (option_same_tag p ws w rs r l) (option_part_back p ws w rs r l)
 
 -- ---- results
 
-pub result_small : {V W : Type 0} (r : Result V W) → result_tag r < 256 ^ 4
-result_small (Ok v) = omega arith
-result_small (Err w) = omega arith
+pub result_small : {V W : Type 0} (k : ℕ) → 1 ≤ k → (r : Result V W) → result_tag r < 256 ^ k
+result_small k some (Ok v) = small_tag k some 0 (omega arith)
+result_small k some (Err w) = small_tag k some 1 (omega arith)
 
 -- the texts of both sides have one size
 side_sizes : {V W : Type 0} (g : ReadGrammar V) (h : ReadGrammar W) (a b : ℕ) → a ≡ b → ((t : List ℕ) (v : V) → g.reads t v → length t ≡ a) → ((t : List ℕ) (w : W) → h.reads t w → length t ≡ b)
@@ -185,19 +244,34 @@ sides_static {V} {W} g h (Static a x) (Static b y) i j =
     elim (nat_eq a b) as (λ t. (t ≡ true → a ≡ b) → IsReadStatic {V = Result V W} (SidesRead g.reads h.reads) (cond t (Static a false) Dynamic))
     [ true ↦ (λ e. (side_sizes g h a b (e refl) i.0 j.0, λ z. absurd (cc z))) | false ↦ (λ e. tt) ] (eqb-true a b)
 
-module _ {V W : Type 0} (p : V → Type 0) (q : W → Type 0) (g : ReadGrammar V) (h : ReadGrammar W) (l : ReadLaws p g) (m : ReadLaws q h) where
-  sides_one : (t : ℕ) → IsUnambiguous (IsCase result_tag (SidesRead g.reads h.reads) t)
-  sides_one t a b x y (Ok v) (Ok w) i j e = let r = l.one_front a b x y v w i.1 j.1 e in (r.0, ap (λ u. Ok u) r.1)
-  sides_one t a b x y (Ok v) (Err w) i j e = absurd (omega (arith, i.0, j.0))
-  sides_one t a b x y (Err v) (Ok w) i j e = absurd (omega (arith, i.0, j.0))
-  sides_one t a b x y (Err v) (Err w) i j e = let r = m.one_front a b x y v w i.1 j.1 e in (r.0, ap (λ u. Err u) r.1)
+module _ {V W : Type 0} {k : ℕ} {tag : V → ℕ} {other : W → ℕ} {p : V → Type 0} {q : W → Type 0} {g : ReadGrammar V} {h : ReadGrammar W} (l : CaseLaws k tag p g) (m : CaseLaws k other q h) where
+  sides_small : (r : Result V W) → sides_tag tag other r < 256 ^ k
+  sides_small (Ok v) = l.small v
+  sides_small (Err w) = m.small w
+
+  sides_one : ((v : V) (w : W) → tag v ≡ other w → ⊥) → (t : ℕ) → IsUnambiguous (IsCase (sides_tag tag other) (SidesRead g.reads h.reads) t)
+  sides_one apart t a b x y (Ok v) (Ok w) i j e = let r = l.one t a b x y v w i j e in (r.0, ap (λ u. Ok u) r.1)
+  sides_one apart t a b x y (Ok v) (Err w) i j e = absurd (apart v w (i.0 ∙ sym j.0))
+  sides_one apart t a b x y (Err v) (Ok w) i j e = absurd (apart w v (j.0 ∙ sym i.0))
+  sides_one apart t a b x y (Err v) (Err w) i j e = let r = m.one t a b x y v w i j e in (r.0, ap (λ u. Err u) r.1)
 
   sides_proper : (b : List ℕ) (r : Result V W) → SidesRead g.reads h.reads b r → IfSide p q r
   sides_proper b (Ok v) r = l.is_proper b v r
   sides_proper b (Err w) r = m.is_proper b w r
 
-  pub result_read_laws : ReadLaws (IfSide p q) (result_read g h)
-  result_read_laws = tagged_read_laws 4 result_tag result_small (sides_read g h) (IfSide p q) sides_one sides_proper (sides_static g h g.meta h.meta l.statics m.statics) (let a = l.prealloc in omega arith)
+  -- two sides, of which no two values have one tag
+  pub sides_cases : ((v : V) (w : W) → tag v ≡ other w → ⊥) → CaseLaws k (sides_tag tag other) (IfSide p q) (sides_read g h)
+  sides_cases apart = record {
+    small = sides_small;
+    one = sides_one apart;
+    is_proper = sides_proper;
+    statics = sides_static g h g.meta h.meta l.statics m.statics;
+    prealloc = let a = l.prealloc in omega arith;
+  }
+
+pub result_read_laws : {V W : Type 0} (k : ℕ) → 1 ≤ k → (p : V → Type 0) (q : W → Type 0) (g : ReadGrammar V) (h : ReadGrammar W) → ReadLaws p g → ReadLaws q h → ReadLaws (IfSide p q) (result_read k g h)
+result_read_laws k some p q g h l m =
+    cases_read_laws (sides_cases (one_case 0 (small_tag k some 0 (omega arith)) l) (one_case 1 (small_tag k some 1 (omega arith)) m) (λ v w e. omega arith))
 
 -- both sides of every value can be written
 sides_can : {X Y V W : Type 0} (p : X → Type 0) (q : Y → Type 0) (seen : X → V) (seen' : Y → W) (g : WriteGrammar V) (h : WriteGrammar W)
@@ -236,8 +310,9 @@ module _ {X Y V W : Type 0} (p : X → Type 0) (q : Y → Type 0) (seen : X → 
   pub sides_laws : WriteLaws (IfSide p q) (result_map_both seen seen') (sides_write g h)
   sides_laws = record { has_text = sides_text; text_size = sides_text_size; can_fit = sides_fit; statics = sides_write_static p q seen seen' g h g.meta h.meta l.statics m.statics }
 
-  pub result_write_laws : WriteLaws (IfSide p q) (result_map_both seen seen') (result_write g h)
-  result_write_laws = tagged_write_laws (IfSide p q) (result_map_both seen seen') 4 result_tag (sides_write g h) sides_laws
+pub result_write_laws : {X Y V W : Type 0} (k : ℕ) (p : X → Type 0) (q : Y → Type 0) (seen : X → V) (seen' : Y → W) (g : WriteGrammar V) (h : WriteGrammar W) → WriteLaws p seen g → WriteLaws q seen' h → WriteLaws (IfSide p q) (result_map_both seen seen') (result_write k g h)
+result_write_laws k p q seen seen' g h l m =
+    tagged_write_laws (IfSide p q) (result_map_both seen seen') k result_tag (sides_write g h) (sides_laws p q seen seen' g h l m)
 
 module _ {X Y V V' W W' : Type 0} (p : X → Type 0) (q : Y → Type 0) (ws : X → V') (w : WriteGrammar V') (rs : X → V) (r : ReadGrammar V) (ws' : Y → W') (w' : WriteGrammar W') (rs' : Y → W) (r' : ReadGrammar W) (l : ReadsBack p ws w rs r) (m : ReadsBack q ws' w' rs' r') where
   sides_back : (o : Result X Y) (b : List ℕ) → IfSide p q o → SidesWrite w.writes w'.writes (result_map_both ws ws' o) b → IfSide w.fits w'.fits (result_map_both ws ws' o) → SidesRead r.reads r'.reads b (result_map_both rs rs' o)
@@ -252,11 +327,25 @@ module _ {X Y V V' W W' : Type 0} (p : X → Type 0) (q : Y → Type 0) (ws : X 
   result_same_tag (Ok x) = refl
   result_same_tag (Err y) = refl
 
-  pub result_reads_back : ReadsBack (IfSide p q) (result_map_both ws ws') (result_write w w') (result_map_both rs rs') (result_read r r')
-  result_reads_back = tagged_reads_back (IfSide p q) (result_map_both ws ws') (sides_write w w') (result_map_both rs rs') (sides_read r r') 4 result_tag result_tag result_same_tag
-      (record {
-        back = sides_back;
-        within = sides_within;
-        same_prealloc = ap (λ n. max n w'.prealloc) l.same_prealloc ∙ ap (λ n. max r.prealloc n) m.same_prealloc;
-        same_meta = ap (λ n. sides_meta n w'.meta) l.same_meta ∙ ap (λ n. sides_meta r.meta n) m.same_meta;
-      })
+  -- sides without their tag
+  pub sides_reads_back : ReadsBack (IfSide p q) (result_map_both ws ws') (sides_write w w') (result_map_both rs rs') (sides_read r r')
+  sides_reads_back = record {
+    back = sides_back;
+    within = sides_within;
+    same_prealloc = ap (λ n. max n w'.prealloc) l.same_prealloc ∙ ap (λ n. max r.prealloc n) m.same_prealloc;
+    same_meta = ap (λ n. sides_meta n w'.meta) l.same_meta ∙ ap (λ n. sides_meta r.meta n) m.same_meta;
+  }
+
+pub result_reads_back : {X Y V V' W W' : Type 0} (k : ℕ) (p : X → Type 0) (q : Y → Type 0) (ws : X → V') (w : WriteGrammar V') (rs : X → V) (r : ReadGrammar V) (ws' : Y → W') (w' : WriteGrammar W') (rs' : Y → W) (r' : ReadGrammar W)
+    → ReadsBack p ws w rs r → ReadsBack q ws' w' rs' r' → ReadsBack (IfSide p q) (result_map_both ws ws') (result_write k w w') (result_map_both rs rs') (result_read k r r')
+result_reads_back k p q ws w rs r ws' w' rs' r' l m =
+    tagged_reads_back (IfSide p q) (result_map_both ws ws') (sides_write w w') (result_map_both rs rs') (sides_read r r') k result_tag result_tag
+    (result_same_tag p q ws w rs r ws' w' rs' r' l m) (sides_reads_back p q ws w rs r ws' w' rs' r' l m)
+
+-- ---- counted otherwise against a limit
+
+pub counted_laws : {X V : Type 0} {p : X → Type 0} {seen : X → V} {g : WriteGrammar V} (n : ℕ) → WriteLaws p seen g → WriteLaws p seen (counted_write n g)
+counted_laws n l = record { has_text = l.has_text; text_size = l.text_size; can_fit = l.can_fit; statics = l.statics }
+
+pub counted_reads_back : {X V W : Type 0} {p : X → Type 0} {ws : X → W} {w : WriteGrammar W} {rs : X → V} {r : ReadGrammar V} (n : ℕ) → ReadsBack p ws w rs r → ReadsBack p ws (counted_write n w) rs (counted_read n r)
+counted_reads_back n l = record { back = l.back; within = l.within; same_prealloc = refl; same_meta = l.same_meta }

@@ -1,5 +1,5 @@
 -- The grammars of a tag and then what it names.
-use Rattle.std.specs.Prelude.{◌≡◌, ◌⊎◌, ℕ, ◌+◌, ◌≤◌, ◌&&◌, true, false, List, [], ◌++◌, max, nat_eq, if◌then◌else◌, Option, Some, None, Result, Ok, Err}
+use Rattle.std.specs.Prelude.{◌≡◌, ◌⊎◌, ℕ, ◌+◌, ◌-◌, ◌^◌, ◌≤◌, ◌&&◌, true, false, List, [], ◌++◌, max, nat_eq, if◌then◌else◌, Option, Some, None, Result, Ok, Err}
 use Rattle.wincode_io.specs.Readers.{ReaderState, IsShort, IsRefused}
 use Rattle.wincode_io.specs.Numbers.{le}
 use Rattle.wincode.specs.Grammar.{ReadGrammar, WriteGrammar}
@@ -9,6 +9,14 @@ use Rattle.wincode.specs.Outcomes.{Gives, Refusal, IsReadRefused}
 use Rattle.wincode.specs.declared.meta.TypeMeta.{TypeMeta}
 use Rattle.wincode.specs.declared.meta.TypeMeta.TheVariants.{Static, Dynamic}
 use Rattle.wincode.specs.declared.error.ReadError.TheVariants as reading
+
+-- how many bytes a tag has
+abbrev pub IsTagSize : ℕ → Type 0
+IsTagSize k = (k ≡ 1) ⊎ ((k ≡ 2) ⊎ ((k ≡ 4) ⊎ (k ≡ 8)))
+
+-- the greatest tag of k bytes
+abbrev pub greatest_tag : ℕ → ℕ
+greatest_tag k = 256 ^ k - 1
 
 -- A tag of k bytes, and then what it names: `tag` says which tag a value has, and `part` what stands behind it.
 abbrev pub tagged_read : {V : Type 0} → ℕ → (V → ℕ) → ReadGrammar V → ReadGrammar V
@@ -31,12 +39,18 @@ tagged_write k tag part = record {
   own = part.own;
 }
 
--- A tag of k bytes was refused: too few bytes are left, and they stay; or the tag, which was read, is none of the first
--- `count`.
-abbrev pub IsTagRefused : ℕ → ℕ → Refusal
-IsTagRefused k count old new (reading.Io e) = IsRefused (IsShort k old) ⊥ k old new e
-IsTagRefused k count old new (reading.InvalidTagEncoding t) = (count ≤ t) × Gives (number_read k true).reads old new t
-IsTagRefused k count old new _ = ⊥
+-- the same, of which each value counts n against a limit
+abbrev pub counted_read : {V : Type 0} → ℕ → ReadGrammar V → ReadGrammar V
+counted_read n g = record { reads = g.reads; meta = g.meta; prealloc = n; asks = g.asks; sparing = g.sparing }
+
+abbrev pub counted_write : {V : Type 0} → ℕ → WriteGrammar V → WriteGrammar V
+counted_write n g = record { writes = g.writes; can = g.can; size = g.size; fits = g.fits; meta = g.meta; prealloc = n; own = g.own }
+
+-- A tag of k bytes was refused: too few bytes are left, and they stay; or the tag, which was read, names nothing.
+abbrev pub IsTagRefused : ℕ → (ℕ → Type 0) → Refusal
+IsTagRefused k nameless old new (reading.Io e) = IsRefused (IsShort k old) ⊥ k old new e
+IsTagRefused k nameless old new (reading.InvalidTagEncoding t) = nameless t × Gives (number_read k true).reads old new t
+IsTagRefused k nameless old new _ = ⊥
 
 -- behind the tag t of k bytes, which was read, what it names was refused, as its schema says
 abbrev pub IsRefusedBehind : {V : Type 0} → ℕ → ℕ → ReadGrammar V → Refusal → Refusal
@@ -62,9 +76,9 @@ option_part_read g = record {
   sparing = g.sparing;
 }
 
--- None is the tag 0, in one byte, and Some the tag 1 and then its value.
-abbrev pub option_read : {V : Type 0} → ReadGrammar V → ReadGrammar (Option V)
-option_read g = tagged_read 1 option_tag (option_part_read g)
+-- None is the tag 0, in k bytes, and Some the tag 1 and then its value.
+abbrev pub option_read : {V : Type 0} → ℕ → ReadGrammar V → ReadGrammar (Option V)
+option_read k g = tagged_read k option_tag (option_part_read g)
 
 abbrev pub OptionWrites : {V : Type 0} → (V → List ℕ → Type 0) → Option V → List ℕ → Type 0
 OptionWrites writes None b = b ≡ []
@@ -89,18 +103,22 @@ option_part_write g = record {
   own = g.own;
 }
 
-abbrev pub option_write : {V : Type 0} → WriteGrammar V → WriteGrammar (Option V)
-option_write g = tagged_write 1 option_tag (option_part_write g)
+abbrev pub option_write : {V : Type 0} → ℕ → WriteGrammar V → WriteGrammar (Option V)
+option_write k g = tagged_write k option_tag (option_part_write g)
 
 -- an option was refused: its tag; or, behind the tag 1, its value
-abbrev pub IsOptionRefused : {V : Type 0} → ReadGrammar V → Refusal → Refusal
-IsOptionRefused g refusal old new e = IsTagRefused 1 2 old new e ⊎ IsRefusedBehind 1 1 g refusal old new e
+abbrev pub IsOptionRefused : {V : Type 0} → ℕ → ReadGrammar V → Refusal → Refusal
+IsOptionRefused k g refusal old new e = IsTagRefused k (λ t. 2 ≤ t) old new e ⊎ IsRefusedBehind k 1 g refusal old new e
 
 -- ---- results
 
+-- the tag of a side, by those of what may stand there
+abbrev pub sides_tag : {V W : Type 0} → (V → ℕ) → (W → ℕ) → Result V W → ℕ
+sides_tag tag other (Ok v) = tag v
+sides_tag tag other (Err w) = other w
+
 abbrev pub result_tag : {V W : Type 0} → Result V W → ℕ
-result_tag (Ok v) = 0
-result_tag (Err w) = 1
+result_tag = sides_tag (λ v. 0) (λ w. 1)
 
 -- the size that both sides have, if they have one
 abbrev pub sides_meta : TypeMeta → TypeMeta → TypeMeta
@@ -122,9 +140,9 @@ sides_read g h = record {
   sparing = g.sparing && h.sparing;
 }
 
--- Ok is the tag 0, in four bytes, and then its value, and Err the tag 1 and then its error.
-abbrev pub result_read : {V W : Type 0} → ReadGrammar V → ReadGrammar W → ReadGrammar (Result V W)
-result_read g h = tagged_read 4 result_tag (sides_read g h)
+-- Ok is the tag 0, in k bytes, and then its value, and Err the tag 1 and then its error.
+abbrev pub result_read : {V W : Type 0} → ℕ → ReadGrammar V → ReadGrammar W → ReadGrammar (Result V W)
+result_read k g h = tagged_read k result_tag (sides_read g h)
 
 abbrev pub SidesWrite : {V W : Type 0} → (V → List ℕ → Type 0) → (W → List ℕ → Type 0) → Result V W → List ℕ → Type 0
 SidesWrite writes others (Ok v) b = writes v b
@@ -149,9 +167,10 @@ sides_write g h = record {
   own = g.own && h.own;
 }
 
-abbrev pub result_write : {V W : Type 0} → WriteGrammar V → WriteGrammar W → WriteGrammar (Result V W)
-result_write g h = tagged_write 4 result_tag (sides_write g h)
+abbrev pub result_write : {V W : Type 0} → ℕ → WriteGrammar V → WriteGrammar W → WriteGrammar (Result V W)
+result_write k g h = tagged_write k result_tag (sides_write g h)
 
 -- a result was refused: its tag; or, behind it, the side that it names
-abbrev pub IsResultRefused : {V W : Type 0} → ReadGrammar V → Refusal → ReadGrammar W → Refusal → Refusal
-IsResultRefused g one h other old new e = IsTagRefused 4 2 old new e ⊎ (IsRefusedBehind 4 0 g one old new e ⊎ IsRefusedBehind 4 1 h other old new e)
+abbrev pub IsResultRefused : {V W : Type 0} → ℕ → ReadGrammar V → Refusal → ReadGrammar W → Refusal → Refusal
+IsResultRefused k g one h other old new e = IsTagRefused k (λ t. 2 ≤ t) old new e
+    ⊎ (IsRefusedBehind k 0 g one old new e ⊎ IsRefusedBehind k 1 h other old new e)

@@ -20,6 +20,7 @@ ghost use Rattle.wincode.specs.ScatteredLaws.{scattered_write_laws};
 ghost use Rattle.wincode.specs.Sizes.{item_size};
 
 mod pod;
+mod tagged;
 
 use crate::error::{ReadResult, WriteResult};
 use crate::io::{Lending, Reader, Writer};
@@ -32,7 +33,8 @@ use crate::schema::{RoundTrip, SchemaRead, SchemaWrite};
 pub use pod::Pod;
 use std::alloc::Global;
 use std::marker::PhantomData;
-use std::{boxed, collections, rc, vec};
+use std::{boxed, collections, option, rc, vec};
+pub use tagged::{Option, Result};
 
 /// A `Vec` behind such a length.
 pub struct Vec<T, Len>(PhantomData<(T, Len)>);
@@ -89,7 +91,7 @@ impl<L: Lending, T: SchemaRead<L>, Len: SeqLen> SchemaRead<L> for Vec<T, Len> {
     fn read<R: Reader<L>>(
         alloc: Global,
         reader: &mut R,
-        dst: &mut Option<vec::Vec<T::Dst>>,
+        dst: &mut option::Option<vec::Vec<T::Dst>>,
     ) -> ReadResult<()> {
         *dst = Some(get_list::<vec::Vec<T::Dst>, Len, L, T, R>(alloc, reader)?);
         Ok(())
@@ -162,7 +164,7 @@ impl<L: Lending, T: SchemaRead<L>, Len: SeqLen> SchemaRead<L> for VecDeque<T, Le
     fn read<R: Reader<L>>(
         alloc: Global,
         reader: &mut R,
-        dst: &mut Option<collections::VecDeque<T::Dst>>,
+        dst: &mut option::Option<collections::VecDeque<T::Dst>>,
     ) -> ReadResult<()> {
         *dst = Some(get_list::<collections::VecDeque<T::Dst>, Len, L, T, R>(alloc, reader)?);
         Ok(())
@@ -235,7 +237,7 @@ impl<L: Lending, T: SchemaRead<L>, Len: SeqLen> SchemaRead<L> for BoxedSlice<T, 
     fn read<R: Reader<L>>(
         alloc: Global,
         reader: &mut R,
-        dst: &mut Option<boxed::BoxedSlice<T::Dst>>,
+        dst: &mut option::Option<boxed::BoxedSlice<T::Dst>>,
     ) -> ReadResult<()> {
         *dst = Some(get_list::<boxed::BoxedSlice<T::Dst>, Len, L, T, R>(alloc, reader)?);
         Ok(())
@@ -308,7 +310,7 @@ impl<L: Lending, T: SchemaRead<L>, Len: SeqLen> SchemaRead<L> for RcSlice<T, Len
     fn read<R: Reader<L>>(
         alloc: Global,
         reader: &mut R,
-        dst: &mut Option<rc::RcSlice<T::Dst>>,
+        dst: &mut option::Option<rc::RcSlice<T::Dst>>,
     ) -> ReadResult<()> {
         *dst = Some(get_list::<rc::RcSlice<T::Dst>, Len, L, T, R>(alloc, reader)?);
         Ok(())
@@ -387,7 +389,7 @@ where
     fn read<R: Reader<L>>(
         alloc: Global,
         reader: &mut R,
-        dst: &mut Option<collections::BinaryHeap<T::Dst>>,
+        dst: &mut option::Option<collections::BinaryHeap<T::Dst>>,
     ) -> ReadResult<()> {
         *dst = Some(get_list::<collections::BinaryHeap<T::Dst>, Len, L, T, R>(alloc, reader)?);
         Ok(())
@@ -463,7 +465,7 @@ impl<L: Lending, T: SchemaRead<L>> SchemaRead<L> for Elem<T> {
     fn read<R: Reader<L>>(
         alloc: Global,
         reader: &mut R,
-        dst: &mut Option<T::Dst>,
+        dst: &mut option::Option<T::Dst>,
     ) -> ReadResult<()> {
         T::read::<R>(alloc, reader, dst)
     }

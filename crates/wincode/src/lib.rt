@@ -12,6 +12,7 @@ pub mod meta;
 pub mod schema;
 pub mod serde;
 pub mod shape;
+pub mod tag;
 
 pub use calls::{
     deserialize, deserialize_from, deserialize_mut, serialize, serialize_into, serialized_size,
@@ -22,5 +23,6 @@ pub use markers::{OneText, SchemaReadOwned};
 pub use meta::TypeMeta;
 pub use schema::{RoundTrip, SchemaGet, SchemaRead, SchemaWrite};
 pub use shape::{By, Shape};
+pub use tag::{TagCode, read_tag, write_tag};
 pub use wincode_io as io;
 pub use wincode_io::ZeroCopy;

@@ -11,6 +11,7 @@ use crate::containers::{self, Pod};
 use crate::io::{Borrowed, Lending, SliceView, View, ZeroCopy};
 use crate::len::{SeqLen, ShortU16};
 use crate::markers::OneText;
+use crate::tag::TagCode;
 use std::collections::{LinkedList, VecDeque};
 use std::marker::PhantomData;
 use std::rc::Rc;
@@ -92,11 +93,20 @@ impl<L: Lending> OneText<L> for ShortU16 {
 }
 
 impl<L: Lending, T: OneText<L>> OneText<L> for Option<T> {
-    ghost one_text = { option_one_text T.one_text };
+    ghost one_text = { option_one_text 1 T.one_text };
 }
 
 impl<L: Lending, T: OneText<L>, E: OneText<L>> OneText<L> for Result<T, E> {
-    ghost one_text = { result_one_text T.one_text E.one_text };
+    ghost one_text = { result_one_text 4 T.one_text E.one_text };
+}
+
+impl<L: Lending, T: OneText<L>, Tag: TagCode> OneText<L> for containers::Option<T, Tag> {
+    ghost one_text = { option_one_text Tag.size T.one_text };
+}
+
+impl<L: Lending, T: OneText<L>, E: OneText<L>, Tag: TagCode> OneText<L>
+    for containers::Result<T, E, Tag> {
+    ghost one_text = { result_one_text Tag.size T.one_text E.one_text };
 }
 
 impl<L: Lending, T: OneText<L>> OneText<L> for Box<T> {

@@ -7,6 +7,7 @@ use crate::io::{Lending, ZeroCopy};
 use crate::keys::Key;
 use crate::len::{SeqLen, ShortU16};
 use crate::markers::SchemaReadOwned;
+use crate::tag::TagCode;
 use std::collections::{BTreeMap, BTreeSet, BinaryHeap, HashMap, HashSet, LinkedList, VecDeque};
 use std::hash::Hash;
 use std::marker::PhantomData;
@@ -89,6 +90,16 @@ impl<L: Lending, T: SchemaReadOwned<L>> SchemaReadOwned<L> for Option<T> {
 }
 
 impl<L: Lending, T: SchemaReadOwned<L>, E: SchemaReadOwned<L>> SchemaReadOwned<L> for Result<T, E> {
+    ghost owned = { both_owned T.owned E.owned };
+}
+
+impl<L: Lending, T: SchemaReadOwned<L>, Tag: TagCode> SchemaReadOwned<L>
+    for containers::Option<T, Tag> {
+    ghost owned = { T.owned };
+}
+
+impl<L: Lending, T: SchemaReadOwned<L>, E: SchemaReadOwned<L>, Tag: TagCode> SchemaReadOwned<L>
+    for containers::Result<T, E, Tag> {
     ghost owned = { both_owned T.owned E.owned };
 }
 

@@ -1,0 +1,168 @@
+//! `Option` and `Result` behind a tag by a scheme of choice.
+ghost use Rattle.std.specs.Prelude.{◌≡◌, false, Option, Result};
+ghost use Rattle.std.specs.Option.{option_map};
+ghost use Rattle.std.specs.Result.{result_map_both};
+ghost use Rattle.wincode.specs.Tags.{option_read, option_write, IfPart, IsOptionRefused, result_read, result_write, IfSide, IsResultRefused};
+ghost use Rattle.wincode.specs.TagLaws.{some_bytes, option_read_laws, option_write_laws, option_reads_back, result_read_laws, result_write_laws, result_reads_back};
+
+use crate::error::{ReadResult, WriteResult};
+use crate::io::{Lending, Reader, Writer};
+use crate::meta::TypeMeta;
+use crate::schema::tags::{
+    get_option, get_result, result_meta, size_of_option, size_of_result, write_option, write_result,
+};
+use crate::schema::{RoundTrip, SchemaRead, SchemaWrite};
+use crate::tag::TagCode;
+use std::alloc::Global;
+use std::marker::PhantomData;
+use std::{option, result};
+
+/// An `Option` is such a tag, 0 for `None` and 1 for `Some`, and then the value, if there is one.
+pub struct Option<T, Tag>(PhantomData<(T, Tag)>);
+
+impl<T: SchemaWrite, Tag: TagCode> SchemaWrite for Option<T, Tag> {
+    type Src = option::Option<T::Src>;
+
+    ghost Value = { Option T.Value };
+
+    ghost seen = { option_map T.seen };
+
+    ghost proper = { IfPart T.proper };
+
+    ghost writing = { option_write Tag.size T.writing };
+
+    ghost in_one_piece = { false };
+
+    fn type_meta() -> TypeMeta {
+        TypeMeta::Dynamic
+    }
+
+    fn size_of(src: &option::Option<T::Src>) -> WriteResult<usize> {
+        size_of_option::<Tag, T>(src)
+    }
+
+    fn write<W: Writer>(writer: &mut W, src: &option::Option<T::Src>) -> WriteResult<()> {
+        write_option::<Tag, T, W>(writer, src)
+    }
+
+    ghost write_laws = { option_write_laws Tag.size T.proper T.seen T.writing T.write_laws };
+}
+
+impl<L: Lending, T: SchemaRead<L>, Tag: TagCode> SchemaRead<L> for Option<T, Tag> {
+    type Dst = option::Option<T::Dst>;
+
+    ghost Value = { Option T.Value };
+
+    ghost seen = { option_map T.seen };
+
+    ghost proper = { IfPart T.proper };
+
+    ghost reading = { option_read Tag.size T.reading };
+
+    ghost refusal = { IsOptionRefused Tag.size T.reading T.refusal };
+
+    fn type_meta() -> TypeMeta {
+        TypeMeta::Dynamic
+    }
+
+    fn prealloc_size() -> usize {
+        T::prealloc_size()
+    }
+
+    /// A tag that is neither 0 nor 1 is consumed, and is `InvalidTagEncoding`; fewer bytes than a tag
+    /// has stay. A refused value leaves the reader behind its tag, at the least.
+    fn read<R: Reader<L>>(
+        alloc: Global,
+        reader: &mut R,
+        dst: &mut option::Option<option::Option<T::Dst>>,
+    ) -> ReadResult<()> {
+        *dst = Some(get_option::<Tag, L, T, R>(alloc, reader)?);
+        Ok(())
+    }
+
+    ghost read_laws = { option_read_laws Tag.size (some_bytes Tag.tag_law) T.proper T.reading T.read_laws };
+}
+
+impl<L: Lending, T: RoundTrip<L>, Tag: TagCode> RoundTrip<L> for Option<T, Tag>
+where
+    T::Src: Drop,
+{
+    ghost reads_back = { option_reads_back Tag.size T.SchemaWrite.proper T.SchemaWrite.seen T.SchemaWrite.writing T.SchemaRead.seen T.SchemaRead.reading T.reads_back };
+}
+
+/// A `Result` is such a tag, 0 for `Ok` and 1 for `Err`, and then the value or the error.
+pub struct Result<T, E, Tag>(PhantomData<(T, E, Tag)>);
+
+impl<T: SchemaWrite, E: SchemaWrite, Tag: TagCode> SchemaWrite for Result<T, E, Tag> {
+    type Src = result::Result<T::Src, E::Src>;
+
+    ghost Value = { Result T.Value E.Value };
+
+    ghost seen = { result_map_both T.seen E.seen };
+
+    ghost proper = { IfSide T.proper E.proper };
+
+    ghost writing = { result_write Tag.size T.writing E.writing };
+
+    ghost in_one_piece = { false };
+
+    fn type_meta() -> TypeMeta {
+        result_meta(Tag::tag_size(), T::type_meta(), E::type_meta())
+    }
+
+    fn size_of(src: &result::Result<T::Src, E::Src>) -> WriteResult<usize> {
+        size_of_result::<Tag, T, E>(src)
+    }
+
+    fn write<W: Writer>(writer: &mut W, src: &result::Result<T::Src, E::Src>) -> WriteResult<()> {
+        write_result::<Tag, T, E, W>(writer, src)
+    }
+
+    ghost write_laws = { result_write_laws Tag.size T.proper E.proper T.seen E.seen T.writing E.writing T.write_laws E.write_laws };
+}
+
+impl<L: Lending, T: SchemaRead<L>, E: SchemaRead<L>, Tag: TagCode> SchemaRead<L>
+    for Result<T, E, Tag> {
+    type Dst = result::Result<T::Dst, E::Dst>;
+
+    ghost Value = { Result T.Value E.Value };
+
+    ghost seen = { result_map_both T.seen E.seen };
+
+    ghost proper = { IfSide T.proper E.proper };
+
+    ghost reading = { result_read Tag.size T.reading E.reading };
+
+    ghost refusal = { IsResultRefused Tag.size T.reading T.refusal E.reading E.refusal };
+
+    fn type_meta() -> TypeMeta {
+        result_meta(Tag::tag_size(), T::type_meta(), E::type_meta())
+    }
+
+    fn prealloc_size() -> usize {
+        T::prealloc_size().max(E::prealloc_size())
+    }
+
+    /// A tag that is neither 0 nor 1 is consumed, and is `InvalidTagEncoding`; fewer bytes than a tag
+    /// has stay. A refused side leaves the reader behind its tag, at the least.
+    fn read<R: Reader<L>>(
+        alloc: Global,
+        reader: &mut R,
+        dst: &mut option::Option<result::Result<T::Dst, E::Dst>>,
+    ) -> ReadResult<()> {
+        *dst = Some(get_result::<Tag, L, T, E, R>(alloc, reader)?);
+        Ok(())
+    }
+
+    ghost read_laws = { result_read_laws Tag.size (some_bytes Tag.tag_law) T.proper E.proper T.reading E.reading T.read_laws E.read_laws };
+}
+
+impl<L: Lending, T: RoundTrip<L>, E: RoundTrip<L>, Tag: TagCode> RoundTrip<L> for Result<T, E, Tag>
+where
+    T::Src: Drop,
+    E::Src: Drop,
+{
+    ghost reads_back = { result_reads_back Tag.size T.SchemaWrite.proper E.SchemaWrite.proper T.SchemaWrite.seen
+        T.SchemaWrite.writing T.SchemaRead.seen T.SchemaRead.reading E.SchemaWrite.seen E.SchemaWrite.writing
+        E.SchemaRead.seen E.SchemaRead.reading T.reads_back E.reads_back };
+}
