@@ -97,13 +97,13 @@ tagged_texts k tag part v b w = (w.1, w.3, w.4 ∙ ap (λ x. x ++ w.1) w.2)
 
 module _ {S K : Type 0} {put : S → List ℕ → S} {room : S → ℕ} (laws : WriterLaws put room) where
   module _ {X V : Type 0} {p : X → Type 0} {seen : X → V} (k : ℕ) (tag : V → ℕ) (part : WriteGrammar V) (l : WriteLaws p seen part) {old : WriterState put room K} (v : V) where
-    tagged_wrote : {mid new : WriterState put room K} → Wrote (number_write k true) old mid (tag v) → Wrote part mid new v → Wrote (tagged_write k tag part) old new v
+    pub tagged_wrote : {mid new : WriterState put room K} → Wrote (number_write k true) old mid (tag v) → Wrote part mid new v → Wrote (tagged_write k tag part) old new v
     tagged_wrote r s = wrote_map (tag_and_part k part) (tagged_write k tag part) (tag v, v) v (λ c. c.1) refl (tagged_texts k tag part v) (pair_wrote (number_write_laws k true) l laws r s)
 
-    tag_unwritten : {new : WriterState put room K} {e : WriteError} → Unwritten (number_write k true) old new (tag v) e → Unwritten (tagged_write k tag part) old new v e
+    pub tag_unwritten : {new : WriterState put room K} {e : WriteError} → Unwritten (number_write k true) old new (tag v) e → Unwritten (tagged_write k tag part) old new v e
     tag_unwritten u = unwritten_map (tag_and_part k part) (tagged_write k tag part) (tag v, v) v (λ c. (tt, c)) refl (tagged_texts k tag part v) (pair_unwritten_first (number_write_laws k true) l v u)
 
-    part_unwritten : {mid new : WriterState put room K} {e : WriteError} → Wrote (number_write k true) old mid (tag v) → Unwritten part mid new v e → Unwritten (tagged_write k tag part) old new v e
+    pub part_unwritten : {mid new : WriterState put room K} {e : WriteError} → Wrote (number_write k true) old mid (tag v) → Unwritten part mid new v e → Unwritten (tagged_write k tag part) old new v e
     part_unwritten r u = unwritten_map (tag_and_part k part) (tagged_write k tag part) (tag v, v) v (λ c. (tt, c)) refl (tagged_texts k tag part v) (pair_unwritten_second (number_write_laws k true) l laws r u)
 
   module _ {X V : Type 0} (k : ℕ) {p : X → Type 0} {seen : X → V} {g : WriteGrammar V} (l : WriteLaws p seen g) {old : WriterState put room K} (v : V) where

@@ -1,2 +1,3 @@
 pub mod Shapes
 mod Faulty
+mod Cases

@@ -2,6 +2,7 @@
 //! `wincode_show explain SHAPE`: writes its parts, a line each.
 #![tactic(auto)]
 
+mod change;
 mod entry;
 mod event;
 mod explaining;

@@ -1,4 +1,5 @@
 //! The program and its schemas: worked rows, and what is refused.
+mod events;
 mod explaining;
 mod faults;
 mod labels;

@@ -1,5 +1,5 @@
 //! Structs and an enum by their shape: what they are written as, and that it is copied from a reader as it was read.
-use crate::event::Event;
+use crate::change::Change;
 use crate::transfer::{Account, Day, Payment, Transfer};
 use std::alloc::Global;
 use std::test::Fail;
@@ -46,14 +46,14 @@ fn shapes_written_as_their_parts(rt: HostRuntime) -> Result<(), Fail> {
     };
     let text = <By<Day> as Serialize>::serialize(alloc, &day)?;
     assert!(rt; text == bytes_of(alloc, DAY)?);
-    for (event, digits) in [
-        (Event::Closed(5), "000000000500000000000000"),
+    for (change, digits) in [
+        (Change::Closed(5), "000000000500000000000000"),
         (
-            Event::Named(String::from_str(alloc, "a")?),
+            Change::Named(String::from_str(alloc, "a")?),
             "01000000010000000000000061",
         ),
     ] {
-        let text = <By<Event> as Serialize>::serialize(alloc, &event)?;
+        let text = <By<Change> as Serialize>::serialize(alloc, &change)?;
         assert!(rt; text == bytes_of(alloc, digits)?, "{digits}");
     }
     Ok(())
@@ -66,7 +66,7 @@ fn copied(alloc: Global, name: &str, digits: &str) -> Result<String, Fail> {
     let text = match name {
         "Transfer" => copy_shape(alloc, &mut reader),
         "Day" => copy_front::<wincode::io::Lifetime, &[u8], By<Day>>(alloc, &mut reader),
-        _ => copy_front::<wincode::io::Lifetime, &[u8], By<Event>>(alloc, &mut reader),
+        _ => copy_front::<wincode::io::Lifetime, &[u8], By<Change>>(alloc, &mut reader),
     };
     let left = reader.len();
     outcome(alloc, text, left)
@@ -83,15 +83,15 @@ fn shapes_copied(rt: HostRuntime) -> Result<(), Fail> {
     for (name, digits) in [
         ("Transfer", TRANSFER),
         ("Day", DAY),
-        ("Event", "000000000500000000000000"),
-        ("Event", "01000000010000000000000061"),
+        ("Change", "000000000500000000000000"),
+        ("Change", "01000000010000000000000061"),
     ] {
         let wanted = format!(in alloc; "ok 0 {digits}")?;
         assert!(rt; copied(alloc, name, digits)? == wanted, "{name}");
     }
     for (name, digits, wanted) in [
-        ("Event", "0200000009", "err InvalidTagEncoding(2) 1"),
-        ("Event", "0000000009", "err Io(ReadSizeLimit(8)) 1"),
+        ("Change", "0200000009", "err InvalidTagEncoding(2) 1"),
+        ("Change", "0000000009", "err Io(ReadSizeLimit(8)) 1"),
         (
             "Day",
             "070000000100000000000000ff",

@@ -1,0 +1,90 @@
+-- Reading and writing one of three cases, by its tag.
+use Rattle.std.proofs.Common.{◌≡◌, ◌∙◌, sym, subst, ℕ, ◌<◌, ◌≤◌, ◌^◌, ◌&&◌, true, List, max, refl, arith, Result, Ok, Err}
+use Rattle.wincode_io.specs.Readers.{ReaderState}
+use Rattle.wincode_io.specs.Writers.{WriterState, WriterLaws}
+use Rattle.wincode.specs.Grammar.{ReadGrammar, WriteGrammar, WriteLaws}
+use Rattle.wincode.specs.Leaves.{number_read, number_write}
+use Rattle.wincode.specs.Outcomes.{Gives, Refuses, Wrote, Unwritten}
+use Rattle.wincode.specs.PairLaws.{le_max_left, le_max_right, both_left, both_right}
+use Rattle.wincode.specs.Sequences.{gives_map, refuses_map}
+use Rattle.wincode.specs.Tags.{counted_read, counted_write, sides_read, sides_write}
+use Rattle.wincode.specs.TagLaws.{IsCase, tagged_gives, case_refused, bad_tag}
+use Rattle.wincode.specs.WriteSequences.{wrote_map, unwritten_map}
+use Rattle.wincode.specs.declared.error.ReadError.{ReadError}
+use Rattle.wincode.specs.declared.error.ReadError.TheVariants as reading
+use Rattle.wincode.specs.declared.error.WriteError.{WriteError}
+use Rattle.wincode.proofs.Tags.{tagged_wrote, tag_unwritten, part_unwritten}
+use Rattle.wincode_show.specs.Cases.{Three, three_tag, AreTags, IsNoTag, three_read, three_write}
+
+module _ {A B C : Type 0} {k a b c : ℕ} (n : ℕ) (t : AreTags k a b c) (g : ReadGrammar A) (h : ReadGrammar B) (i : ReadGrammar C) where
+  abbrev Part : List ℕ → Three A B C → Type 0
+  Part = (sides_read g (sides_read h i)).reads
+
+  abbrev Whole : List ℕ → Three A B C → Type 0
+  Whole = (three_read k a b c n g h i).reads
+
+  small : (v : Three A B C) → three_tag a b c v < 256 ^ k
+  small (Ok v) = t.first
+  small (Err (Ok v)) = t.second
+  small (Err (Err v)) = t.third
+
+  gives : (old mid new : ReaderState) (u : ℕ) (v : Three A B C) → three_tag a b c v ≡ u → Gives (number_read k true).reads old mid u → Gives Part mid new v → Gives Whole old new v
+  gives old mid new u v e r s = tagged_gives k (three_tag a b c) small (counted_read n (sides_read g (sides_read h i))) old mid new u v e r s
+
+  pub first_gives : (old mid new : ReaderState) (v : A) (u : ℕ) → u ≡ a → Gives (number_read k true).reads old mid u → Gives g.reads mid new v → Gives Whole old new (Ok v)
+  first_gives old mid new v u e r s = gives old mid new u (Ok v) (sym e) r (gives_map g.reads Part mid new v (Ok v) (λ b w. w) s)
+
+  pub second_gives : (old mid new : ReaderState) (v : B) (u : ℕ) → u ≡ b → Gives (number_read k true).reads old mid u → Gives h.reads mid new v → Gives Whole old new (Err (Ok v))
+  second_gives old mid new v u e r s = gives old mid new u (Err (Ok v)) (sym e) r (gives_map h.reads Part mid new v (Err (Ok v)) (λ b w. w) s)
+
+  of_first : (u : ℕ) → u ≡ a → (x : List ℕ) (v : Three A B C) → IsCase (three_tag a b c) Part u x v → (w : A) × g.reads x w
+  of_first u e x (Ok v) r = (v, r.1)
+  of_first u e x (Err (Ok v)) r = absurd (t.first_second (sym e ∙ sym r.0))
+  of_first u e x (Err (Err v)) r = absurd (t.first_third (sym e ∙ sym r.0))
+
+  of_second : (u : ℕ) → u ≡ b → (x : List ℕ) (v : Three A B C) → IsCase (three_tag a b c) Part u x v → (w : B) × h.reads x w
+  of_second u e x (Ok v) r = absurd (t.first_second (r.0 ∙ e))
+  of_second u e x (Err (Ok v)) r = (v, r.1)
+  of_second u e x (Err (Err v)) r = absurd (t.second_third (sym e ∙ sym r.0))
+
+  abbrev Refused : ReaderState → ReaderState → ReadError → Type 0
+  Refused old new e = Refuses Whole (max g.asks (max h.asks i.asks)) (g.sparing && (h.sparing && i.sparing)) old new e
+
+  pub first_refused : (old mid new : ReaderState) (u : ℕ) (e : ReadError) → u ≡ a → Gives (number_read k true).reads old mid u → Refuses g.reads g.asks g.sparing mid new e → Refused old new e
+  first_refused old mid new u e is r s =
+      case_refused k (three_tag a b c) small (counted_read n (sides_read g (sides_read h i))) g.asks g.sparing old mid new u e (le_max_left g.asks (max h.asks i.asks)) (both_left g.sparing (h.sparing && i.sparing)) r
+      (refuses_map g.reads (IsCase (three_tag a b c) Part u) g.asks g.sparing mid new e (of_first u is) s)
+
+  pub second_refused : (old mid new : ReaderState) (u : ℕ) (e : ReadError) → u ≡ b → Gives (number_read k true).reads old mid u → Refuses h.reads h.asks h.sparing mid new e → Refused old new e
+  second_refused old mid new u e is r s =
+      let asks : h.asks ≤ max g.asks (max h.asks i.asks) = omega (arith, le_max_left h.asks i.asks, le_max_right g.asks (max h.asks i.asks)) in
+      case_refused k (three_tag a b c) small (counted_read n (sides_read g (sides_read h i))) h.asks h.sparing old mid new u e asks (λ x. both_right g.sparing (h.sparing && i.sparing) (both_left h.sparing i.sparing x)) r
+      (refuses_map h.reads (IsCase (three_tag a b c) Part u) h.asks h.sparing mid new e (of_second u is) s)
+
+  nothing : (u : ℕ) → IsNoTag a b c u → (v : Three A B C) → three_tag a b c v ≡ u → ⊥
+  nothing u z (Ok v) e = z.first (sym e)
+  nothing u z (Err (Ok v)) e = z.second (sym e)
+  nothing u z (Err (Err v)) e = z.third (sym e)
+
+  pub none_refused : (old new : ReaderState) (u m : ℕ) → IsNoTag a b c u → Gives (number_read k true).reads old new u → Refused old new (reading.InvalidTagEncoding m)
+  none_refused old new u m z r = bad_tag k (three_tag a b c) small (counted_read n (sides_read g (sides_read h i))) old new u m (nothing u z) r
+
+module _ {S K : Type 0} {put : S → List ℕ → S} {room : S → ℕ} (laws : WriterLaws put room) {X A B C : Type 0} {p : X → Type 0} {seen : X → Three A B C}
+    (k a b c n : ℕ) (g : WriteGrammar A) (h : WriteGrammar B) (i : WriteGrammar C) (l : WriteLaws p seen (counted_write n (sides_write g (sides_write h i)))) {old : WriterState put room K} where
+  pub case_tag_unwritten : (v : Three A B C) (u : ℕ) {new : WriterState put room K} {e : WriteError} → u ≡ three_tag a b c v → Unwritten (number_write k true) old new u e → Unwritten (three_write k a b c n g h i) old new v e
+  case_tag_unwritten v u {new} {e} is w = tag_unwritten laws k (three_tag a b c) (counted_write n (sides_write g (sides_write h i))) l v (subst (λ m. Unwritten (number_write k true) old new m e) is w)
+
+  tagged : (v : Three A B C) (u : ℕ) {mid : WriterState put room K} → u ≡ three_tag a b c v → Wrote (number_write k true) old mid u → Wrote (number_write k true) old mid (three_tag a b c v)
+  tagged v u {mid} is w = subst (λ m. Wrote (number_write k true) old mid m) is w
+
+  pub first_wrote : (v : A) (u : ℕ) {mid new : WriterState put room K} → u ≡ a → Wrote (number_write k true) old mid u → Wrote g mid new v → Wrote (three_write k a b c n g h i) old new (Ok v)
+  first_wrote v u is r s = tagged_wrote laws k (three_tag a b c) (counted_write n (sides_write g (sides_write h i))) l (Ok v) (tagged (Ok v) u is r) (wrote_map g (counted_write n (sides_write g (sides_write h i))) v (Ok v) (λ d. d) refl (λ x w. w) s)
+
+  pub second_wrote : (v : B) (u : ℕ) {mid new : WriterState put room K} → u ≡ b → Wrote (number_write k true) old mid u → Wrote h mid new v → Wrote (three_write k a b c n g h i) old new (Err (Ok v))
+  second_wrote v u is r s = tagged_wrote laws k (three_tag a b c) (counted_write n (sides_write g (sides_write h i))) l (Err (Ok v)) (tagged (Err (Ok v)) u is r) (wrote_map h (counted_write n (sides_write g (sides_write h i))) v (Err (Ok v)) (λ d. d) refl (λ x w. w) s)
+
+  pub first_unwritten : (v : A) (u : ℕ) {mid new : WriterState put room K} {e : WriteError} → u ≡ a → Wrote (number_write k true) old mid u → Unwritten g mid new v e → Unwritten (three_write k a b c n g h i) old new (Ok v) e
+  first_unwritten v u is r w = part_unwritten laws k (three_tag a b c) (counted_write n (sides_write g (sides_write h i))) l (Ok v) (tagged (Ok v) u is r) (unwritten_map g (counted_write n (sides_write g (sides_write h i))) v (Ok v) (λ d. d) refl (λ x t. t) w)
+
+  pub second_unwritten : (v : B) (u : ℕ) {mid new : WriterState put room K} {e : WriteError} → u ≡ b → Wrote (number_write k true) old mid u → Unwritten h mid new v e → Unwritten (three_write k a b c n g h i) old new (Err (Ok v)) e
+  second_unwritten v u is r w = part_unwritten laws k (three_tag a b c) (counted_write n (sides_write g (sides_write h i))) l (Err (Ok v)) (tagged (Err (Ok v)) u is r) (unwritten_map h (counted_write n (sides_write g (sides_write h i))) v (Err (Ok v)) (λ d. d) refl (λ x t. t) w)

@@ -1,0 +1,11 @@
+use Rattle.std.proofs.Common.{rules, arith}
+use Rattle.wincode.specs.Leaves.{unit_read}
+use Rattle.wincode_show.proofs.Cases.{none_refused}
+use Rattle.wincode_show.specs.Cases.{IsNoTag}
+use Rattle.wincode_show.specs.EventLaws.{first_tags}
+use Rattle.wincode_show.proofs.event.get_mark.Goals as goal
+
+pub returns-in_default-clause-err : goal.returns-in_default-clause-err
+returns-in_default-clause-err g c =
+    let none : IsNoTag 0 1 2 c.in_ok-tag.tag = search rules in
+    rw c.invalid_tag_encoding.ensures (none_refused 1 first_tags unit_read unit_read unit_read _ _ c.in_ok-tag.tag _ none c.in_ok-tag.ensures.ok)

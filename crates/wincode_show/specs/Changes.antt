@@ -1,0 +1,9 @@
+-- A change as the result that it is written as.
+use Rattle.std.specs.Prelude.{ℕ, Result, Ok, Err, String}
+use Rattle.std.specs.Global.{Global}
+use Rattle.wincode_show.specs.declared.change.Change.{Change}
+use Rattle.wincode_show.specs.declared.change.Change.TheVariants.{Closed, Named}
+
+abbrev pub change_parts : Change → Result ℕ (String Global)
+change_parts (Closed n) = Ok n
+change_parts (Named s) = Err s
