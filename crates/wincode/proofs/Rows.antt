@@ -134,6 +134,19 @@ pub error_writes : (result_write 4 (number_write 1 true) (number_write 1 true)).
 unfolding le
 error_writes = (9 ∷ [], refl, refl)
 
+-- Some of 9 behind four bytes, the error 5 of two bytes behind two, and the tag 300 in two
+pub some_behind_four : (option_read 4 (number_read 1 true)).reads (1 ∷ 0 ∷ 0 ∷ 0 ∷ 9 ∷ []) (Some 9)
+unfolding le
+some_behind_four = (9 ∷ [], (lit< tt, refl), refl)
+
+pub error_behind_two : (result_read 2 (number_read 2 true) (number_read 2 true)).reads (1 ∷ 0 ∷ 5 ∷ 0 ∷ []) (Err 5)
+unfolding le
+error_behind_two = (5 ∷ 0 ∷ [], (lit< tt, refl), refl)
+
+pub tag_of_two_bytes : (number_write 2 true).writes 300 (44 ∷ 1 ∷ [])
+unfolding le
+tag_of_two_bytes = refl
+
 -- no option begins with a byte 2
 pub no_third : (x : List ℕ) (o : Option ℕ) → (option_read 1 (number_read 1 true)).reads (2 ∷ x) o → ⊥
 unfolding le
@@ -143,6 +156,9 @@ no_third x (Some v) r = absurd (cc r.2)
 -- sides of one size have it behind a tag of four bytes, and sides of two sizes none
 pub one_size : (result_read 4 (number_read 2 true) (number_read 2 true)).meta ≡ Static 6 false
 one_size = refl
+
+pub one_size_behind_two : (result_read 2 (number_read 2 true) (number_read 2 true)).meta ≡ Static 4 false
+one_size_behind_two = refl
 
 pub two_sizes : (result_read 4 (number_read 1 true) (number_read 2 true)).meta ≡ Dynamic
 two_sizes = refl

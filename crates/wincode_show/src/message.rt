@@ -62,7 +62,7 @@ impl SchemaWrite for Message {
 
     ghost write_laws = { write_laws_by (λ m. (m.id, (m.tags, m.note))) (pair_write_laws (number_write_laws 8 true) (pair_write_laws
         (list_write_laws short_scheme 24 (λ t. t.items) (λ n. n < 256 ^ 1) (λ n. n) (number_write 1 true) (number_write_laws 1 true))
-        (option_write_laws (λ s. IsUtf8 (string_bytes s)) (λ s. string_bytes s) (text_write 24) (text_write_laws 24 (λ s. IsUtf8 (string_bytes s)) (λ s. string_bytes s))))) };
+        (option_write_laws 1 (λ s. IsUtf8 (string_bytes s)) (λ s. string_bytes s) (text_write 24) (text_write_laws 24 (λ s. IsUtf8 (string_bytes s)) (λ s. string_bytes s))))) };
 }
 
 impl<L: Lending> SchemaRead<L> for Message {
@@ -98,20 +98,20 @@ impl<L: Lending> SchemaRead<L> for Message {
 
     ghost read_laws = { pair_read_laws (number_read_laws 8 true (lit≤ tt)) (pair_read_laws
         (list_read_laws short_scheme short_scheme_laws 24 (lit≤ tt) (λ n. n < 256 ^ 1) (number_read 1 true) (number_read_laws 1 true (lit≤ tt)))
-        (option_read_laws IsUtf8 (text_read 24 0 false) (text_read_laws 24 0 false (lit≤ tt)))) };
+        (option_read_laws 1 (lit≤ tt) IsUtf8 (text_read 24 0 false) (text_read_laws 24 0 false (lit≤ tt)))) };
 }
 
 /// What is written reads back.
 impl<L: Lending> RoundTrip<L> for Message {
     ghost reads_back = { reads_back_by (λ m. (m.id, (m.tags, m.note))) (pair_reads_back (number_reads_back 8 true) (pair_reads_back
         (list_reads_back short_scheme short_scheme_laws 24 (λ t. t.items) (λ n. n < 256 ^ 1) (λ n. n) (number_write 1 true) (λ n. n) (number_read 1 true) (number_reads_back 1 true))
-        (option_reads_back (λ s. IsUtf8 (string_bytes s)) (λ s. string_bytes s) (text_write 24) (λ s. string_bytes s) (text_read 24 0 false) (text_reads_back 24 0 false (λ s. string_bytes s))))) };
+        (option_reads_back 1 (λ s. IsUtf8 (string_bytes s)) (λ s. string_bytes s) (text_write 24) (λ s. string_bytes s) (text_read 24 0 false) (text_reads_back 24 0 false (λ s. string_bytes s))))) };
 }
 
 /// Each message has one text.
 impl<L: Lending> OneText<L> for Message {
     ghost one_text = { pair_one_text (number_one_text 8 true) (pair_one_text (list_one_text short_scheme 24 (number_one_text 1 true))
-        (option_one_text (text_one_text 24 0 false))) };
+        (option_one_text 1 (text_one_text 24 0 false))) };
 }
 
 /// A message holds all that it was read from.

@@ -6,6 +6,7 @@ mod lifetimes;
 mod methods;
 mod parts;
 mod readers;
+mod tags;
 mod tuples;
 mod unwritten;
 mod vectors;
