@@ -1,5 +1,5 @@
 -- Reading and writing one of three cases, by its tag.
-use Rattle.std.proofs.Common.{◌≡◌, ◌∙◌, sym, subst, ℕ, ◌<◌, ◌≤◌, ◌^◌, ◌&&◌, true, List, max, refl, arith, Result, Ok, Err}
+use Rattle.std.proofs.Common.{◌≡◌, ◌∙◌, sym, subst, ℕ, ◌<◌, ◌≤◌, ◌^◌, ◌&&◌, true, List, max, refl, arith, Ok, Err}
 use Rattle.wincode_io.specs.Readers.{ReaderState}
 use Rattle.wincode_io.specs.Writers.{WriterState, WriterLaws}
 use Rattle.wincode.specs.Grammar.{ReadGrammar, WriteGrammar, WriteLaws}

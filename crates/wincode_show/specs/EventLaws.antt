@@ -1,5 +1,5 @@
 -- The laws of events and marks.
-use Rattle.std.proofs.Common.{◌≡◌, ℕ, ◌<◌, ◌≤◌, ◌^◌, true, false, arith, lit≤, lit<}
+use Rattle.std.proofs.Common.{ℕ, ◌<◌, ◌^◌, true, false, arith, lit≤, lit<}
 use Rattle.std.specs.Prelude.{IsUtf8, string_bytes}
 use Rattle.wincode.specs.Grammar.{ReadLaws, WriteLaws, ReadsBack}
 use Rattle.wincode.specs.LeafLaws.{number_read_laws, number_write_laws, number_reads_back, unit_read_laws, unit_write_laws, unit_reads_back}

@@ -1,5 +1,5 @@
 -- Events and marks: their grammars, and how they are refused.
-use Rattle.std.specs.Prelude.{◌≡◌, ◌⊎◌, ℕ, ◌<◌, ◌^◌, true, false, List, map, Result, Ok, Err, String, Vec, IsUtf8, string_bytes}
+use Rattle.std.specs.Prelude.{◌⊎◌, ℕ, ◌<◌, ◌^◌, true, false, List, map, Ok, Err, String, Vec, IsUtf8, string_bytes}
 use Rattle.std.specs.Global.{Global}
 use Rattle.std.specs.Result.{result_map_both}
 use Rattle.wincode_io.specs.Joins.{Each}
@@ -11,7 +11,7 @@ use Rattle.wincode.specs.Outcomes.{Refusal}
 use Rattle.wincode.specs.Pairs.{pair_read, pair_write}
 use Rattle.wincode.specs.Tags.{IfSide, IsTagRefused, IsRefusedBehind}
 use Rattle.wincode.specs.Text.{text_read, text_write}
-use Rattle.wincode_show.specs.Cases.{Three, AreTags, IsNoTag, three_read, three_write}
+use Rattle.wincode_show.specs.Cases.{Three, IsNoTag, three_read, three_write}
 use Rattle.wincode_show.specs.declared.event.Event.{Event}
 use Rattle.wincode_show.specs.declared.event.Event.TheVariants.{Named, Blob, Empty}
 use Rattle.wincode_show.specs.declared.event.Mark.{Mark}

@@ -1,4 +1,4 @@
-use Rattle.std.proofs.Common.{rules, arith, ◌≡◌}
+use Rattle.std.proofs.Common.{rules, ◌≡◌}
 use Rattle.wincode.specs.Leaves.{unit_read}
 use Rattle.wincode_show.proofs.Cases.{first_gives, second_gives, first_refused, second_refused, none_refused}
 use Rattle.wincode_show.specs.Cases.{IsNoTag}

@@ -1,4 +1,4 @@
-use Rattle.std.proofs.Common.{rules, arith}
+use Rattle.std.proofs.Common.{rules}
 use Rattle.wincode.specs.Leaves.{unit_read}
 use Rattle.wincode_show.proofs.Cases.{none_refused}
 use Rattle.wincode_show.specs.Cases.{IsNoTag}

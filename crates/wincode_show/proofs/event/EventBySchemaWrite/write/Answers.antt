@@ -1,4 +1,4 @@
-use Rattle.std.proofs.Common.{rules, ◌≡◌, Ok, Err}
+use Rattle.std.proofs.Common.{rules, Ok, Err}
 use Rattle.std.proofs.lemmas.Result.{IfErr-weaker, on_ok_weaker}
 use Rattle.wincode_show.proofs.Cases.{case_tag_unwritten, first_wrote, first_unwritten, second_wrote, second_unwritten}
 use Rattle.wincode_show.specs.Events.{seen_named, seen_blob, named_write, blob_write}
