@@ -1,4 +1,5 @@
-//! Schemas of lists behind a length by a scheme of choice, and of items by themselves.
+//! Schemas of lists behind a length by a scheme of choice, of options and results behind a tag by one, and
+//! of items by themselves.
 //!
 //! What `schema::lists` says of its lists holds here, with the length's text, its limit and its refusals
 //! those of the scheme. All arguments are written.

@@ -41,12 +41,15 @@ pub trait EventTags {
 
     ghost empty_tag: { ℕ };
 
+    /// The tag of a named event.
     fn named() -> usize
         ensures { result ≡ named_tag };
 
+    /// The tag of a blob.
     fn blob() -> usize
         ensures { result ≡ blob_tag };
 
+    /// The tag of an empty event.
     fn empty() -> usize
         ensures { result ≡ empty_tag };
 
@@ -117,7 +120,8 @@ pub type EventU8 = EventBy<FirstTags>;
 /// An event with the tags 5, 8 and 13, in four bytes.
 pub type EventU32 = EventBy<SpreadTags>;
 
-/// The size of a tag and of what stands behind it.
+/// The size of a tag and of what stands behind it, in bytes. Past `usize::MAX` it is
+/// `LengthEncodingOverflow`.
 fn behind_tag<Tag: TagCode>(size: usize) -> WriteResult<usize>
     ensures ok { IfOk result (λ n. n ≡ Tag.size + size) }
     ensures err { IfErr result (λ e. (2 ^ 64 ≤ Tag.size + size) × IsOverflow e) }

@@ -1,5 +1,5 @@
 //! Schemas of a tag and then what it names.
-ghost use Rattle.std.specs.Prelude.{◌≡◌, ◌+◌, ◌≤◌, ◌^◌, true, false, Option, Result, IfOk, IfErr, OnOk};
+ghost use Rattle.std.specs.Prelude.{◌≡◌, true, false, Option, Result, IfOk, IfErr, OnOk};
 ghost use Rattle.std.proofs.Common.{lit≤};
 ghost use Rattle.std.specs.Option.{option_map};
 ghost use Rattle.std.specs.Result.{result_map_both};
