@@ -5,10 +5,11 @@ ghost use Rattle.wincode_show.specs.Shapes.{read_of, refusal_of};
 ghost use Rattle.wincode_show.specs.declared.recoding.KnownShape.TheVariants.{Record};
 ghost use Rattle.wincode_show.specs.Faults.{HasServed, HasFailed, over_device};
 
-pub mod failing_reader;
-pub mod failing_writer;
+mod failing_reader;
+mod failing_writer;
 
-use failing_reader::FailingReader;
+pub use failing_reader::FailingReader;
+pub use failing_writer::FailingWriter;
 use std::alloc::Global;
 use std::io::{self, ErrorKind};
 use std::marker::Model;

@@ -106,7 +106,7 @@ fn copied(alloc: Global, name: &str, digits: &str) -> Result<String, Fail> {
         _ => copy_front::<Lifetime, &[u8], Vec<EventU8>>(alloc, &mut reader),
     };
     let left = reader.len();
-    Ok(outcome(alloc, text, left)?.ok_or("an outcome")?)
+    outcome(alloc, text, left)
 }
 
 #[test]

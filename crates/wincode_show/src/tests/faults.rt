@@ -1,8 +1,6 @@
 //! Reading and writing through devices that fail at each of their calls in turn.
 
-use crate::faults::failing_reader::FailingReader;
-use crate::faults::failing_writer::FailingWriter;
-use crate::faults::read_record;
+use crate::faults::{FailingReader, FailingWriter, read_record};
 use std::alloc::Global;
 use std::collections::BTreeMap;
 use std::test::Fail;

@@ -9,5 +9,5 @@ use Rattle.wincode_show.proofs.faults.read_record.Goals as goal
 pub returns-clause-err : goal.returns-clause-err
 returns-clause-err c =
     subst (λ old. IfErr c.get.result (IsUnread (read_of Record) (refusal_of Record) old)) c.new-reader.ensures (
-      unread (read_of Record) (refusal_of Record) _ _ c.get.result c.get.ensures.err c.get.ensures.refused
+    unread (read_of Record) (refusal_of Record) _ _ c.get.result c.get.ensures.err c.get.ensures.refused
     )
