@@ -5,7 +5,8 @@ ghost use Rattle.wincode.specs.Outcomes.{Gives, Refuses, IsOverflow};
 ghost use Rattle.wincode.specs.Tags.{IsTagRefused};
 ghost use Rattle.wincode_show.specs.Cases.{Three, AreTags, IsNoTag};
 ghost use Rattle.wincode_show.specs.Events.{SeenEvent, event_seen, IsEvent, IsSeenEvent, event_read, event_write, IsEventRefused, mark_seen, mark_read, mark_write};
-ghost use Rattle.wincode_show.specs.EventLaws.{event_read_laws, event_write_laws, event_reads_back, event_one_text, first_tags, spread_tags, mark_read_laws, mark_write_laws, mark_reads_back, mark_one_text};
+ghost use Rattle.wincode_show.specs.EventLaws.{event_read_laws, event_write_laws, event_reads_back, event_one_text};
+ghost use Rattle.wincode_show.specs.EventLaws.{first_tags, spread_tags, mark_read_laws, mark_write_laws, mark_reads_back, mark_one_text};
 
 use std::alloc::Global;
 use std::marker::PhantomData;
