@@ -1,7 +1,9 @@
 -- Devices that serve so many calls and then fail each time.
 use Rattle.std.specs.Prelude.{◌≡◌, ℕ, ◌+◌, min, List, length, true, false, None}
+use Rattle.std.specs.Borrow.{GName}
 use Rattle.wincode_io.specs.Readers.{ReaderState, nothing}
 use Rattle.wincode_io.specs.Writers.{WriterState, byte_limit}
+use Rattle.wincode_io.specs.SliceWriters.{SliceState, slice_put, slice_room}
 
 -- How many calls more it serves, and how often it failed.
 pub record DeviceState : Type 0 where
@@ -20,6 +22,17 @@ HasFailed old new = (old.sound ≡ 0) × (new ≡ record { sound = 0; failures =
 abbrev pub over_device : List ℕ → DeviceState → ReaderState
 over_device bytes device = record { rest = bytes; ready = length bytes; lends = nothing; steady = false; failures = device.failures; told = true; place = None }
 
--- a writer, over a device
-abbrev pub with_device : {S K : Type 0} {put : S → List ℕ → S} {room : S → ℕ} → WriterState put room K → DeviceState → WriterState put room K
-with_device writer device = record { content = writer.content; kept = writer.kept; steady = false; failures = device.failures; ready = writer.ready }
+-- what a reader over a device has left
+pub record ReadFrom : Type 0 where
+  pub rest : List ℕ
+  pub device : DeviceState
+
+-- what a writer over a device has written, and to which slice
+pub record WrittenTo : Type 0 where
+  pub content : SliceState
+  pub slice : GName
+  pub device : DeviceState
+
+-- a writer of this content, over a device
+abbrev pub slice_over : WrittenTo → WriterState slice_put slice_room GName
+slice_over w = record { content = w.content; kept = w.slice; steady = false; failures = w.device.failures; ready = slice_room w.content }

@@ -12,7 +12,7 @@ mod unwritten;
 mod vectors;
 
 use crate::rewriting::rewrite;
-use crate::rows::{first_unlike, outcome, printed};
+use crate::rows::{bytes_of, digits_of, first_unlike, outcome, printed};
 use arrays::array_answer;
 use std::alloc::Global;
 use std::io::ErrorKind;
@@ -203,6 +203,32 @@ fn answers_the_vectors(rt: HostRuntime) -> Result<(), Fail> {
     assert_eq!(rt; rows, 434);
     let unlike = first_unlike(rt.alloc(), VECTORS, answer)?;
     assert!(rt; unlike == None, "{unlike:?}");
+    Ok(())
+}
+
+/// A row that is answered otherwise is found wherever it stands in a table, and digits are bytes and back.
+#[test]
+fn unlike_rows_are_found(rt: HostRuntime) -> Result<(), Fail> {
+    let alloc = rt.alloc();
+    let bytes = bytes_of(alloc, "00ff7f")?;
+    assert_eq!(rt; bytes.as_slice(), [0u8, 255, 127].as_slice());
+    assert_eq!(rt; digits_of(alloc, bytes.as_slice())?.as_str(), "00ff7f");
+    let rows = [
+        ("u8|05|ok 0 05\nu8|0506|ok 1 05", None),
+        (
+            "u8|05|ok 0 06\nu8|05|ok 0 05",
+            Some("u8|05|ok 0 06: ok 0 05"),
+        ),
+        (
+            "u8|05|ok 0 05\nu8|0506|ok 0 05",
+            Some("u8|0506|ok 0 05: ok 1 05"),
+        ),
+        ("u8|05|ok 0 05\nbool|01|err", Some("bool|01|err: ok 0 01")),
+    ];
+    for (table, unlike) in rows {
+        let found = first_unlike(alloc, table, answer)?;
+        assert_eq!(rt; found.as_deref(), unlike);
+    }
     Ok(())
 }
 

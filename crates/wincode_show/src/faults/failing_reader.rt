@@ -3,6 +3,7 @@ ghost use Rattle.std.specs.Prelude.{◌≡◌};
 ghost use Rattle.wincode_show.specs.Faults.{over_device};
 
 use super::Device;
+use std::marker::Model;
 use wincode::io::{Lifetime, ReadError, ReadResult, ReadWindow, Reader, TrustedSliceReader};
 
 /// Reads bytes from their front, as from a device that serves so many calls and then fails each time.
@@ -14,10 +15,18 @@ pub struct FailingReader<'a> {
     device: Device,
 }
 
+impl<'a> Model for FailingReader<'a> {
+    ghost use Rattle.wincode_show.specs.Faults.{ReadFrom};
+
+    ghost Value = { ReadFrom };
+
+    ghost view = { λ r. record { rest = r.rest.now; device = r.device } };
+}
+
 impl<'a> FailingReader<'a> {
     /// A reader of these bytes, whose device serves `sound` calls and has not failed.
     pub fn new(bytes: &'a [u8], sound: usize) -> FailingReader<'a>
-        ensures { ⟦<FailingReader<'a> as Reader<Lifetime<'a>>>⟧.state result ≡ over_device bytes.now (record { sound = sound; failures = 0 }) }
+        ensures { result ≡ record { rest = bytes.now; device = record { sound = sound; failures = 0 } } }
     {
         FailingReader {
             rest: bytes,
@@ -27,7 +36,7 @@ impl<'a> FailingReader<'a> {
 
     /// How often the device failed; the count stays at `usize::MAX`.
     pub fn failures(&self) -> usize
-        ensures { result ≡ (⟦<FailingReader<'a> as Reader<Lifetime<'a>>>⟧.state self.now).failures }
+        ensures { result ≡ self.now.device.failures }
     {
         self.device.failures()
     }
@@ -35,7 +44,7 @@ impl<'a> FailingReader<'a> {
 
 /// Once the device fails, each call that asks it is `Io` of kind Other and changes nothing else.
 impl<'a> Reader<Lifetime<'a>> for FailingReader<'a> {
-    ghost state = { λ r. over_device r.rest.now r.device };
+    ghost state = { λ r. over_device r.rest r.device };
 
     fn fill(&mut self, _n: usize) -> ReadResult<()> {
         self.device.ask().map_err(ReadError::Io)

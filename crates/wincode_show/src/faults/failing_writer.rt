@@ -1,12 +1,13 @@
 //! A writer whose device fails.
-ghost use Rattle.std.specs.Prelude.{◌≡◌, false};
+ghost use Rattle.std.specs.Prelude.{◌≡◌, [], false};
 ghost use Rattle.std.specs.Borrow.{GName};
-ghost use Rattle.wincode_io.specs.SliceWriters.{SliceState, slice_put, slice_room, slice_state};
+ghost use Rattle.wincode_io.specs.SliceWriters.{SliceState, slice_put, slice_room};
 ghost use Rattle.wincode_io.specs.SliceWriterLaws.{slice_laws};
 ghost use Rattle.wincode_io.specs.WriterLaws.{same_bound};
-ghost use Rattle.wincode_show.specs.Faults.{with_device};
+ghost use Rattle.wincode_show.specs.Faults.{slice_over};
 
 use super::Device;
+use std::marker::Model;
 use wincode::io::{SliceWriter, WriteError, WriteResult, Writer, ZeroCopy};
 
 /// Overwrites a slice from its front, as a device does that serves so many calls and then fails each
@@ -17,10 +18,18 @@ pub struct FailingWriter<'a> {
     device: Device,
 }
 
+impl<'a> Model for FailingWriter<'a> {
+    ghost use Rattle.wincode_show.specs.Faults.{WrittenTo};
+
+    ghost Value = { WrittenTo };
+
+    ghost view = { λ w. record { content = (⟦<SliceWriter<'static> as Writer>⟧.state w.slice).content; slice = (⟦<SliceWriter<'static> as Writer>⟧.state w.slice).kept; device = w.device } };
+}
+
 impl<'a> FailingWriter<'a> {
     /// A writer that has written nothing, whose device serves `sound` calls and has not failed.
     pub fn new(bytes: &'a mut [u8], sound: usize) -> FailingWriter<'a>
-        ensures { ⟦<FailingWriter<'a> as Writer>⟧.state result ≡ with_device (slice_state 0 bytes.old bytes.entry.ghost_name) (record { sound = sound; failures = 0 }) }
+        ensures { result ≡ record { content = record { done = []; left = bytes.old }; slice = bytes.entry.ghost_name; device = record { sound = sound; failures = 0 } } }
     {
         FailingWriter {
             slice: SliceWriter::new(bytes),
@@ -30,14 +39,14 @@ impl<'a> FailingWriter<'a> {
 
     /// The bytes that were written so far.
     pub fn written(&self) -> &[u8]
-        ensures { result.now ≡ (⟦<FailingWriter<'a> as Writer>⟧.state self.now).content.done }
+        ensures { result.now ≡ self.now.content.done }
     {
         self.slice.written()
     }
 
     /// How often the device failed; the count stays at `usize::MAX`.
     pub fn failures(&self) -> usize
-        ensures { result ≡ (⟦<FailingWriter<'a> as Writer>⟧.state self.now).failures }
+        ensures { result ≡ self.now.device.failures }
     {
         self.device.failures()
     }
@@ -53,7 +62,7 @@ impl<'a> Writer for FailingWriter<'a> {
 
     ghost Kept = { GName };
 
-    ghost state = { λ w. with_device (⟦<SliceWriter<'a> as Writer>⟧.state w.slice) w.device };
+    ghost state = { slice_over };
 
     ghost buffers = { false };
 
@@ -72,5 +81,5 @@ impl<'a> Writer for FailingWriter<'a> {
 
     ghost writer_laws = { slice_laws };
 
-    ghost ready_room = { λ w. same_bound (⟦<SliceWriter<'a> as Writer>⟧.state w.slice).ready };
+    ghost ready_room = { λ w. same_bound (slice_room w.content) };
 }

@@ -1,4 +1,5 @@
-use Rattle.std.proofs.Common.{subst}
+use Rattle.std.proofs.Common.{subst, ap}
+use Rattle.wincode_show.specs.Faults.{over_device}
 use Rattle.std.specs.Result.{IfErr}
 use Rattle.wincode.specs.Outcomes.{IsUnread}
 use Rattle.wincode_show.specs.Shapes.{read_of, refusal_of}
@@ -8,6 +9,6 @@ use Rattle.wincode_show.proofs.faults.read_record.Goals as goal
 
 pub returns-clause-err : goal.returns-clause-err
 returns-clause-err c =
-    subst (λ old. IfErr c.get.result (IsUnread (read_of Record) (refusal_of Record) old)) c.new-reader.ensures (
+    subst (λ old. IfErr c.get.result (IsUnread (read_of Record) (refusal_of Record) old)) (ap (λ r. over_device r.rest r.device) c.new-reader.ensures) (
     unread (read_of Record) (refusal_of Record) _ _ c.get.result c.get.ensures.err c.get.ensures.refused
     )
