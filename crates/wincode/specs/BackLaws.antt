@@ -20,11 +20,11 @@ use Rattle.std.proofs.lemmas.Nat.{mul-le}
 use Rattle.std.proofs.lemmas.Map.Keys.{IsDistinct-from_sorted, IsDistinct-head, IsDistinct-tail}
 use Rattle.std.proofs.lemmas.Map.Entries.{length-keys_of}
 use Rattle.wincode_io.specs.Joins.{Each, Joined}
-use Rattle.wincode_gather.specs.Collections.{IsSetOf, IsMapOf, IsHashSetOf, IsHashMapOf}
-use Rattle.wincode_gather.specs.CollectionLaws.{find_keys, find_values, perm_find, same_hash_test}
-use Rattle.wincode_gather.specs.Seen.{sees, hash_set_sees, hash_map_sees, heap_sees, Made}
-use Rattle.wincode_gather.specs.SeenLaws.{same_bag}
-use Rattle.wincode_gather.specs.OwnLaws.{keys_fewer, own_map, map_shorter, once_too, perm_lookup, count_all}
+use Rattle.wincode_collect.specs.Collections.{IsSetOf, IsMapOf, IsHashSetOf, IsHashMapOf}
+use Rattle.wincode_collect.specs.CollectionLaws.{find_keys, find_values, perm_find, same_hash_test}
+use Rattle.wincode_collect.specs.Seen.{sees, hash_set_sees, hash_map_sees, heap_sees, Made}
+use Rattle.wincode_collect.specs.SeenLaws.{same_bag}
+use Rattle.wincode_collect.specs.OwnLaws.{keys_fewer, own_map, map_shorter, once_too, perm_lookup, count_all}
 use Rattle.wincode.specs.Grammar.{ReadGrammar, WriteGrammar, ReadsBack}
 use Rattle.wincode.specs.Lengths.{Scheme, SchemeLaws, HasText, bincode}
 use Rattle.wincode.specs.LengthLaws.{bincode_laws}

@@ -14,10 +14,10 @@ use Rattle.std.proofs.lemmas.Map.Keys.{sorted_tail}
 use Rattle.wincode_io.specs.Joins.{Each}
 use Rattle.wincode_io.specs.JoinLaws.{each_append}
 use Rattle.wincode_io.specs.Readers.{ReaderState}
-use Rattle.wincode_gather.specs.Collections.{IsSetOf, IsMapOf, IsHashSetOf, IsHashMapOf}
-use Rattle.wincode_gather.specs.CollectionLaws.{find_keys, find_values}
-use Rattle.wincode_gather.specs.Seen.{sees, hash_set_sees, hash_map_sees, heap_sees, Made}
-use Rattle.wincode_gather.specs.SeenLaws.{past_at, map_one, set_one, hash_set_one, hash_map_one, bag_one}
+use Rattle.wincode_collect.specs.Collections.{IsSetOf, IsMapOf, IsHashSetOf, IsHashMapOf}
+use Rattle.wincode_collect.specs.CollectionLaws.{find_keys, find_values}
+use Rattle.wincode_collect.specs.Seen.{sees, hash_set_sees, hash_map_sees, heap_sees, Made}
+use Rattle.wincode_collect.specs.SeenLaws.{past_at, map_one, set_one, hash_set_one, hash_map_one, bag_one}
 use Rattle.wincode.specs.Grammar.{ReadGrammar, ReadLaws}
 use Rattle.wincode.specs.Lengths.{Scheme, SchemeLaws}
 use Rattle.wincode.specs.Lists.{reads_list}

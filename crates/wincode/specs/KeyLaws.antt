@@ -6,7 +6,7 @@ use Rattle.std.specs.Cmp.{unsigned_Decides, signed_Decides, booleans_Decides}
 use Rattle.std.specs.Cmp.Lexicographic.{pointwise, pointwise_decides}
 use Rattle.std.specs.Option.{option_eq, option_map, is_some}
 use Rattle.std.specs.Ordering.{int_eq}
-use Rattle.wincode_gather.specs.Seen.{sees}
+use Rattle.wincode_collect.specs.Seen.{sees}
 use Rattle.wincode.specs.Keys.{IsAlike, IsTold}
 
 -- ---- equal, where the same is seen

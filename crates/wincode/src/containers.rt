@@ -9,7 +9,7 @@ ghost use Rattle.std.specs.Box.{boxed_slice_items};
 ghost use Rattle.std.specs.List.Sorted.{IsPermutation};
 ghost use Rattle.std.specs.Rc.{rc_slice_items};
 ghost use Rattle.std.proofs.Common.{lit≤};
-ghost use Rattle.wincode_gather.specs.Seen.{heap_sees, Made};
+ghost use Rattle.wincode_collect.specs.Seen.{heap_sees, Made};
 ghost use Rattle.wincode_io.specs.Joins.{Each};
 ghost use Rattle.wincode.specs.BackLaws.{heap_reads_back};
 ghost use Rattle.wincode.specs.Gathered.{gathered_read, scattered_write};

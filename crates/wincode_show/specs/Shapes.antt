@@ -1,8 +1,8 @@
 -- The shapes: the word, the values and the schema of each.
 use Rattle.std.specs.Prelude.{◌≡◌, ⊤, ℕ, Bool, true, false, List, map, codes}
 use Rattle.std.specs.Ordering.{nat_cmp}
-use Rattle.wincode_gather.specs.Collections.{IsMapOf}
-use Rattle.wincode_gather.specs.Seen.{sees, Made}
+use Rattle.wincode_collect.specs.Collections.{IsMapOf}
+use Rattle.wincode_collect.specs.Seen.{sees, Made}
 use Rattle.wincode.specs.Arrays.{times_meta, array_read, array_write}
 use Rattle.wincode.specs.Gathered.{gathered_read}
 use Rattle.wincode.specs.Grammar.{ReadGrammar, WriteGrammar}

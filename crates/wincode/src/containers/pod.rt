@@ -14,7 +14,7 @@ use crate::schema::views::meta_of_form;
 use crate::schema::{RoundTrip, SchemaRead, SchemaWrite};
 use std::alloc::Global;
 use std::marker::PhantomData;
-use wincode_bulk::write_forms;
+use wincode_io::bulk::write_forms;
 
 /// A value as its form. A form whose size is past `usize::MAX` is refused as of a size of `usize::MAX`.
 pub struct Pod<T: ZeroCopy>(PhantomData<T>);

@@ -4,7 +4,7 @@
 //! fewer bytes are `Io(ReadSizeLimit)` of that size, and stay; where an item is refused, the bytes of the
 //! whole array are gone; less room is `Io(WriteSizeLimit)` of that size, and nothing is written.
 ghost use Rattle.std.specs.Prelude.{◌≡◌, ℕ, List, map, false, IfErr, OnOk, OnErr, MatchResult};
-ghost use Rattle.wincode_array.specs.Runs.{Gave, Failed};
+ghost use Rattle.wincode_collect.specs.Runs.{Gave, Failed};
 ghost use Rattle.wincode.specs.Arrays.{times_meta, IsArray, array_read, array_write};
 ghost use Rattle.wincode.specs.ArrayLaws.{array_read_laws, array_write_laws, array_reads_back};
 ghost use Rattle.wincode.specs.Lists.{IsItemRefused, AreRefused};
@@ -19,7 +19,7 @@ use crate::schema::to_items::add_sizes;
 use crate::schema::{RoundTrip, SchemaGet, SchemaRead, SchemaWrite};
 use std::alloc::Global;
 use std::marker::PhantomData;
-use wincode_array::{Source, Sourced};
+use wincode_collect::{ItemSource, Sourced};
 
 /// The items that a schema reads, one after another.
 #[derive(Drop)]
@@ -29,7 +29,7 @@ struct Reading<'r, L, T, R> {
     of: PhantomData<(L, T)>,
 }
 
-impl<'r, L: Lending, T: SchemaRead<L>, R: Reader<L>> Source<T::Dst, ReadError>
+impl<'r, L: Lending, T: SchemaRead<L>, R: Reader<L>> ItemSource<T::Dst, ReadError>
     for Reading<'r, L, T, R> {
     ghost gives = { λ s r t. (t.reader.ghost_name ≡ s.reader.ghost_name)
         × MatchResult r (λ v. Gives T.reading.reads (R.state s.reader.now) (R.state t.reader.now) (T.seen v))

@@ -7,7 +7,7 @@ ghost use Rattle.wincode.specs.Outcomes.{Adds, Refuses, Wrote, Unwritten};
 
 use crate::error::{ReadError, ReadResult, WriteResult, read_length_encoding_overflow};
 use crate::io::{Lending, Reader, Writer, ZeroCopy, total_size};
-use wincode_bulk::{add_forms, write_forms};
+use wincode_io::bulk::{add_forms, write_forms};
 
 /// Reads `n` forms at once, and adds their values to the list. Where fewer bytes are left it is
 /// `ReadSizeLimit` of the size of all, in bytes; `LengthEncodingOverflow` where that is past

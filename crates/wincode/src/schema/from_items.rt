@@ -4,7 +4,7 @@ ghost use Rattle.std.specs.BinaryHeap.{heap_items};
 ghost use Rattle.std.specs.Box.{boxed_slice_items};
 ghost use Rattle.std.specs.List.Sorted.{IsPermutation};
 ghost use Rattle.std.specs.Rc.{rc_slice_items};
-ghost use Rattle.wincode_gather.specs.Collections.{IsSetOf, IsMapOf, IsHashSetOf, IsHashMapOf};
+ghost use Rattle.wincode_collect.specs.Collections.{IsSetOf, IsMapOf, IsHashSetOf, IsHashMapOf};
 ghost use Rattle.wincode_io.specs.Joins.{AreItems};
 ghost use Rattle.wincode.specs.Lists.{reads_list, AreRefused, IsRunRefused, IsListRefused};
 ghost use Rattle.wincode.specs.Outcomes.{Gives, Refuses};
@@ -20,7 +20,7 @@ use std::boxed::BoxedSlice;
 use std::collections::{BTreeMap, BTreeSet, BinaryHeap, HashMap, HashSet, LinkedList, VecDeque};
 use std::hash::Hash;
 use std::rc::RcSlice;
-use wincode_gather::Gather;
+use wincode_collect::Gather;
 
 /// What items are read into: a collection that is made of them in order.
 pub(crate) trait FromItems<L: Lending, T: SchemaRead<L>>: Drop + Sized {

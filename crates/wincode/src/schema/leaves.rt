@@ -15,7 +15,7 @@ use crate::schema::as_forms::{read_all, write_all};
 use crate::schema::{RoundTrip, SchemaRead, SchemaWrite};
 use std::alloc::Global;
 use std::marker::PhantomData;
-use wincode_bulk::add_bytes;
+use wincode_io::bulk::add_bytes;
 
 /// The first `N` bytes, which are then gone; `ReadSizeLimit(N)` where fewer are left, and they stay.
 pub(crate) fn take_array<L: Lending, R: Reader<L>, const N: usize>(

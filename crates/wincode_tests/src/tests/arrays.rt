@@ -11,7 +11,7 @@ use wincode::{
     ReadError, SchemaGet, SchemaRead, SchemaWrite, TypeMeta, WriteError, deserialize, serialize,
     serialized_size,
 };
-use wincode_array::{Source, array_of};
+use wincode_collect::{ItemSource, array_of};
 
 /// What reading these bytes as the array of the name answers, as the vectors have it.
 pub fn array_answer(alloc: Global, name: &str, bytes: &[u8]) -> Result<Option<String>, Fail> {
@@ -111,7 +111,7 @@ struct Shares {
     left: usize,
 }
 
-impl Source<Rc<u64>, AllocError> for Shares {
+impl ItemSource<Rc<u64>, AllocError> for Shares {
     ghost gives = { λ s r t. s ≡ s };
 
     fn next(&mut self) -> Result<Rc<u64>, AllocError> {

@@ -1,7 +1,7 @@
 use Rattle.std.proofs.Common.{refl}
 use Rattle.std.specs.BinaryHeap.{heap_items}
 use Rattle.std.specs.List.Sorted.{IsPermutation}
-use Rattle.wincode_gather.specs.Seen.{heap_sees, Made}
+use Rattle.wincode_collect.specs.Seen.{heap_sees, Made}
 use Rattle.wincode.specs.GatheredLaws.{gathered_refused, gathered_gives}
 use Rattle.wincode.proofs.Refused.{passed_on}
 use Rattle.wincode.proofs.containers.BinaryHeapSchemaRead.read.Goals as goal

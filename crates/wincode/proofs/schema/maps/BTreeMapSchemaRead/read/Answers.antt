@@ -1,6 +1,6 @@
 use Rattle.std.proofs.Common.{map}
-use Rattle.wincode_gather.specs.Collections.{IsMapOf}
-use Rattle.wincode_gather.specs.Seen.{sees, Made}
+use Rattle.wincode_collect.specs.Collections.{IsMapOf}
+use Rattle.wincode_collect.specs.Seen.{sees, Made}
 use Rattle.wincode.specs.Lengths.{bincode}
 use Rattle.wincode.specs.Pairs.{pair_read}
 use Rattle.wincode.specs.GatheredLaws.{gathered_refused}

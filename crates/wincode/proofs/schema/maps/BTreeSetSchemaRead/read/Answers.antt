@@ -1,6 +1,6 @@
 use Rattle.std.proofs.Common.{map}
-use Rattle.wincode_gather.specs.Collections.{IsSetOf}
-use Rattle.wincode_gather.specs.Seen.{Made}
+use Rattle.wincode_collect.specs.Collections.{IsSetOf}
+use Rattle.wincode_collect.specs.Seen.{Made}
 use Rattle.wincode.specs.Lengths.{bincode}
 use Rattle.wincode.specs.GatheredLaws.{gathered_refused}
 use Rattle.wincode.proofs.Refused.{passed_on}

@@ -1,5 +1,5 @@
-use Rattle.wincode_gather.specs.Collections.{IsHashMapOf}
-use Rattle.wincode_gather.specs.Seen.{sees, hash_map_sees, Made}
+use Rattle.wincode_collect.specs.Collections.{IsHashMapOf}
+use Rattle.wincode_collect.specs.Seen.{sees, hash_map_sees, Made}
 use Rattle.wincode.specs.Lengths.{bincode}
 use Rattle.wincode.specs.Pairs.{pair_read}
 use Rattle.wincode.specs.GatheredLaws.{gathered_refused}

@@ -1,5 +1,5 @@
-use Rattle.wincode_gather.specs.Collections.{IsHashSetOf}
-use Rattle.wincode_gather.specs.Seen.{hash_set_sees, Made}
+use Rattle.wincode_collect.specs.Collections.{IsHashSetOf}
+use Rattle.wincode_collect.specs.Seen.{hash_set_sees, Made}
 use Rattle.wincode.specs.Lengths.{bincode}
 use Rattle.wincode.specs.GatheredLaws.{gathered_refused}
 use Rattle.wincode.proofs.Refused.{passed_on}

@@ -1,4 +1,4 @@
-use Rattle.wincode_gather.specs.Seen.{sees}
+use Rattle.wincode_collect.specs.Seen.{sees}
 use Rattle.wincode.specs.Pairs.{pair_write}
 use Rattle.wincode.proofs.Walks.{WritesSoFar}
 use Rattle.wincode.proofs.schema.to_items.BTreeMapToItemsMembers2.write_to.Given as goal

@@ -1,5 +1,5 @@
 use Rattle.std.proofs.Common.{rules, ◌∙◌, ap, ◌+◌}
-use Rattle.wincode_gather.specs.Seen.{sees}
+use Rattle.wincode_collect.specs.Seen.{sees}
 use Rattle.wincode.specs.Pairs.{pair_write}
 use Rattle.wincode.proofs.Walks.{sum_more, sum_refused, sum_past}
 use Rattle.wincode.proofs.schema.to_items.HashMapToItemsMembers2.add_sizes.Goals as goal

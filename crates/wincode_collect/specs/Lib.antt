@@ -1,0 +1,7 @@
+pub mod Runs
+pub mod Sourced
+pub mod Collections
+pub mod CollectionLaws
+pub mod Seen
+pub mod SeenLaws
+pub mod OwnLaws

@@ -1,5 +1,0 @@
-pub mod Collections
-pub mod CollectionLaws
-pub mod Seen
-pub mod SeenLaws
-pub mod OwnLaws

@@ -1,0 +1,32 @@
+use Rattle.std.proofs.Common.{rules, ◌≡◌, ◌∙◌, sym, ap, ◌+◌, ◌-◌, ◌*◌, ◌++◌, length, take, drop, min, arith, length-append, take-append-drop}
+use Rattle.std.proofs.lemmas.List.Elements.{All-append}
+use Rattle.wincode_io.specs.JoinedForms.{length-joined}
+use Rattle.wincode_io.proofs.Blocks.{done_more, left_more, took_more}
+use Rattle.wincode_io.proofs.bulk.writing.write_blocks.Goals as goal
+
+pub loop-rest-preserved : goal.loop-rest-preserved
+loop-rest-preserved g c =
+    let T = g.T.ZeroCopy in
+    let W = g.W.Writer in
+    let xs = c.args.values.now in
+    let rest = c.loop-rest.rest.now in
+    let block = c.split_at.result.0.now in
+    let more = c.split_at.result.1.now in
+    let so_far = c.loop-rest.invariant in
+    let done = length xs - length rest in
+    let cut : rest ≡ block ++ more = sym (take-append-drop c.min.result rest) ∙ ap (λ l. l ++ drop c.min.result rest) (sym c.split_at.ensures.front) ∙ ap (λ l. block ++ l) (sym c.split_at.ensures.back) in
+    let left = sym so_far.rest ∙ cut in
+    let put = c.put_forms.ensures in
+    let wrote = c.write_ready.ensures in
+    let counts : length rest ≡ length block + length more = ap length cut ∙ length-append block more in
+    let sizes : length rest * T.size ≡ (length block + length more) * T.size = ap (λ n. n * T.size) counts in
+    let long = length-joined T.form T.size block (λ k d h. g.met.T.ZeroCopy.byte_form.long _ (put.proper k d h)) in
+    let ready = rw put.forms at wrote.ready in
+    record {
+      took = took_more xs block more done left g.met.W.Writer.writer_laws T.form T.size (W.state c.args.writer.now) (W.state c.loop-rest.writer) _ (λ k d h. g.met.T.ZeroCopy.byte_form.long _ (so_far.proper k d h)) (λ k d h. g.met.T.ZeroCopy.byte_form.long _ (put.proper k d h))
+          (omega (arith, c.requires.room, g.met.W.Writer.ready_room c.args.writer.now)) so_far.took (rw put.forms at wrote.took);
+      rest = left_more xs block more done left;
+      within = omega (arith, so_far.within, counts);
+      ready = omega (arith, so_far.ready, ready, long, sizes);
+      proper = rw (done_more xs block more done left) (All-append T.proper (take done xs) block so_far.proper put.proper);
+    }

@@ -1,0 +1,68 @@
+//! Many values at once, to a writer, as their byte forms.
+ghost use Rattle.std.specs.Prelude.{◌≡◌, ℕ, ◌+◌, ◌*◌, ◌<◌, ◌≤◌, length, OnOk, IfErr, Err};
+ghost use Rattle.std.specs.List.{All, flat_map};
+ghost use Rattle.wincode_io.specs.Writers.{Added, Took, IsUnmoved, IsWriteRefused, byte_limit};
+
+use crate::error::{WriteError, WriteResult};
+use crate::writer::Writer;
+use crate::zero_copy::{ZeroCopy, put_forms, size_of_form, total_size};
+
+/// Writes the forms, each by itself, for which room was made.
+fn write_each<W: Writer, T: ZeroCopy>(writer: &mut W, values: &[T])
+    requires { length values.now * T.size ≤ (W.state writer.old).ready }
+    ensures took { Took (flat_map T.form values.now) (W.state writer.old) (W.state writer.new) }
+    ensures proper { All T.proper values.now }
+{
+    for value in values {
+        writer.write_ready_t(value);
+    }
+}
+
+/// Writes the forms, of at most 16 bytes each, for which room was made: they are put together a block at a
+/// time.
+fn write_blocks<W: Writer, T: ZeroCopy>(writer: &mut W, values: &[T])
+    requires room { length values.now * T.size ≤ (W.state writer.old).ready }
+    requires small { T.size ≤ 16 }
+    ensures took { Took (flat_map T.form values.now) (W.state writer.old) (W.state writer.new) }
+    ensures proper { All T.proper values.now }
+{
+    let mut bytes = [0u8; 1024];
+    let size = size_of_form::<T>();
+    let mut rest = values;
+    while !rest.is_empty() {
+        let (block, more) = rest.split_at(rest.len().min(64));
+        let forms = &mut bytes[..block.len() * size];
+        put_forms(block, forms);
+        writer.write_ready(forms);
+        rest = more;
+    }
+}
+
+/// Writes the forms of the values, one after another, all or nothing. Where the room is less it is
+/// `WriteSizeLimit` of the size of all in bytes, or of `usize::MAX` where the size is more.
+pub fn write_forms<W: Writer, T: ZeroCopy>(writer: &mut W, values: &[T]) -> WriteResult<()>
+    ensures ok { OnOk result (Added (flat_map T.form values.now) (W.state writer.old) (W.state writer.new)) }
+    ensures proper { OnOk result (All T.proper values.now) }
+    ensures err { length values.now * T.size ≤ byte_limit → IfErr result (IsWriteRefused (length values.now * T.size) (W.state writer.old) (W.state writer.new)) }
+    ensures vast { byte_limit < length values.now * T.size → (result ≡ Err (WriteError.WriteSizeLimit byte_limit)) × IsUnmoved (W.state writer.old) (W.state writer.new) }
+{
+    let Some(total) = total_size::<T>(values.len()) else {
+        let _ = &*writer;
+        return Err(WriteError::WriteSizeLimit(usize::MAX));
+    };
+    writer.make_room(total)?;
+    write_ready_forms(writer, values);
+    Ok(())
+}
+
+/// Writes the forms, for which room was made.
+fn write_ready_forms<W: Writer, T: ZeroCopy>(writer: &mut W, values: &[T])
+    requires { length values.now * T.size ≤ (W.state writer.old).ready }
+    ensures took { Took (flat_map T.form values.now) (W.state writer.old) (W.state writer.new) }
+    ensures proper { All T.proper values.now }
+{
+    match T::form_size() {
+        Some(size) if size <= 16 => write_blocks(writer, values),
+        _ => write_each(writer, values),
+    }
+}
