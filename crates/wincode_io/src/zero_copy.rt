@@ -124,7 +124,7 @@ fn size_within<T: ZeroCopy>(n: usize, len: usize) -> usize
 
 /// Puts the forms of the values, one after another, over `dst`, which has as many bytes as they.
 #[tactic(auto, using(crate::proofs::FormSteps::place_fits, crate::proofs::FormSteps::size_fits))]
-pub fn put_forms<T: ZeroCopy>(values: &[T], dst: &mut [u8])
+pub(crate) fn put_forms<T: ZeroCopy>(values: &[T], dst: &mut [u8])
     requires { length dst.old ≡ length values.now * T.size }
     ensures forms { dst.new ≡ flat_map T.form values.now }
     ensures proper { All T.proper values.now }
