@@ -5,6 +5,7 @@ ghost use Rattle.wincode_base.specs.declared.error.ReadError.TheVariants.{Io as 
 ghost use Rattle.wincode_base.specs.declared.error.WriteError.TheVariants.{Io as WriteIo, InvalidUtf8Encoding as WriteUtf8};
 
 use std::str::Utf8Error;
+use thiserror::Error;
 use wincode_io as io;
 
 /// Either of the two errors.
