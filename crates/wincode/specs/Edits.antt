@@ -5,8 +5,8 @@ use Rattle.wincode_io.specs.Edits.{all_edited, in_places, in_first, all_set}
 use Rattle.wincode_io.specs.Forms.{values}
 use Rattle.wincode_io.specs.Numbers.{le}
 use Rattle.wincode_io.specs.Writers.{byte_limit}
-use Rattle.wincode.specs.declared.error.ReadError.{ReadError}
-use Rattle.wincode.specs.declared.error.ReadError.TheVariants as reading
+use Rattle.wincode_base.specs.declared.error.ReadError.{ReadError}
+use Rattle.wincode_base.specs.declared.error.ReadError.TheVariants as reading
 use Rattle.wincode_io.specs.declared.error.ReadError.TheVariants as reader
 
 -- the bytes are a number of forms of s bytes, as eight bytes, then these forms, and then more

@@ -1,6 +1,6 @@
 -- Schemas whose values have one text each.
 use Rattle.std.specs.Prelude.{◌≡◌, ℕ, List}
-use Rattle.wincode.specs.Grammar.{ReadGrammar}
+use Rattle.wincode_base.specs.Grammar.{ReadGrammar}
 
 -- two texts that read as one value are the same
 pub record IsOneText {V : Type 0} (g : ReadGrammar V) : Type 0 where

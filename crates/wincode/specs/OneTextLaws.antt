@@ -4,18 +4,18 @@ use Rattle.std.specs.Int.{Width}
 use Rattle.wincode_io.specs.Joins.{Joined}
 use Rattle.wincode_io.specs.Numbers.{le}
 use Rattle.wincode_io.specs.Writers.{byte_limit}
-use Rattle.wincode.specs.Arrays.{array_read}
-use Rattle.wincode.specs.Grammar.{ReadGrammar}
-use Rattle.wincode.specs.Held.{held_read}
-use Rattle.wincode.specs.Leaves.{number_read, signed_read, bool_read, unit_read}
-use Rattle.wincode.specs.Lengths.{Scheme, bincode}
-use Rattle.wincode.specs.Lists.{list_read}
+use Rattle.wincode_base.specs.Arrays.{array_read}
+use Rattle.wincode_base.specs.Grammar.{ReadGrammar}
+use Rattle.wincode_base.specs.Held.{held_read}
+use Rattle.wincode_base.specs.Leaves.{number_read, signed_read, bool_read, unit_read}
+use Rattle.wincode_base.specs.Lengths.{Scheme, bincode}
+use Rattle.wincode_base.specs.Lists.{list_read}
 use Rattle.wincode.specs.OneText.{IsOneText}
-use Rattle.wincode.specs.Pairs.{pair_read}
-use Rattle.wincode.specs.Short.{short_read}
-use Rattle.wincode.specs.Tags.{tagged_read, option_tag, OptionReads, option_part_read, option_read, result_tag, SidesRead, sides_read, result_read}
-use Rattle.wincode.specs.Text.{char_read, text_read}
-use Rattle.wincode.specs.Views.{form_read, lent_read}
+use Rattle.wincode_base.specs.Pairs.{pair_read}
+use Rattle.wincode_base.specs.Short.{short_read}
+use Rattle.wincode_base.specs.Tags.{tagged_read, option_tag, OptionReads, option_part_read, option_read, result_tag, SidesRead, sides_read, result_read}
+use Rattle.wincode_base.specs.Text.{char_read, text_read}
+use Rattle.wincode_base.specs.Views.{form_read, lent_read}
 
 -- ---- leaves, whose text is a function of the value
 

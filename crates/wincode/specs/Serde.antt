@@ -1,7 +1,7 @@
 -- What deserializing bytes answers.
 use Rattle.std.specs.Prelude.{◌≡◌, ℕ, List, IsTrue, Option, Some}
 use Rattle.wincode_io.specs.Readers.{ReaderState}
-use Rattle.wincode.specs.Outcomes.{Found}
+use Rattle.wincode_base.specs.Outcomes.{Found}
 
 -- a front of the bytes, where they are told, reads as the value
 abbrev pub IsInFront : {V : Type 0} → (List ℕ → V → Type 0) → ReaderState → V → Type 0

@@ -11,31 +11,30 @@ ghost use Rattle.std.specs.Rc.{rc_slice_items};
 ghost use Rattle.std.proofs.Common.{lit≤};
 ghost use Rattle.wincode_collect.specs.Seen.{heap_sees, Made};
 ghost use Rattle.wincode_io.specs.Joins.{Each};
-ghost use Rattle.wincode.specs.BackLaws.{heap_reads_back};
-ghost use Rattle.wincode.specs.Gathered.{gathered_read, scattered_write};
-ghost use Rattle.wincode.specs.GatheredLaws.{bag_read_laws};
-ghost use Rattle.wincode.specs.InWindow.{is_static};
-ghost use Rattle.wincode.specs.Lists.{list_read, list_write, IsListRefused};
-ghost use Rattle.wincode.specs.ListLaws.{list_read_laws, list_write_laws, list_reads_back};
-ghost use Rattle.wincode.specs.ScatteredLaws.{scattered_write_laws};
-ghost use Rattle.wincode.specs.Sizes.{item_size};
+ghost use Rattle.wincode_base.specs.BackLaws.{heap_reads_back};
+ghost use Rattle.wincode_base.specs.Gathered.{gathered_read, scattered_write};
+ghost use Rattle.wincode_base.specs.GatheredLaws.{bag_read_laws};
+ghost use Rattle.wincode_base.specs.InWindow.{is_static};
+ghost use Rattle.wincode_base.specs.Lists.{list_read, list_write, IsListRefused};
+ghost use Rattle.wincode_base.specs.ListLaws.{list_read_laws, list_write_laws, list_reads_back};
+ghost use Rattle.wincode_base.specs.ScatteredLaws.{scattered_write_laws};
+ghost use Rattle.wincode_base.specs.Sizes.{item_size};
 
-mod pod;
 mod tagged;
 
-use crate::error::{ReadResult, WriteResult};
 use crate::io::{Lending, Reader, Writer};
-use crate::keys::Told;
 use crate::len::SeqLen;
-use crate::meta::TypeMeta;
-use crate::schema::from_items::get_list;
-use crate::schema::to_items::{size_of_list, write_list};
 use crate::schema::{RoundTrip, SchemaRead, SchemaWrite};
-pub use pod::Pod;
 use std::alloc::Global;
 use std::marker::PhantomData;
 use std::{boxed, collections, option, rc, vec};
 pub use tagged::{Option, Result};
+use wincode_base::error::{ReadResult, WriteResult};
+use wincode_base::meta::TypeMeta;
+pub use wincode_base::parts::Pod;
+use wincode_read::Told;
+use wincode_read::schema::from_items::get_list;
+use wincode_write::schema::to_items::{size_of_list, write_list};
 
 /// A `Vec` behind such a length.
 pub struct Vec<T, Len>(PhantomData<(T, Len)>);

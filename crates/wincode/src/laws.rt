@@ -6,8 +6,8 @@ ghost use Rattle.std.specs.List.{All};
 ghost use Rattle.wincode_io.specs.Edits.{all_edited, in_places, in_first};
 ghost use Rattle.wincode.specs.Edits.{EditedInPlace, IsEditRefused, EditedFirst, IsFirstRefused};
 
-use crate::error::{ReadError, ReadResult, read_length_encoding_overflow};
 use crate::io::{self, RefMut, SliceRefMut, ZeroCopy, see_bytes, size_of_form, total_size};
+use wincode_base::error::{ReadError, ReadResult, read_length_encoding_overflow};
 
 /// Whether each edit names one of `n` places.
 fn are_within<T: ZeroCopy>(edits: &[(usize, T)], n: usize) -> bool

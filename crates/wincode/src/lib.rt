@@ -3,12 +3,9 @@
 
 mod calls;
 pub mod containers;
-pub mod error;
-mod keys;
 pub mod laws;
 pub mod len;
 pub mod markers;
-pub mod meta;
 pub mod schema;
 pub mod serde;
 pub mod shape;
@@ -17,12 +14,13 @@ pub mod tag;
 pub use calls::{
     deserialize, deserialize_from, deserialize_mut, serialize, serialize_into, serialized_size,
 };
-pub use error::{Error, ReadError, ReadResult, Result, WriteError, WriteResult};
-pub use keys::{Key, Told};
-pub use markers::{OneText, SchemaReadOwned};
-pub use meta::TypeMeta;
-pub use schema::{RoundTrip, SchemaGet, SchemaRead, SchemaWrite};
+pub use markers::{OneText, RoundTrip, SchemaReadOwned};
 pub use shape::{By, Shape};
-pub use tag::{TagCode, read_tag, write_tag};
+pub use wincode_base::error::{Error, ReadError, ReadResult, Result, WriteError, WriteResult};
+pub use wincode_base::meta::TypeMeta;
+pub use wincode_base::tag::{TagCode, read_tag};
+pub use wincode_base::{error, meta};
 pub use wincode_io as io;
 pub use wincode_io::ZeroCopy;
+pub use wincode_read::{Key, SchemaGet, SchemaRead, Told};
+pub use wincode_write::{SchemaWrite, write_tag};

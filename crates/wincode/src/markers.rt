@@ -1,12 +1,14 @@
 //! What a schema keeps beyond reading and writing.
 ghost use Rattle.std.specs.Prelude.{◌≡◌};
+ghost use Rattle.wincode_base.specs.Grammar.{ReadsBack};
 ghost use Rattle.wincode.specs.OneText.{IsOneText};
 
 mod one_text;
 mod owned;
+mod round_trip;
 
 use crate::io::Lending;
-use crate::schema::SchemaRead;
+use crate::schema::{SchemaRead, SchemaWrite};
 
 /// Each value has one text: two texts that read as one value are the same. So of two texts the values are
 /// equal exactly where the texts are.
@@ -17,4 +19,9 @@ pub trait OneText<L: Lending>: SchemaRead<L> {
 /// Reading asks for no borrow, so every reader serves it.
 pub trait SchemaReadOwned<L: Lending>: SchemaRead<L> {
     ghost owned: { Self.reading.asks ≡ 0 };
+}
+
+/// What is written reads back: a text of a value whose lengths are within their limits reads as it.
+pub trait RoundTrip<L: Lending>: SchemaWrite + SchemaRead<L, Dst = Self::Src> {
+    ghost reads_back: { ReadsBack Self.SchemaWrite.proper Self.SchemaWrite.seen Self.SchemaWrite.writing Self.SchemaRead.seen Self.SchemaRead.reading };
 }

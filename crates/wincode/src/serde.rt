@@ -1,13 +1,13 @@
 //! The calls that most programs make, as methods of every schema.
 ghost use Rattle.std.specs.Prelude.{◌≡◌, IfOk, IfErr, OnOk, OnErr};
-ghost use Rattle.wincode.specs.Outcomes.{Gives, Puts, Refuses, IsUnread, IsSized, Wrote, IsSizeRefused, IsSerialized, IsUnserialized, IsUnended};
+ghost use Rattle.wincode_base.specs.Outcomes.{Gives, Puts, Refuses, IsUnread, IsSized, Wrote, IsSizeRefused, IsSerialized, IsUnserialized, IsUnended};
 ghost use Rattle.wincode.specs.Serde.{IsInFront, HoldsFront};
 
-use crate::error::{ReadResult, WriteError, WriteResult};
 use crate::io::{Input, Lending, Reader, WriteWindow, Writer};
 use crate::markers::SchemaReadOwned;
 use crate::schema::{SchemaGet, SchemaRead, SchemaWrite};
 use std::alloc::Global;
+use wincode_base::error::{ReadResult, WriteError, WriteResult};
 
 /// A value to bytes, for every schema that writes.
 pub trait Serialize: SchemaWrite {

@@ -1,16 +1,16 @@
 //! Types of a user's own that are written and read as another, a tuple say, without a grammar or a law of
 //! their own.
 ghost use Rattle.std.specs.Prelude.{◌≡◌, IfOk, IfErr, OnOk};
-ghost use Rattle.wincode.specs.Outcomes.{IsSized, IsSizeRefused, Wrote, Unwritten, IsPieceRefused};
-ghost use Rattle.wincode.specs.PairLaws.{write_laws_by, reads_back_by};
+ghost use Rattle.wincode_base.specs.Outcomes.{IsSized, IsSizeRefused, Wrote, Unwritten, IsPieceRefused};
+ghost use Rattle.wincode_base.specs.PairLaws.{write_laws_by, reads_back_by};
 
-use crate::error::{ReadResult, WriteResult};
 use crate::io::{Lending, Reader, Writer};
 use crate::markers::{OneText, SchemaReadOwned};
-use crate::meta::TypeMeta;
 use crate::schema::{RoundTrip, SchemaGet, SchemaRead, SchemaWrite};
 use std::alloc::Global;
 use std::marker::PhantomData;
+use wincode_base::error::{ReadResult, WriteResult};
+use wincode_base::meta::TypeMeta;
 
 /// What is written and read as its parts, by the schema `As` of these. A struct says what its parts are, in
 /// order, how it is made of them, and sizes and writes them by `size_of_members_N` and `write_members_N`.

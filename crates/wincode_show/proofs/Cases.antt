@@ -2,18 +2,18 @@
 use Rattle.std.proofs.Common.{◌≡◌, ◌∙◌, sym, subst, ℕ, ◌<◌, ◌≤◌, ◌^◌, ◌&&◌, true, List, max, refl, arith, Ok, Err}
 use Rattle.wincode_io.specs.Readers.{ReaderState}
 use Rattle.wincode_io.specs.Writers.{WriterState, WriterLaws}
-use Rattle.wincode.specs.Grammar.{ReadGrammar, WriteGrammar, WriteLaws}
-use Rattle.wincode.specs.Leaves.{number_read, number_write}
-use Rattle.wincode.specs.Outcomes.{Gives, Refuses, Wrote, Unwritten}
-use Rattle.wincode.specs.PairLaws.{le_max_left, le_max_right, both_left, both_right}
-use Rattle.wincode.specs.Sequences.{gives_map, refuses_map}
-use Rattle.wincode.specs.Tags.{counted_read, counted_write, sides_read, sides_write}
-use Rattle.wincode.specs.TagLaws.{IsCase, tagged_gives, case_refused, bad_tag}
-use Rattle.wincode.specs.WriteSequences.{wrote_map, unwritten_map}
-use Rattle.wincode.specs.declared.error.ReadError.{ReadError}
-use Rattle.wincode.specs.declared.error.ReadError.TheVariants as reading
-use Rattle.wincode.specs.declared.error.WriteError.{WriteError}
-use Rattle.wincode.proofs.Tags.{tagged_wrote, tag_unwritten, part_unwritten}
+use Rattle.wincode_base.specs.Grammar.{ReadGrammar, WriteGrammar, WriteLaws}
+use Rattle.wincode_base.specs.Leaves.{number_read, number_write}
+use Rattle.wincode_base.specs.Outcomes.{Gives, Refuses, Wrote, Unwritten}
+use Rattle.wincode_base.specs.PairLaws.{le_max_left, le_max_right, both_left, both_right}
+use Rattle.wincode_base.specs.Sequences.{gives_map, refuses_map}
+use Rattle.wincode_base.specs.Tags.{counted_read, counted_write, sides_read, sides_write}
+use Rattle.wincode_base.specs.TagLaws.{IsCase, tagged_gives, case_refused, bad_tag}
+use Rattle.wincode_base.specs.WriteSequences.{wrote_map, unwritten_map}
+use Rattle.wincode_base.specs.declared.error.ReadError.{ReadError}
+use Rattle.wincode_base.specs.declared.error.ReadError.TheVariants as reading
+use Rattle.wincode_base.specs.declared.error.WriteError.{WriteError}
+use Rattle.wincode_base.proofs.Tags.{tagged_wrote, tag_unwritten, part_unwritten}
 use Rattle.wincode_show.specs.Cases.{Three, three_tag, AreTags, IsNoTag, three_read, three_write}
 
 module _ {A B C : Type 0} {k a b c : ℕ} (n : ℕ) (t : AreTags k a b c) (g : ReadGrammar A) (h : ReadGrammar B) (i : ReadGrammar C) where

@@ -7,26 +7,26 @@ use Rattle.wincode_io.specs.NumberLaws.{length-le}
 use Rattle.wincode_io.specs.Readers.{ReaderState, memory, shared}
 use Rattle.wincode_io.specs.ShortNumberLaws.{groups_most}
 use Rattle.wincode_io.specs.declared.error.ReadError.TheVariants as reader
-use Rattle.wincode.specs.ArrayLaws.{array_write_laws}
-use Rattle.wincode.specs.Grammar.{WriteGrammar, WriteLaws}
-use Rattle.wincode.specs.LeafLaws.{number_write_laws, bool_write_laws}
-use Rattle.wincode.specs.LengthLaws.{bincode_text_is, text_of_len}
-use Rattle.wincode.specs.Leaves.{number_write}
-use Rattle.wincode.specs.Lengths.{HasText, bincode, text_len}
-use Rattle.wincode.specs.Lists.{list_write}
-use Rattle.wincode.specs.ListLaws.{list_write_laws}
+use Rattle.wincode_base.specs.ArrayLaws.{array_write_laws}
+use Rattle.wincode_base.specs.Grammar.{WriteGrammar, WriteLaws}
+use Rattle.wincode_base.specs.LeafLaws.{number_write_laws, bool_write_laws}
+use Rattle.wincode_base.specs.LengthLaws.{bincode_text_is, text_of_len}
+use Rattle.wincode_base.specs.Leaves.{number_write}
+use Rattle.wincode_base.specs.Lengths.{HasText, bincode, text_len}
+use Rattle.wincode_base.specs.Lists.{list_write}
+use Rattle.wincode_base.specs.ListLaws.{list_write_laws}
 use Rattle.wincode.specs.OneText.{IsOneText}
 use Rattle.wincode.specs.OneTextLaws.{number_one_text, bool_one_text, text_one_text, pair_one_text, array_one_text, list_one_text}
-use Rattle.wincode.specs.Outcomes.{Accepts, Due, Refuses, IsUnserialized}
-use Rattle.wincode.specs.Pairs.{pair_write}
-use Rattle.wincode.specs.PairLaws.{pair_write_laws}
-use Rattle.wincode.specs.Short.{short_scheme}
-use Rattle.wincode.specs.ShortLaws.{short_is}
-use Rattle.wincode.specs.TextLaws.{text_write_laws}
-use Rattle.wincode.specs.declared.error.ReadError.{ReadError}
-use Rattle.wincode.specs.declared.error.ReadError.TheVariants as reading
-use Rattle.wincode.specs.declared.error.WriteError.{WriteError}
-use Rattle.wincode.specs.declared.error.WriteError.TheVariants as writing
+use Rattle.wincode_base.specs.Outcomes.{Accepts, Due, Refuses, IsUnserialized}
+use Rattle.wincode_base.specs.Pairs.{pair_write}
+use Rattle.wincode_base.specs.PairLaws.{pair_write_laws}
+use Rattle.wincode_base.specs.Short.{short_scheme}
+use Rattle.wincode_base.specs.ShortLaws.{short_is}
+use Rattle.wincode_base.specs.TextLaws.{text_write_laws}
+use Rattle.wincode_base.specs.declared.error.ReadError.{ReadError}
+use Rattle.wincode_base.specs.declared.error.ReadError.TheVariants as reading
+use Rattle.wincode_base.specs.declared.error.WriteError.{WriteError}
+use Rattle.wincode_base.specs.declared.error.WriteError.TheVariants as writing
 use Rattle.wincode_show.specs.Recoding.{Reread, IsUnwritten, IsUnreread, IsReadMemory, IsRecodedAs, IsUnrecodedAs, IsKept, IsRecoded, IsUnrecoded, IsUnrelayed}
 use Rattle.wincode_show.specs.Shapes.{IsKnown, word_of, Value, byte_write, read_of, write_of, refusal_of}
 use Rattle.wincode_show.specs.declared.recoding.RelayError.{RelayError}

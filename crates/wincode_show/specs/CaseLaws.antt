@@ -1,11 +1,11 @@
 -- The laws of one of three cases, by its tag.
 use Rattle.std.proofs.Common.{◌≡◌, ℕ, ◌≤◌, Result, Ok, Err, refl}
 use Rattle.std.specs.Result.{result_map_both}
-use Rattle.wincode.specs.Grammar.{ReadGrammar, WriteGrammar, ReadLaws, WriteLaws, ReadsBack}
+use Rattle.wincode_base.specs.Grammar.{ReadGrammar, WriteGrammar, ReadLaws, WriteLaws, ReadsBack}
 use Rattle.wincode.specs.OneText.{IsOneText}
 use Rattle.wincode.specs.OneTextLaws.{tagged_one_text, sides_one_text}
-use Rattle.wincode.specs.Tags.{sides_tag, IfSide, sides_read, sides_write, counted_read, counted_write}
-use Rattle.wincode.specs.TagLaws.{one_case, sides_cases, counted_cases, cases_read_laws, sides_laws, counted_laws, tagged_write_laws, sides_reads_back, counted_reads_back, tagged_reads_back}
+use Rattle.wincode_base.specs.Tags.{sides_tag, IfSide, sides_read, sides_write, counted_read, counted_write}
+use Rattle.wincode_base.specs.TagLaws.{one_case, sides_cases, counted_cases, cases_read_laws, sides_laws, counted_laws, tagged_write_laws, sides_reads_back, counted_reads_back, tagged_reads_back}
 use Rattle.wincode_show.specs.Cases.{Three, three_tag, AreTags, three_read, three_write}
 
 -- the second and third have other tags than the first

@@ -1,7 +1,7 @@
 -- One of three cases, by its tag.
 use Rattle.std.specs.Prelude.{◌≡◌, ℕ, ◌<◌, ◌^◌, Result}
-use Rattle.wincode.specs.Grammar.{ReadGrammar, WriteGrammar}
-use Rattle.wincode.specs.Tags.{tagged_read, tagged_write, counted_read, counted_write, sides_tag, sides_read, sides_write}
+use Rattle.wincode_base.specs.Grammar.{ReadGrammar, WriteGrammar}
+use Rattle.wincode_base.specs.Tags.{tagged_read, tagged_write, counted_read, counted_write, sides_tag, sides_read, sides_write}
 
 -- one of three
 abbrev pub Three : Type 0 → Type 0 → Type 0 → Type 0

@@ -1,17 +1,17 @@
 -- The laws of events and marks.
 use Rattle.std.proofs.Common.{ℕ, ◌<◌, ◌^◌, true, false, arith, lit≤, lit<}
 use Rattle.std.specs.Prelude.{IsUtf8, string_bytes}
-use Rattle.wincode.specs.Grammar.{ReadLaws, WriteLaws, ReadsBack}
-use Rattle.wincode.specs.LeafLaws.{number_read_laws, number_write_laws, number_reads_back, unit_read_laws, unit_write_laws, unit_reads_back}
-use Rattle.wincode.specs.Leaves.{number_read, number_write, unit_write}
-use Rattle.wincode.specs.LengthLaws.{bincode_laws}
-use Rattle.wincode.specs.Lengths.{bincode}
-use Rattle.wincode.specs.ListLaws.{list_read_laws, list_write_laws, list_reads_back}
+use Rattle.wincode_base.specs.Grammar.{ReadLaws, WriteLaws, ReadsBack}
+use Rattle.wincode_base.specs.LeafLaws.{number_read_laws, number_write_laws, number_reads_back, unit_read_laws, unit_write_laws, unit_reads_back}
+use Rattle.wincode_base.specs.Leaves.{number_read, number_write, unit_write}
+use Rattle.wincode_base.specs.LengthLaws.{bincode_laws}
+use Rattle.wincode_base.specs.Lengths.{bincode}
+use Rattle.wincode_base.specs.ListLaws.{list_read_laws, list_write_laws, list_reads_back}
 use Rattle.wincode.specs.OneText.{IsOneText}
 use Rattle.wincode.specs.OneTextLaws.{number_one_text, list_one_text, text_one_text, pair_one_text, unit_one_text}
-use Rattle.wincode.specs.PairLaws.{pair_read_laws, pair_write_laws, pair_reads_back, write_laws_by, reads_back_by}
-use Rattle.wincode.specs.Tags.{IfSide, sides_write, counted_write}
-use Rattle.wincode.specs.TextLaws.{text_read_laws, text_write_laws, text_reads_back}
+use Rattle.wincode_base.specs.PairLaws.{pair_read_laws, pair_write_laws, pair_reads_back, write_laws_by, reads_back_by}
+use Rattle.wincode_base.specs.Tags.{IfSide, sides_write, counted_write}
+use Rattle.wincode_base.specs.TextLaws.{text_read_laws, text_write_laws, text_reads_back}
 use Rattle.wincode_show.specs.Cases.{AreTags}
 use Rattle.wincode_show.specs.CaseLaws.{three_read_laws, three_part_laws, three_write_laws, three_reads_back, three_one_text}
 use Rattle.wincode_show.specs.Events.{event_fields, fields_seen, event_seen, IsEventFields, IsEvent, IsSeenEvent, named_write, blob_write, event_read, event_write, mark_case, mark_seen, mark_read, mark_write}

@@ -3,14 +3,14 @@ use Rattle.std.specs.Prelude.{◌⊎◌, ℕ, ◌<◌, ◌^◌, true, false, Lis
 use Rattle.std.specs.Global.{Global}
 use Rattle.std.specs.Result.{result_map_both}
 use Rattle.wincode_io.specs.Joins.{Each}
-use Rattle.wincode.specs.Grammar.{ReadGrammar, WriteGrammar}
-use Rattle.wincode.specs.Leaves.{number_read, number_write, unit_read, unit_write}
-use Rattle.wincode.specs.Lengths.{bincode}
-use Rattle.wincode.specs.Lists.{list_read, list_write}
-use Rattle.wincode.specs.Outcomes.{Refusal}
-use Rattle.wincode.specs.Pairs.{pair_read, pair_write}
-use Rattle.wincode.specs.Tags.{IfSide, IsTagRefused, IsRefusedBehind}
-use Rattle.wincode.specs.Text.{text_read, text_write}
+use Rattle.wincode_base.specs.Grammar.{ReadGrammar, WriteGrammar}
+use Rattle.wincode_base.specs.Leaves.{number_read, number_write, unit_read, unit_write}
+use Rattle.wincode_base.specs.Lengths.{bincode}
+use Rattle.wincode_base.specs.Lists.{list_read, list_write}
+use Rattle.wincode_base.specs.Outcomes.{Refusal}
+use Rattle.wincode_base.specs.Pairs.{pair_read, pair_write}
+use Rattle.wincode_base.specs.Tags.{IfSide, IsTagRefused, IsRefusedBehind}
+use Rattle.wincode_base.specs.Text.{text_read, text_write}
 use Rattle.wincode_show.specs.Cases.{Three, IsNoTag, three_read, three_write}
 use Rattle.wincode_show.specs.declared.event.Event.{Event}
 use Rattle.wincode_show.specs.declared.event.Event.TheVariants.{Named, Blob, Empty}

@@ -1,12 +1,12 @@
 -- What recoding answers.
 use Rattle.std.specs.Prelude.{⊤, ◌≡◌, ℕ, List, ◌++◌, Option, IfSome, IsTrue}
 use Rattle.std.specs.Io.KnownBytes.{Keeps, Appends}
-use Rattle.wincode.specs.Grammar.{ReadGrammar, WriteGrammar}
-use Rattle.wincode.specs.Outcomes.{Found, Refusal, IsUnread, IsUnserialized}
-use Rattle.wincode.specs.declared.error.ReadError.{ReadError}
-use Rattle.wincode.specs.declared.error.ReadError.TheVariants as reading
-use Rattle.wincode.specs.declared.error.WriteError.{WriteError}
-use Rattle.wincode.specs.declared.error.WriteError.TheVariants as writing
+use Rattle.wincode_base.specs.Grammar.{ReadGrammar, WriteGrammar}
+use Rattle.wincode_base.specs.Outcomes.{Found, Refusal, IsUnread, IsUnserialized}
+use Rattle.wincode_base.specs.declared.error.ReadError.{ReadError}
+use Rattle.wincode_base.specs.declared.error.ReadError.TheVariants as reading
+use Rattle.wincode_base.specs.declared.error.WriteError.{WriteError}
+use Rattle.wincode_base.specs.declared.error.WriteError.TheVariants as writing
 use Rattle.wincode_io.specs.Readers.{ReaderState, memory, shared}
 use Rattle.wincode_show.specs.Shapes.{IsKnown, word_of, read_of, write_of, refusal_of}
 use Rattle.wincode_show.specs.declared.recoding.RelayError.{RelayError}

@@ -3,18 +3,18 @@ use Rattle.std.specs.Prelude.{◌≡◌, ⊤, ℕ, Bool, true, false, List, map,
 use Rattle.std.specs.Ordering.{nat_cmp}
 use Rattle.wincode_collect.specs.Collections.{IsMapOf}
 use Rattle.wincode_collect.specs.Seen.{sees, Made}
-use Rattle.wincode.specs.Arrays.{times_meta, array_read, array_write}
-use Rattle.wincode.specs.Gathered.{gathered_read}
-use Rattle.wincode.specs.Grammar.{ReadGrammar, WriteGrammar}
-use Rattle.wincode.specs.InWindow.{IsStaticRefused}
-use Rattle.wincode.specs.Leaves.{number_read, number_write, bool_read, bool_write, IsBoolRefused}
-use Rattle.wincode.specs.Lengths.{bincode, IsLengthRefused}
-use Rattle.wincode.specs.Lists.{list_read, list_write, AreRefused, IsListRefused}
-use Rattle.wincode.specs.Outcomes.{Refusal, IsDenied}
-use Rattle.wincode.specs.Pairs.{pair_read, pair_write, IsPairRefused}
-use Rattle.wincode.specs.Short.{short_scheme, IsShortRefused}
-use Rattle.wincode.specs.Sizes.{item_size, pair_size}
-use Rattle.wincode.specs.Text.{text_read, text_write, IsTextRefused}
+use Rattle.wincode_base.specs.Arrays.{times_meta, array_read, array_write}
+use Rattle.wincode_base.specs.Gathered.{gathered_read}
+use Rattle.wincode_base.specs.Grammar.{ReadGrammar, WriteGrammar}
+use Rattle.wincode_base.specs.InWindow.{IsStaticRefused}
+use Rattle.wincode_base.specs.Leaves.{number_read, number_write, bool_read, bool_write, IsBoolRefused}
+use Rattle.wincode_base.specs.Lengths.{bincode, IsLengthRefused}
+use Rattle.wincode_base.specs.Lists.{list_read, list_write, AreRefused, IsListRefused}
+use Rattle.wincode_base.specs.Outcomes.{Refusal, IsDenied}
+use Rattle.wincode_base.specs.Pairs.{pair_read, pair_write, IsPairRefused}
+use Rattle.wincode_base.specs.Short.{short_scheme, IsShortRefused}
+use Rattle.wincode_base.specs.Sizes.{item_size, pair_size}
+use Rattle.wincode_base.specs.Text.{text_read, text_write, IsTextRefused}
 use Rattle.wincode_show.specs.declared.recoding.KnownShape.{KnownShape}
 use Rattle.wincode_show.specs.declared.recoding.KnownShape.TheVariants.{Nested, Text, Short, Record, Pairs}
 

@@ -1,13 +1,13 @@
 //! A struct of the repository's own, with its schema by hand.
 ghost use Rattle.std.specs.Prelude.{◌<◌, ◌^◌, true, refl};
 ghost use Rattle.std.proofs.Common.{lit≤};
-ghost use Rattle.wincode.specs.Lengths.{bincode};
-ghost use Rattle.wincode.specs.LengthLaws.{bincode_laws};
-ghost use Rattle.wincode.specs.Leaves.{number_read, number_write};
-ghost use Rattle.wincode.specs.LeafLaws.{number_read_laws, number_write_laws, number_reads_back};
-ghost use Rattle.wincode.specs.ListLaws.{list_read_laws, list_write_laws, list_reads_back};
+ghost use Rattle.wincode_base.specs.Lengths.{bincode};
+ghost use Rattle.wincode_base.specs.LengthLaws.{bincode_laws};
+ghost use Rattle.wincode_base.specs.Leaves.{number_read, number_write};
+ghost use Rattle.wincode_base.specs.LeafLaws.{number_read_laws, number_write_laws, number_reads_back};
+ghost use Rattle.wincode_base.specs.ListLaws.{list_read_laws, list_write_laws, list_reads_back};
 ghost use Rattle.wincode.specs.OneTextLaws.{number_one_text, list_one_text, pair_one_text};
-ghost use Rattle.wincode.specs.PairLaws.{pair_read_laws, pair_write_laws, pair_reads_back, write_laws_by, reads_back_by};
+ghost use Rattle.wincode_base.specs.PairLaws.{pair_read_laws, pair_write_laws, pair_reads_back, write_laws_by, reads_back_by};
 
 use std::alloc::Global;
 use wincode::io::{Lending, Reader, Writer};

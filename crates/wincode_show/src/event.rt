@@ -1,8 +1,8 @@
 //! An enum of three cases with schemas by hand, which differ in their tags alone; and one of cases that hold
 //! nothing.
 ghost use Rattle.std.specs.Prelude.{◌≡◌, ℕ, ◌+◌, ◌≤◌, ◌^◌, true, false, IfOk, IfErr, refl};
-ghost use Rattle.wincode.specs.Outcomes.{Gives, Refuses, IsOverflow};
-ghost use Rattle.wincode.specs.Tags.{IsTagRefused};
+ghost use Rattle.wincode_base.specs.Outcomes.{Gives, Refuses, IsOverflow};
+ghost use Rattle.wincode_base.specs.Tags.{IsTagRefused};
 ghost use Rattle.wincode_show.specs.Cases.{Three, AreTags, IsNoTag};
 ghost use Rattle.wincode_show.specs.Events.{SeenEvent, event_seen, IsEvent, IsSeenEvent, event_read, event_write, IsEventRefused, mark_seen, mark_read, mark_write};
 ghost use Rattle.wincode_show.specs.EventLaws.{event_read_laws, event_write_laws, event_reads_back, event_one_text};

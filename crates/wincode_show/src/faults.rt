@@ -1,6 +1,6 @@
 //! Devices that serve so many calls and then fail each time: a reader and a writer over one.
 ghost use Rattle.std.specs.Prelude.{◌≡◌, ℕ, List, IfOk, IfErr, OnOk};
-ghost use Rattle.wincode.specs.Outcomes.{Found, IsUnread};
+ghost use Rattle.wincode_base.specs.Outcomes.{Found, IsUnread};
 ghost use Rattle.wincode_show.specs.Shapes.{read_of, refusal_of};
 ghost use Rattle.wincode_show.specs.declared.recoding.KnownShape.TheVariants.{Record};
 ghost use Rattle.wincode_show.specs.Faults.{HasServed, HasFailed, over_device};

@@ -1,16 +1,16 @@
 //! A message of the repository's own, with its schema by hand: the worked example of a schema of one's own.
 ghost use Rattle.std.specs.Prelude.{◌<◌, ◌^◌, true, false, IsUtf8, string_bytes, refl};
 ghost use Rattle.std.proofs.Common.{lit≤};
-ghost use Rattle.wincode.specs.LeafLaws.{number_read_laws, number_write_laws, number_reads_back};
-ghost use Rattle.wincode.specs.Leaves.{number_read, number_write};
-ghost use Rattle.wincode.specs.ListLaws.{list_read_laws, list_write_laws, list_reads_back};
+ghost use Rattle.wincode_base.specs.LeafLaws.{number_read_laws, number_write_laws, number_reads_back};
+ghost use Rattle.wincode_base.specs.Leaves.{number_read, number_write};
+ghost use Rattle.wincode_base.specs.ListLaws.{list_read_laws, list_write_laws, list_reads_back};
 ghost use Rattle.wincode.specs.OneTextLaws.{number_one_text, list_one_text, text_one_text, option_one_text, pair_one_text};
-ghost use Rattle.wincode.specs.PairLaws.{pair_read_laws, pair_write_laws, pair_reads_back, write_laws_by, reads_back_by};
-ghost use Rattle.wincode.specs.Short.{short_scheme};
-ghost use Rattle.wincode.specs.ShortLaws.{short_scheme_laws};
-ghost use Rattle.wincode.specs.TagLaws.{option_read_laws, option_write_laws, option_reads_back};
-ghost use Rattle.wincode.specs.Text.{text_read, text_write};
-ghost use Rattle.wincode.specs.TextLaws.{text_read_laws, text_write_laws, text_reads_back};
+ghost use Rattle.wincode_base.specs.PairLaws.{pair_read_laws, pair_write_laws, pair_reads_back, write_laws_by, reads_back_by};
+ghost use Rattle.wincode_base.specs.Short.{short_scheme};
+ghost use Rattle.wincode_base.specs.ShortLaws.{short_scheme_laws};
+ghost use Rattle.wincode_base.specs.TagLaws.{option_read_laws, option_write_laws, option_reads_back};
+ghost use Rattle.wincode_base.specs.Text.{text_read, text_write};
+ghost use Rattle.wincode_base.specs.TextLaws.{text_read_laws, text_write_laws, text_reads_back};
 
 use std::alloc::Global;
 use wincode::io::{Lending, Reader, Writer};

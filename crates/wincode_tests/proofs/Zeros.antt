@@ -5,13 +5,13 @@ use Rattle.wincode_io.specs.JoinLaws.{each_append}
 use Rattle.wincode_io.specs.PlaceLaws.{loses_onward}
 use Rattle.wincode_io.specs.Readers.{ReaderState, Takes}
 use Rattle.wincode_io.specs.Writers.{WriterState, WriterLaws, Took, IsWriteRefused}
-use Rattle.wincode.specs.LeafLaws.{same_front}
-use Rattle.wincode.specs.Outcomes.{Accepts, Refuses, Unwritten}
-use Rattle.wincode.specs.WriteSequences.{text_unwritten}
+use Rattle.wincode_base.specs.LeafLaws.{same_front}
+use Rattle.wincode_base.specs.Outcomes.{Accepts, Refuses, Unwritten}
+use Rattle.wincode_base.specs.WriteSequences.{text_unwritten}
 use Rattle.std.proofs.lemmas.List.{length-replicate}
-use Rattle.wincode.specs.SizedLaws.{takes_joins}
-use Rattle.wincode.specs.declared.error.ReadError.TheVariants as reading
-use Rattle.wincode.specs.declared.error.WriteError.TheVariants as writing
+use Rattle.wincode_base.specs.SizedLaws.{takes_joins}
+use Rattle.wincode_base.specs.declared.error.ReadError.TheVariants as reading
+use Rattle.wincode_base.specs.declared.error.WriteError.TheVariants as writing
 use Rattle.wincode_io.specs.declared.error.WriteError.{WriteError as IoWriteError}
 use Rattle.wincode_tests.specs.Block.{AreZeros, all_zero, block_read, block_write}
 

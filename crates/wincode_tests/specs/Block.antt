@@ -3,8 +3,8 @@ use Rattle.std.specs.Prelude.{◌≡◌, ℕ, Bool, true, false, List, length, r
 use Rattle.std.proofs.Common.{◌∙◌, sym, refl, arith, zero, suc, [], ◌∷◌}
 use Rattle.std.proofs.lemmas.List.{length-replicate}
 use Rattle.wincode_io.specs.Joins.{Each}
-use Rattle.wincode.specs.Grammar.{ReadGrammar, ReadLaws, WriteGrammar, WriteLaws, ReadsBack}
-use Rattle.wincode.specs.declared.meta.TypeMeta.TheVariants.{Static}
+use Rattle.wincode_base.specs.Grammar.{ReadGrammar, ReadLaws, WriteGrammar, WriteLaws, ReadsBack}
+use Rattle.wincode_base.specs.declared.meta.TypeMeta.TheVariants.{Static}
 
 -- n bytes, all of them zero
 abbrev pub AreZeros : ℕ → List ℕ → Type 0

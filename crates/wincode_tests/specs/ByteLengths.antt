@@ -3,7 +3,7 @@ use Rattle.std.specs.Prelude.{◌≡◌, ℕ, ◌<◌, false, Some, None, List, 
 use Rattle.std.proofs.Common.{◌∙◌, sym, ap, refl, arith, cond}
 use Rattle.std.proofs.lemmas.Bool.{lt-ltb, ltb-true}
 use Rattle.std.proofs.lemmas.Option.{cond_some}
-use Rattle.wincode.specs.Lengths.{Scheme, SchemeLaws, IsLength}
+use Rattle.wincode_base.specs.Lengths.{Scheme, SchemeLaws, IsLength}
 
 abbrev pub byte_scheme : Scheme
 byte_scheme = record {

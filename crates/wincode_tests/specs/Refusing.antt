@@ -2,10 +2,10 @@
 use Rattle.std.specs.Prelude.{◌≡◌, true, false}
 use Rattle.std.proofs.Common.{arith}
 use Rattle.wincode_io.specs.Readers.{ReaderState}
-use Rattle.wincode.specs.Grammar.{ReadGrammar, ReadLaws, WriteGrammar, WriteLaws}
-use Rattle.wincode.specs.declared.error.ReadError.{ReadError}
-use Rattle.wincode.specs.declared.error.ReadError.TheVariants.{Custom}
-use Rattle.wincode.specs.declared.meta.TypeMeta.TheVariants.{Dynamic}
+use Rattle.wincode_base.specs.Grammar.{ReadGrammar, ReadLaws, WriteGrammar, WriteLaws}
+use Rattle.wincode_base.specs.declared.error.ReadError.{ReadError}
+use Rattle.wincode_base.specs.declared.error.ReadError.TheVariants.{Custom}
+use Rattle.wincode_base.specs.declared.meta.TypeMeta.TheVariants.{Dynamic}
 
 abbrev pub nothing_read : ReadGrammar Unit
 nothing_read = record {

@@ -2,11 +2,11 @@
 use Rattle.std.specs.Prelude.{◌≡◌, ℕ, ◌-◌, List, [], ◌++◌, length}
 use Rattle.wincode_io.specs.Readers.{ReaderState}
 use Rattle.wincode_io.specs.Writers.{WriterState, in_memory, byte_limit}
-use Rattle.wincode.specs.declared.error.Error.{Error}
-use Rattle.wincode.specs.declared.error.WriteError.{WriteError}
-use Rattle.wincode.specs.declared.error.Error.TheVariants.{WriteError as EitherWrite, ReadError as EitherRead}
-use Rattle.wincode.specs.Grammar.{ReadGrammar, WriteGrammar}
-use Rattle.wincode.specs.Outcomes.{Gives, Refusal, IsReadRefused, Unwritten}
+use Rattle.wincode_base.specs.declared.error.Error.{Error}
+use Rattle.wincode_base.specs.declared.error.WriteError.{WriteError}
+use Rattle.wincode_base.specs.declared.error.Error.TheVariants.{WriteError as EitherWrite, ReadError as EitherRead}
+use Rattle.wincode_base.specs.Grammar.{ReadGrammar, WriteGrammar}
+use Rattle.wincode_base.specs.Outcomes.{Gives, Refusal, IsReadRefused, Unwritten}
 
 -- Bytes were read as a value, the rest was left, and the text reads as that value.
 pub record Rewritten {X V : Type 0} (seen : X → V) (reads : List ℕ → V → Type 0) (old new : ReaderState) (text : List ℕ) : Type 0 where

@@ -1,6 +1,6 @@
 //! A length scheme of the repository's own: a length below 256 in one byte.
 ghost use Rattle.std.specs.Prelude.{◌≡◌};
-ghost use Rattle.wincode.specs.Outcomes.{IsDenied};
+ghost use Rattle.wincode_base.specs.Outcomes.{IsDenied};
 ghost use Rattle.wincode_tests.specs.ByteLengths.{byte_scheme, byte_scheme_laws};
 
 use wincode::io::{Lending, Reader, Writer, fill_array};

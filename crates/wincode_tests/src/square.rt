@@ -1,10 +1,10 @@
 //! A struct of the repository's own as the key of maps, with its schema by hand.
 ghost use Rattle.std.specs.Prelude.{true, refl};
 ghost use Rattle.std.proofs.Common.{lit≤};
-ghost use Rattle.wincode.specs.KeyLaws.{nat_alike, pair_alike};
-ghost use Rattle.wincode.specs.LeafLaws.{number_read_laws, number_write_laws, number_reads_back};
+ghost use Rattle.wincode_base.specs.KeyLaws.{nat_alike, pair_alike};
+ghost use Rattle.wincode_base.specs.LeafLaws.{number_read_laws, number_write_laws, number_reads_back};
 ghost use Rattle.wincode.specs.OneTextLaws.{number_one_text, pair_one_text};
-ghost use Rattle.wincode.specs.PairLaws.{pair_read_laws, pair_write_laws, pair_reads_back, write_laws_by, reads_back_by};
+ghost use Rattle.wincode_base.specs.PairLaws.{pair_read_laws, pair_write_laws, pair_reads_back, write_laws_by, reads_back_by};
 
 use std::alloc::Global;
 use wincode::io::{Lending, Reader, Writer};

@@ -2,20 +2,20 @@
 ghost use Rattle.std.specs.Prelude.{◌≡◌, false, Option, Result};
 ghost use Rattle.std.specs.Option.{option_map};
 ghost use Rattle.std.specs.Result.{result_map_both};
-ghost use Rattle.wincode.specs.Tags.{option_read, option_write, IfPart, IsOptionRefused, result_read, result_write, IfSide, IsResultRefused};
-ghost use Rattle.wincode.specs.TagLaws.{some_bytes, option_read_laws, option_write_laws, option_reads_back, result_read_laws, result_write_laws, result_reads_back};
+ghost use Rattle.wincode_base.specs.Tags.{option_read, option_write, IfPart, IsOptionRefused, result_read, result_write, IfSide, IsResultRefused};
+ghost use Rattle.wincode_base.specs.TagLaws.{some_bytes, option_read_laws, option_write_laws, option_reads_back, result_read_laws, result_write_laws, result_reads_back};
 
-use crate::error::{ReadResult, WriteResult};
 use crate::io::{Lending, Reader, Writer};
-use crate::meta::TypeMeta;
-use crate::schema::tags::{
-    get_option, get_result, result_meta, size_of_option, size_of_result, write_option, write_result,
-};
 use crate::schema::{RoundTrip, SchemaRead, SchemaWrite};
 use crate::tag::TagCode;
 use std::alloc::Global;
 use std::marker::PhantomData;
 use std::{option, result};
+use wincode_base::error::{ReadResult, WriteResult};
+use wincode_base::meta::TypeMeta;
+use wincode_base::sizes::result_meta;
+use wincode_read::schema::tags::{get_option, get_result};
+use wincode_write::schema::tags::{size_of_option, size_of_result, write_option, write_result};
 
 /// An `Option` is such a tag, 0 for `None` and 1 for `Some`, and then the value, if there is one.
 pub struct Option<T, Tag>(PhantomData<(T, Tag)>);

@@ -2,8 +2,8 @@
 ghost use Rattle.std.specs.Prelude.{true, false, max};
 ghost use Rattle.std.specs.Int.{w8, w16, w32, w64, w128};
 ghost use Rattle.wincode_io.specs.Readers.{shared, for_writing};
-ghost use Rattle.wincode.specs.Lengths.{bincode};
-ghost use Rattle.wincode.specs.Views.{form_prealloc};
+ghost use Rattle.wincode_base.specs.Lengths.{bincode};
+ghost use Rattle.wincode_base.specs.Views.{form_prealloc};
 ghost use Rattle.wincode.specs.OneTextLaws.{number_one_text, signed_one_text, bool_one_text, unit_one_text, char_one_text, text_one_text, short_one_text};
 ghost use Rattle.wincode.specs.OneTextLaws.{pair_one_text, array_one_text, list_one_text, option_one_text, result_one_text, held_one_text, form_one_text, lent_one_text};
 

@@ -4,7 +4,6 @@ ghost use Rattle.wincode.specs.OneTextLaws.{both_owned};
 
 use crate::containers::{self, Pod};
 use crate::io::{Lending, ZeroCopy};
-use crate::keys::Key;
 use crate::len::{SeqLen, ShortU16};
 use crate::markers::SchemaReadOwned;
 use crate::tag::TagCode;
@@ -12,6 +11,7 @@ use std::collections::{BTreeMap, BTreeSet, BinaryHeap, HashMap, HashSet, LinkedL
 use std::hash::Hash;
 use std::marker::PhantomData;
 use std::rc::Rc;
+use wincode_read::Key;
 
 impl<L: Lending> SchemaReadOwned<L> for u8 {
     ghost owned = { refl };

@@ -1,5 +1,5 @@
 use Rattle.std.proofs.Common.{rules, ◌≡◌}
-use Rattle.wincode.specs.Leaves.{unit_read}
+use Rattle.wincode_base.specs.Leaves.{unit_read}
 use Rattle.wincode_show.proofs.Cases.{first_gives, second_gives, first_refused, second_refused, none_refused}
 use Rattle.wincode_show.specs.Cases.{IsNoTag}
 use Rattle.wincode_show.specs.Events.{named_read, blob_read}

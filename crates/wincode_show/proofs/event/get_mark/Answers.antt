@@ -1,5 +1,5 @@
 use Rattle.std.proofs.Common.{rules}
-use Rattle.wincode.specs.Leaves.{unit_read}
+use Rattle.wincode_base.specs.Leaves.{unit_read}
 use Rattle.wincode_show.proofs.Cases.{none_refused}
 use Rattle.wincode_show.specs.Cases.{IsNoTag}
 use Rattle.wincode_show.specs.EventLaws.{first_tags}

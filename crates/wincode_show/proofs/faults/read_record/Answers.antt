@@ -1,7 +1,7 @@
 use Rattle.std.proofs.Common.{subst, ap}
 use Rattle.wincode_show.specs.Faults.{over_device}
 use Rattle.std.specs.Result.{IfErr}
-use Rattle.wincode.specs.Outcomes.{IsUnread}
+use Rattle.wincode_base.specs.Outcomes.{IsUnread}
 use Rattle.wincode_show.specs.Shapes.{read_of, refusal_of}
 use Rattle.wincode_show.specs.declared.recoding.KnownShape.TheVariants.{Record}
 use Rattle.wincode_show.proofs.Faulty.{unread}

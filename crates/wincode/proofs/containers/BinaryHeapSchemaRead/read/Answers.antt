@@ -2,8 +2,8 @@ use Rattle.std.proofs.Common.{refl}
 use Rattle.std.specs.BinaryHeap.{heap_items}
 use Rattle.std.specs.List.Sorted.{IsPermutation}
 use Rattle.wincode_collect.specs.Seen.{heap_sees, Made}
-use Rattle.wincode.specs.GatheredLaws.{gathered_refused, gathered_gives}
-use Rattle.wincode.proofs.Refused.{passed_on}
+use Rattle.wincode_base.specs.GatheredLaws.{gathered_refused, gathered_gives}
+use Rattle.wincode_base.proofs.Refused.{passed_on}
 use Rattle.wincode.proofs.containers.BinaryHeapSchemaRead.read.Goals as goal
 
 pub returns-in_err-get_list-clause-err : goal.returns-in_err-get_list-clause-err

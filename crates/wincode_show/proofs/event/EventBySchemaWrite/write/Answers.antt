@@ -2,7 +2,7 @@ use Rattle.std.proofs.Common.{rules, Ok, Err}
 use Rattle.std.proofs.lemmas.Result.{IfErr-weaker, on_ok_weaker}
 use Rattle.wincode_show.proofs.Cases.{case_tag_unwritten, first_wrote, first_unwritten, second_wrote, second_unwritten}
 use Rattle.wincode_show.specs.Events.{seen_named, seen_blob, named_write, blob_write}
-use Rattle.wincode.specs.Leaves.{unit_write}
+use Rattle.wincode_base.specs.Leaves.{unit_write}
 use Rattle.wincode_show.specs.EventLaws.{event_part_laws}
 use Rattle.wincode_show.proofs.event.EventBySchemaWrite.write.Goals as goal
 

@@ -1,5 +1,5 @@
 use Rattle.std.proofs.Common.{rules, true}
-use Rattle.wincode.specs.SizedLaws.{denied_refuses, takes_gives, puts}
+use Rattle.wincode_base.specs.SizedLaws.{denied_refuses, takes_gives, puts}
 use Rattle.wincode_tests.specs.Block.{block_read}
 use Rattle.wincode_tests.proofs.Zeros.{other_refuses}
 use Rattle.wincode_tests.proofs.block.BlockSchemaRead.read.Goals as goal

@@ -1,7 +1,7 @@
 use Rattle.std.proofs.Common.{rules, true, ◌<◌, get_or}
-use Rattle.wincode.specs.Lengths.{IsLength}
-use Rattle.wincode.specs.SizedLaws.{arrays_takes, takes_gives, denied_refuses}
-use Rattle.wincode.specs.declared.error.ReadError.TheVariants as reading
+use Rattle.wincode_base.specs.Lengths.{IsLength}
+use Rattle.wincode_base.specs.SizedLaws.{arrays_takes, takes_gives, denied_refuses}
+use Rattle.wincode_base.specs.declared.error.ReadError.TheVariants as reading
 use Rattle.wincode_tests.specs.ByteLengths.{byte_scheme, byte_length, length_byte, one_byte}
 use Rattle.wincode_tests.proofs.byte_len.ByteLenSeqLen.read.Goals as goal
 

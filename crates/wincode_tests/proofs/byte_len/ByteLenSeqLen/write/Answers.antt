@@ -1,6 +1,6 @@
 use Rattle.std.proofs.Common.{rules, ◌<◌, sym, ap, ◌∷◌, []}
-use Rattle.wincode.specs.Lengths.{length_write, text_len}
-use Rattle.wincode.specs.WriteSequences.{text_wrote, text_unwritten}
+use Rattle.wincode_base.specs.Lengths.{length_write, text_len}
+use Rattle.wincode_base.specs.WriteSequences.{text_wrote, text_unwritten}
 use Rattle.wincode_tests.specs.ByteLengths.{byte_scheme, byte_text}
 use Rattle.wincode_tests.proofs.byte_len.ByteLenSeqLen.write.Goals as goal
 

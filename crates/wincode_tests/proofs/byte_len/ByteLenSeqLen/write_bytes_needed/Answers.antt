@@ -1,5 +1,5 @@
 use Rattle.std.proofs.Common.{rules, ◌<◌, sym, ap, ◌∷◌, []}
-use Rattle.wincode.specs.Lengths.{text_len}
+use Rattle.wincode_base.specs.Lengths.{text_len}
 use Rattle.wincode_tests.specs.ByteLengths.{byte_text}
 use Rattle.wincode_tests.proofs.byte_len.ByteLenSeqLen.write_bytes_needed.Goals as goal
 

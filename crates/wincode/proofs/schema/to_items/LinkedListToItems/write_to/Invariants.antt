@@ -1,7 +1,0 @@
-use Rattle.wincode.proofs.Walks.{WritesSoFar}
-use Rattle.wincode.proofs.schema.to_items.LinkedListToItems.write_to.Given as goal
-
--- the items before those that are left were written
-abbrev pub invariant-loop-item : goal.invariant-loop-item
-invariant-loop-item g l =
-    WritesSoFar g.T.SchemaWrite.writing g.T.SchemaWrite.seen g.T.SchemaWrite.proper (g.W.Writer.state l.fn.writer) (g.W.Writer.state l.writer) l.self l.item-iterator

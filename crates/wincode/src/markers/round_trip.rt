@@ -1,0 +1,551 @@
+//! What is written reads back: every schema that reads and writes.
+ghost use Rattle.std.specs.BinaryHeap.{heap_items};
+ghost use Rattle.std.specs.Int.{w8, w16, w32, w64, w128};
+ghost use Rattle.std.specs.Prelude.{◌<◌, true, false, string_bytes, Option, Result, ◌^◌, max};
+ghost use Rattle.wincode_io.specs.Readers.{shared};
+ghost use Rattle.wincode_io.specs.Viewed.{value_seen, values_seen};
+ghost use Rattle.wincode_base.specs.ArrayLaws.{array_reads_back};
+ghost use Rattle.wincode_base.specs.BackLaws.{map_reads_back, set_reads_back, hash_map_reads_back, hash_set_reads_back, heap_reads_back};
+ghost use Rattle.wincode_base.specs.HeldLaws.{held_reads_back};
+ghost use Rattle.wincode_base.specs.LeafLaws.{bool_reads_back, unit_reads_back, number_reads_back, signed_reads_back};
+ghost use Rattle.wincode_base.specs.Leaves.{number_read, number_write};
+ghost use Rattle.wincode_base.specs.LengthLaws.{bincode_laws};
+ghost use Rattle.wincode_base.specs.Lengths.{bincode};
+ghost use Rattle.wincode_base.specs.ListLaws.{list_reads_back};
+ghost use Rattle.wincode_base.specs.PairLaws.{pair_reads_back, reads_back_by};
+ghost use Rattle.wincode_base.specs.ShortLaws.{short_reads_back};
+ghost use Rattle.wincode_base.specs.TagLaws.{option_reads_back, result_reads_back};
+ghost use Rattle.wincode_base.specs.TextLaws.{char_reads_back, text_reads_back};
+ghost use Rattle.wincode_base.specs.ViewLaws.{form_reads_back, lent_reads_back, lent_reads_back_seen};
+ghost use Rattle.wincode_base.specs.Views.{form_prealloc, counted_read, counted_write};
+
+use crate::markers::RoundTrip;
+use std::collections::{BTreeMap, BTreeSet, BinaryHeap, HashMap, HashSet, LinkedList, VecDeque};
+use std::hash::Hash;
+use std::marker::PhantomData;
+use std::rc::Rc;
+use std::str;
+use wincode_base::len::ShortU16;
+use wincode_base::parts::Pod;
+use wincode_io::{Lending, Lifetime, SliceView, View, ZeroCopy};
+use wincode_read::{Key, SchemaRead, Told};
+use wincode_write::SchemaWrite;
+
+impl<L: Lending> RoundTrip<L> for u8 {
+    ghost reads_back = { number_reads_back 1 true };
+}
+
+impl<L: Lending> RoundTrip<L> for u16 {
+    ghost reads_back = { number_reads_back 2 true };
+}
+
+impl<L: Lending> RoundTrip<L> for u32 {
+    ghost reads_back = { number_reads_back 4 true };
+}
+
+impl<L: Lending> RoundTrip<L> for u64 {
+    ghost reads_back = { number_reads_back 8 true };
+}
+
+impl<L: Lending> RoundTrip<L> for u128 {
+    ghost reads_back = { number_reads_back 16 true };
+}
+
+impl<L: Lending> RoundTrip<L> for usize {
+    ghost reads_back = { number_reads_back 8 false };
+}
+
+impl<L: Lending> RoundTrip<L> for i8 {
+    ghost reads_back = { signed_reads_back w8 true };
+}
+
+impl<L: Lending> RoundTrip<L> for i16 {
+    ghost reads_back = { signed_reads_back w16 true };
+}
+
+impl<L: Lending> RoundTrip<L> for i32 {
+    ghost reads_back = { signed_reads_back w32 true };
+}
+
+impl<L: Lending> RoundTrip<L> for i64 {
+    ghost reads_back = { signed_reads_back w64 true };
+}
+
+impl<L: Lending> RoundTrip<L> for i128 {
+    ghost reads_back = { signed_reads_back w128 true };
+}
+
+impl<L: Lending> RoundTrip<L> for isize {
+    ghost reads_back = { signed_reads_back w64 false };
+}
+
+impl<L: Lending> RoundTrip<L> for bool {
+    ghost reads_back = { bool_reads_back };
+}
+
+impl<L: Lending> RoundTrip<L> for () {
+    ghost reads_back = { unit_reads_back };
+}
+
+impl<L: Lending, T> RoundTrip<L> for PhantomData<T> {
+    ghost reads_back = { unit_reads_back };
+}
+
+impl<L: Lending> RoundTrip<L> for char {
+    ghost reads_back = { char_reads_back };
+}
+
+impl<L: Lending> RoundTrip<L> for String {
+    ghost reads_back = { text_reads_back 24 0 false (λ s. string_bytes s) };
+}
+
+impl<'a> RoundTrip<Lifetime<'a>> for &'a str {
+    ghost reads_back = { text_reads_back 16 1 true (λ s. s.now) };
+}
+
+impl<L: Lending, T: RoundTrip<L>> RoundTrip<L> for Box<T>
+where
+    T::Src: Drop,
+{
+    ghost reads_back = { held_reads_back (λ held. held.value) T.SchemaWrite.proper T.SchemaWrite.seen
+        T.SchemaWrite.writing T.SchemaRead.seen T.SchemaRead.reading T.reads_back };
+}
+
+impl<L: Lending, T: RoundTrip<L>> RoundTrip<L> for Rc<T>
+where
+    T::Src: Drop,
+{
+    ghost reads_back = { held_reads_back (λ held. held.value) T.SchemaWrite.proper T.SchemaWrite.seen
+        T.SchemaWrite.writing T.SchemaRead.seen T.SchemaRead.reading T.reads_back };
+}
+
+impl<L: Lending, T: RoundTrip<L>> RoundTrip<L> for Option<T>
+where
+    T::Src: Drop,
+{
+    ghost reads_back = { option_reads_back 1 T.SchemaWrite.proper T.SchemaWrite.seen T.SchemaWrite.writing T.SchemaRead.seen T.SchemaRead.reading T.reads_back };
+}
+
+impl<L: Lending, T: RoundTrip<L>, E: RoundTrip<L>> RoundTrip<L> for Result<T, E>
+where
+    T::Src: Drop,
+    E::Src: Drop,
+{
+    ghost reads_back = { result_reads_back 4 T.SchemaWrite.proper E.SchemaWrite.proper T.SchemaWrite.seen
+        T.SchemaWrite.writing T.SchemaRead.seen T.SchemaRead.reading E.SchemaWrite.seen E.SchemaWrite.writing
+        E.SchemaRead.seen E.SchemaRead.reading T.reads_back E.reads_back };
+}
+
+impl<L: Lending, T: RoundTrip<L>, const N: usize> RoundTrip<L> for [T; N]
+where
+    T::Src: Drop,
+{
+    ghost reads_back = { array_reads_back N T.SchemaWrite.proper T.SchemaWrite.seen T.SchemaWrite.writing T.SchemaRead.seen T.SchemaRead.reading T.reads_back };
+}
+
+impl<L: Lending, A: RoundTrip<L>, B: RoundTrip<L>> RoundTrip<L> for (A, B)
+where
+    A::Src: Drop,
+    B::Src: Drop,
+{
+    ghost reads_back = { reads_back_by (λ t. (t.0, t.1)) (pair_reads_back A.reads_back B.reads_back) };
+}
+
+impl<L: Lending, A: RoundTrip<L>, B: RoundTrip<L>, C: RoundTrip<L>> RoundTrip<L> for (A, B, C)
+where
+    A::Src: Drop,
+    B::Src: Drop,
+    C::Src: Drop,
+{
+    ghost reads_back = { reads_back_by (λ t. (t.0, (t.1, t.2))) (pair_reads_back A.reads_back (pair_reads_back
+        B.reads_back C.reads_back)) };
+}
+
+impl<L: Lending, A: RoundTrip<L>, B: RoundTrip<L>, C: RoundTrip<L>, D: RoundTrip<L>> RoundTrip<L>
+    for (A, B, C, D)
+where
+    A::Src: Drop,
+    B::Src: Drop,
+    C::Src: Drop,
+    D::Src: Drop,
+{
+    ghost reads_back = { reads_back_by (λ t. (t.0, (t.1, (t.2, t.3)))) (pair_reads_back A.reads_back (pair_reads_back
+        B.reads_back (pair_reads_back C.reads_back D.reads_back))) };
+}
+
+impl<
+    L: Lending,
+    A: RoundTrip<L>,
+    B: RoundTrip<L>,
+    C: RoundTrip<L>,
+    D: RoundTrip<L>,
+    E: RoundTrip<L>,
+> RoundTrip<L> for (A, B, C, D, E)
+where
+    A::Src: Drop,
+    B::Src: Drop,
+    C::Src: Drop,
+    D::Src: Drop,
+    E::Src: Drop,
+{
+    ghost reads_back = { reads_back_by (λ t. (t.0, (t.1, (t.2, (t.3, t.4))))) (pair_reads_back A.reads_back
+        (pair_reads_back B.reads_back (pair_reads_back C.reads_back (pair_reads_back D.reads_back E.reads_back)))) };
+}
+
+impl<
+    L: Lending,
+    A: RoundTrip<L>,
+    B: RoundTrip<L>,
+    C: RoundTrip<L>,
+    D: RoundTrip<L>,
+    E: RoundTrip<L>,
+    F: RoundTrip<L>,
+> RoundTrip<L> for (A, B, C, D, E, F)
+where
+    A::Src: Drop,
+    B::Src: Drop,
+    C::Src: Drop,
+    D::Src: Drop,
+    E::Src: Drop,
+    F::Src: Drop,
+{
+    ghost reads_back = { reads_back_by (λ t. (t.0, (t.1, (t.2, (t.3, (t.4, t.5)))))) (pair_reads_back A.reads_back
+        (pair_reads_back B.reads_back (pair_reads_back C.reads_back (pair_reads_back D.reads_back (pair_reads_back
+        E.reads_back F.reads_back))))) };
+}
+
+impl<
+    L: Lending,
+    A: RoundTrip<L>,
+    B: RoundTrip<L>,
+    C: RoundTrip<L>,
+    D: RoundTrip<L>,
+    E: RoundTrip<L>,
+    F: RoundTrip<L>,
+    G: RoundTrip<L>,
+> RoundTrip<L> for (A, B, C, D, E, F, G)
+where
+    A::Src: Drop,
+    B::Src: Drop,
+    C::Src: Drop,
+    D::Src: Drop,
+    E::Src: Drop,
+    F::Src: Drop,
+    G::Src: Drop,
+{
+    ghost reads_back = { reads_back_by (λ t. (t.0, (t.1, (t.2, (t.3, (t.4, (t.5, t.6))))))) (pair_reads_back
+        A.reads_back (pair_reads_back B.reads_back (pair_reads_back C.reads_back (pair_reads_back D.reads_back
+        (pair_reads_back E.reads_back (pair_reads_back F.reads_back G.reads_back)))))) };
+}
+
+impl<
+    L: Lending,
+    A: RoundTrip<L>,
+    B: RoundTrip<L>,
+    C: RoundTrip<L>,
+    D: RoundTrip<L>,
+    E: RoundTrip<L>,
+    F: RoundTrip<L>,
+    G: RoundTrip<L>,
+    H: RoundTrip<L>,
+> RoundTrip<L> for (A, B, C, D, E, F, G, H)
+where
+    A::Src: Drop,
+    B::Src: Drop,
+    C::Src: Drop,
+    D::Src: Drop,
+    E::Src: Drop,
+    F::Src: Drop,
+    G::Src: Drop,
+    H::Src: Drop,
+{
+    ghost reads_back = { reads_back_by (λ t. (t.0, (t.1, (t.2, (t.3, (t.4, (t.5, (t.6, t.7)))))))) (pair_reads_back
+        A.reads_back (pair_reads_back B.reads_back (pair_reads_back C.reads_back (pair_reads_back D.reads_back
+        (pair_reads_back E.reads_back (pair_reads_back F.reads_back (pair_reads_back G.reads_back H.reads_back))))))) };
+}
+
+impl<
+    L: Lending,
+    A: RoundTrip<L>,
+    B: RoundTrip<L>,
+    C: RoundTrip<L>,
+    D: RoundTrip<L>,
+    E: RoundTrip<L>,
+    F: RoundTrip<L>,
+    G: RoundTrip<L>,
+    H: RoundTrip<L>,
+    I: RoundTrip<L>,
+> RoundTrip<L> for (A, B, C, D, E, F, G, H, I)
+where
+    A::Src: Drop,
+    B::Src: Drop,
+    C::Src: Drop,
+    D::Src: Drop,
+    E::Src: Drop,
+    F::Src: Drop,
+    G::Src: Drop,
+    H::Src: Drop,
+    I::Src: Drop,
+{
+    ghost reads_back = { reads_back_by (λ t. (t.0, (t.1, (t.2, (t.3, (t.4, (t.5, (t.6, (t.7, t.8)))))))))
+        (pair_reads_back A.reads_back (pair_reads_back B.reads_back (pair_reads_back C.reads_back (pair_reads_back
+        D.reads_back (pair_reads_back E.reads_back (pair_reads_back F.reads_back (pair_reads_back G.reads_back
+        (pair_reads_back H.reads_back I.reads_back)))))))) };
+}
+
+impl<
+    L: Lending,
+    A: RoundTrip<L>,
+    B: RoundTrip<L>,
+    C: RoundTrip<L>,
+    D: RoundTrip<L>,
+    E: RoundTrip<L>,
+    F: RoundTrip<L>,
+    G: RoundTrip<L>,
+    H: RoundTrip<L>,
+    I: RoundTrip<L>,
+    J: RoundTrip<L>,
+> RoundTrip<L> for (A, B, C, D, E, F, G, H, I, J)
+where
+    A::Src: Drop,
+    B::Src: Drop,
+    C::Src: Drop,
+    D::Src: Drop,
+    E::Src: Drop,
+    F::Src: Drop,
+    G::Src: Drop,
+    H::Src: Drop,
+    I::Src: Drop,
+    J::Src: Drop,
+{
+    ghost reads_back = { reads_back_by (λ t. (t.0, (t.1, (t.2, (t.3, (t.4, (t.5, (t.6, (t.7, (t.8, t.9))))))))))
+        (pair_reads_back A.reads_back (pair_reads_back B.reads_back (pair_reads_back C.reads_back (pair_reads_back
+        D.reads_back (pair_reads_back E.reads_back (pair_reads_back F.reads_back (pair_reads_back G.reads_back
+        (pair_reads_back H.reads_back (pair_reads_back I.reads_back J.reads_back))))))))) };
+}
+
+impl<
+    L: Lending,
+    A: RoundTrip<L>,
+    B: RoundTrip<L>,
+    C: RoundTrip<L>,
+    D: RoundTrip<L>,
+    E: RoundTrip<L>,
+    F: RoundTrip<L>,
+    G: RoundTrip<L>,
+    H: RoundTrip<L>,
+    I: RoundTrip<L>,
+    J: RoundTrip<L>,
+    K: RoundTrip<L>,
+> RoundTrip<L> for (A, B, C, D, E, F, G, H, I, J, K)
+where
+    A::Src: Drop,
+    B::Src: Drop,
+    C::Src: Drop,
+    D::Src: Drop,
+    E::Src: Drop,
+    F::Src: Drop,
+    G::Src: Drop,
+    H::Src: Drop,
+    I::Src: Drop,
+    J::Src: Drop,
+    K::Src: Drop,
+{
+    ghost reads_back = { reads_back_by (λ t. (
+      t.0,
+      (
+        t.1,
+        (
+          t.2,
+          (
+            t.3,
+            (
+              t.4,
+              (
+                t.5,
+                (
+                  t.6,
+                  (
+                    t.7,
+                    (
+                      t.8,
+                      (
+                        t.9,
+                        t.10,
+                      ),
+                    ),
+                  ),
+                ),
+              ),
+            ),
+          ),
+        ),
+      ),
+    )) (pair_reads_back A.reads_back (pair_reads_back B.reads_back (pair_reads_back C.reads_back
+        (pair_reads_back D.reads_back (pair_reads_back E.reads_back (pair_reads_back F.reads_back (pair_reads_back
+        G.reads_back (pair_reads_back H.reads_back (pair_reads_back I.reads_back (pair_reads_back J.reads_back
+        K.reads_back)))))))))) };
+}
+
+impl<
+    L: Lending,
+    A: RoundTrip<L>,
+    B: RoundTrip<L>,
+    C: RoundTrip<L>,
+    D: RoundTrip<L>,
+    E: RoundTrip<L>,
+    F: RoundTrip<L>,
+    G: RoundTrip<L>,
+    H: RoundTrip<L>,
+    I: RoundTrip<L>,
+    J: RoundTrip<L>,
+    K: RoundTrip<L>,
+    M: RoundTrip<L>,
+> RoundTrip<L> for (A, B, C, D, E, F, G, H, I, J, K, M)
+where
+    A::Src: Drop,
+    B::Src: Drop,
+    C::Src: Drop,
+    D::Src: Drop,
+    E::Src: Drop,
+    F::Src: Drop,
+    G::Src: Drop,
+    H::Src: Drop,
+    I::Src: Drop,
+    J::Src: Drop,
+    K::Src: Drop,
+    M::Src: Drop,
+{
+    ghost reads_back = { reads_back_by (λ t. (
+      t.0,
+      (
+        t.1,
+        (
+          t.2,
+          (
+            t.3,
+            (
+              t.4,
+              (
+                t.5,
+                (
+                  t.6,
+                  (
+                    t.7,
+                    (
+                      t.8,
+                      (
+                        t.9,
+                        (
+                          t.10,
+                          t.11,
+                        ),
+                      ),
+                    ),
+                  ),
+                ),
+              ),
+            ),
+          ),
+        ),
+      ),
+    )) (pair_reads_back A.reads_back (pair_reads_back B.reads_back (pair_reads_back C.reads_back
+        (pair_reads_back D.reads_back (pair_reads_back E.reads_back (pair_reads_back F.reads_back (pair_reads_back
+        G.reads_back (pair_reads_back H.reads_back (pair_reads_back I.reads_back (pair_reads_back J.reads_back
+        (pair_reads_back K.reads_back M.reads_back))))))))))) };
+}
+
+impl<L: Lending, T: RoundTrip<L>> RoundTrip<L> for Vec<T>
+where
+    T::Src: Drop,
+{
+    ghost reads_back = { list_reads_back (bincode 4194304) (bincode_laws 4194304) 24 (λ v. v.items)
+        T.SchemaWrite.proper T.SchemaWrite.seen T.SchemaWrite.writing T.SchemaRead.seen T.SchemaRead.reading
+        T.reads_back };
+}
+
+impl<L: Lending, T: RoundTrip<L>> RoundTrip<L> for VecDeque<T>
+where
+    T::Src: Drop,
+{
+    ghost reads_back = { list_reads_back (bincode 4194304) (bincode_laws 4194304) 24 (λ q. q.items)
+        T.SchemaWrite.proper T.SchemaWrite.seen T.SchemaWrite.writing T.SchemaRead.seen T.SchemaRead.reading
+        T.reads_back };
+}
+
+impl<L: Lending, T: RoundTrip<L>> RoundTrip<L> for LinkedList<T>
+where
+    T::Src: Drop,
+{
+    ghost reads_back = { list_reads_back (bincode 4194304) (bincode_laws 4194304) 24 (λ l. l)
+        T.SchemaWrite.proper T.SchemaWrite.seen T.SchemaWrite.writing T.SchemaRead.seen T.SchemaRead.reading
+        T.reads_back };
+}
+
+impl<L: Lending, K: RoundTrip<L> + Key<L> + Ord, V: RoundTrip<L>> RoundTrip<L> for BTreeMap<K, V>
+where
+    K::Src: Ord + Drop,
+    V::Src: Drop,
+{
+    ghost reads_back = { map_reads_back K.Src.cmp K.Src.Ord.total K.SchemaWrite.proper V.SchemaWrite.proper
+        K.SchemaWrite.seen K.SchemaWrite.writing K.SchemaRead.seen K.SchemaRead.reading
+        V.SchemaWrite.seen V.SchemaWrite.writing V.SchemaRead.seen V.SchemaRead.reading K.reads_back V.reads_back };
+}
+
+impl<L: Lending, K: RoundTrip<L> + Key<L> + Eq + Hash, V: RoundTrip<L>> RoundTrip<L>
+    for HashMap<K, V>
+where
+    K::Src: Eq + Hash + Drop,
+    V::Src: Drop,
+{
+    ghost reads_back = { hash_map_reads_back K.Src.eq K.Src.Eq.laws K.SchemaWrite.proper V.SchemaWrite.proper
+        K.SchemaWrite.seen K.SchemaWrite.writing K.SchemaRead.seen K.SchemaRead.reading
+        V.SchemaWrite.seen V.SchemaWrite.writing V.SchemaRead.seen V.SchemaRead.reading K.reads_back V.reads_back };
+}
+
+impl<L: Lending, K: RoundTrip<L> + Key<L> + Ord> RoundTrip<L> for BTreeSet<K>
+where
+    K::Src: Ord + Drop,
+{
+    ghost reads_back = { set_reads_back K.Src.cmp K.Src.Ord.total K.SchemaWrite.proper
+        K.SchemaWrite.seen K.SchemaWrite.writing K.SchemaRead.seen K.SchemaRead.reading K.reads_back };
+}
+
+impl<L: Lending, K: RoundTrip<L> + Key<L> + Eq + Hash> RoundTrip<L> for HashSet<K>
+where
+    K::Src: Eq + Hash + Drop,
+{
+    ghost reads_back = { hash_set_reads_back K.Src.eq K.Src.Eq.laws K.SchemaWrite.proper
+        K.SchemaWrite.seen K.SchemaWrite.writing K.SchemaRead.seen K.SchemaRead.reading K.reads_back };
+}
+
+impl<L: Lending, T: RoundTrip<L> + Told<L> + Ord> RoundTrip<L> for BinaryHeap<T>
+where
+    T::Src: Ord + Drop,
+{
+    ghost reads_back = { heap_reads_back (bincode 4194304) (bincode_laws 4194304) heap_items T.told T.SchemaWrite.proper
+        T.SchemaWrite.seen T.SchemaWrite.writing T.SchemaRead.seen T.SchemaRead.reading T.reads_back };
+}
+
+impl<L: Lending, T: ZeroCopy> RoundTrip<L> for Pod<T> {
+    ghost reads_back = { form_reads_back (λ v. v) true (form_prealloc T.size) 0 };
+}
+
+impl<'a, T: ZeroCopy> RoundTrip<Lifetime<'a>> for View<&'a [u8], T> {
+    ghost reads_back = { form_reads_back (λ v. value_seen v) false 8 shared };
+}
+
+impl<'a, T: ZeroCopy> RoundTrip<Lifetime<'a>> for SliceView<&'a [u8], T> {
+    ghost reads_back = { lent_reads_back shared (λ v. values_seen v) T.proper
+        (counted_write T.proper T.size T.form) (counted_read T.proper T.size T.form)
+        (form_reads_back (λ v. v) true (max T.size 1) 0) };
+}
+
+impl<'a> RoundTrip<Lifetime<'a>> for &'a [u8] {
+    ghost reads_back = { lent_reads_back_seen shared (λ s. s.now) (λ v. v < 256 ^ 1) (number_write 1 true) (number_read 1 true)
+        (number_reads_back 1 true) };
+}
+
+impl<L: Lending> RoundTrip<L> for ShortU16 {
+    ghost reads_back = { short_reads_back (λ v. v.0) };
+}

@@ -1,0 +1,129 @@
+-- Going over the items of a collection, in writing.
+use Rattle.std.proofs.Common.{◌≡◌, ◌∙◌, sym, ap, subst, ℕ, ◌+◌, ◌<◌, ◌≤◌, ◌^◌, List, [], ◌∷◌, ◌++◌, map, arith, append_assoc}
+use Rattle.std.proofs.lemmas.List.{map-append}
+use Rattle.wincode_io.specs.Joins.{Joined, Each, total}
+use Rattle.wincode_io.specs.JoinLaws.{joined_append, each_split, each_append, total-append}
+use Rattle.wincode_io.specs.Writers.{WriterState, WriterLaws}
+use Rattle.wincode_base.specs.Grammar.{WriteGrammar, WriteLaws}
+use Rattle.wincode_base.specs.Lists.{items_write, IsSumRefused}
+use Rattle.wincode_base.specs.ListLaws.{items_write_laws}
+use Rattle.wincode_base.specs.Outcomes.{Wrote, Unwritten, IsSizeRefused}
+use Rattle.wincode_base.specs.Pairs.{pair_write}
+use Rattle.wincode_base.specs.WriteSequences.{items_wrote_more, items_unwritten, wrote_map, unwritten_map, pair_wrote, pair_unwritten_first, pair_unwritten_second}
+use Rattle.wincode_base.specs.declared.error.WriteError.{WriteError}
+
+-- so far the items before `rest` were written
+pub record WritesSoFar {S K E V : Type 0} {put : S → List ℕ → S} {room : S → ℕ} (g : WriteGrammar V) (see : E → V) (P : E → Type 0) (old cur : WriterState put room K) (all rest : List E) : Type 0 where
+  pub done : List E
+  pub joins : done ++ rest ≡ all
+  pub items : Wrote (items_write g) old cur (map see done)
+  pub each : Each P done
+
+-- so far the sizes of the items before `rest` were added
+pub record SumsSoFar {E V : Type 0} (g : WriteGrammar V) (see : E → V) (before sum : ℕ) (all rest : List E) : Type 0 where
+  pub done : List E
+  pub joins : done ++ rest ≡ all
+  pub can : Each g.can (map see done)
+  pub is : sum ≡ before + total g.size (map see done)
+
+part_seen : {E V : Type 0} (see : E → V) (done rest all left : List E) (e : E) → done ++ left ≡ all → left ≡ e ∷ rest → map see done ++ (see e ∷ map see rest) ≡ map see all
+part_seen see done rest all left e j l = sym (map-append see done (e ∷ rest)) ∙ ap (λ t. map see (done ++ t)) (sym l) ∙ ap (map see) j
+
+part_more : {E : Type 0} (done rest all left : List E) (e : E) → done ++ left ≡ all → left ≡ e ∷ rest → (done ++ (e ∷ [])) ++ rest ≡ all
+part_more done rest all left e j l = append_assoc done (e ∷ []) rest ∙ ap (λ t. done ++ t) (sym l) ∙ j
+
+-- what holds of two runs of items holds of all
+both : {E V : Type 0} (see : E → V) (xs ys all : List E) → xs ++ ys ≡ all → (Q : List V → Type 0) → Q (map see xs ++ map see ys) → Q (map see all)
+both see xs ys all e Q q = subst Q (sym (map-append see xs ys) ∙ ap (map see) e) q
+
+module _ {S K V E : Type 0} {put : S → List ℕ → S} {room : S → ℕ} (laws : WriterLaws put room) {g : WriteGrammar V} {P : E → Type 0} {see : E → V} (l : WriteLaws P see g) where
+  pub walk_more : {old cur new : WriterState put room K} {all rest left : List E} {e : E} → WritesSoFar g see P old cur all left → left ≡ e ∷ rest → Wrote g cur new (see e) → P e → WritesSoFar g see P old new all rest
+  walk_more {old} {cur} {new} {all} {rest} {left} {e} w k r h = record {
+    done = w.done ++ (e ∷ []);
+    joins = part_more w.done rest all left e w.joins k;
+    items = subst (Wrote (items_write g) old new) (sym (map-append see w.done (e ∷ []))) (items_wrote_more laws l (map see w.done) (see e) w.items r);
+    each = each_append P w.done (e ∷ []) w.each (h, tt);
+  }
+
+  pub walk_refused : {old cur new : WriterState put room K} {all rest left : List E} {e : E} {x : WriteError} → WritesSoFar g see P old cur all left → left ≡ e ∷ rest → Unwritten g cur new (see e) x
+      → Unwritten (items_write g) old new (map see all) x
+  walk_refused {old} {cur} {new} {all} {rest} {left} {e} {x} w k u =
+      let Q : List V → Type 0 = λ vs. Unwritten (items_write g) old new vs x in
+      subst Q (part_seen see w.done rest all left e w.joins k) (items_unwritten laws l (map see w.done) (see e) (map see rest) w.items u)
+
+  -- ---- two runs of items, one after the other
+
+  pub runs_wrote : {old mid new : WriterState put room K} (xs ys all : List E) → xs ++ ys ≡ all → Wrote (items_write g) old mid (map see xs) → Wrote (items_write g) mid new (map see ys) → Wrote (items_write g) old new (map see all)
+  runs_wrote {old} {mid} {new} xs ys all e r s =
+      let us = map see xs in let vs = map see ys in
+      both see xs ys all e (λ ws. Wrote (items_write g) old new ws)
+      (wrote_map (pair_write (items_write g) (items_write g)) (items_write g) (us, vs) (us ++ vs)
+      (λ c. each_append g.can us vs c.0 c.1) (total-append g.size us vs)
+      (λ b w. subst (Joined g.writes (us ++ vs)) (sym w.4) (joined_append g.writes us vs w.0 w.1 w.2 w.3))
+      (pair_wrote (items_write_laws P see g l) (items_write_laws P see g l) laws r s))
+
+  pub runs_refused_first : {old new : WriterState put room K} {x : WriteError} (xs ys all : List E) → xs ++ ys ≡ all → Unwritten (items_write g) old new (map see xs) x → Unwritten (items_write g) old new (map see all) x
+  runs_refused_first {old} {new} {x} xs ys all e u =
+      let us = map see xs in let vs = map see ys in
+      both see xs ys all e (λ ws. Unwritten (items_write g) old new ws x)
+      (unwritten_map (pair_write (items_write g) (items_write g)) (items_write g) (us, vs) (us ++ vs)
+      (λ c. each_split g.can us vs c) (total-append g.size us vs)
+      (λ b w. subst (Joined g.writes (us ++ vs)) (sym w.4) (joined_append g.writes us vs w.0 w.1 w.2 w.3))
+      (pair_unwritten_first (items_write_laws P see g l) (items_write_laws P see g l) vs u))
+
+  pub runs_refused_second : {old mid new : WriterState put room K} {x : WriteError} (xs ys all : List E) → xs ++ ys ≡ all → Wrote (items_write g) old mid (map see xs) → Unwritten (items_write g) mid new (map see ys) x → Unwritten (items_write g) old new (map see all) x
+  runs_refused_second {old} {mid} {new} {x} xs ys all e r u =
+      let us = map see xs in let vs = map see ys in
+      both see xs ys all e (λ ws. Unwritten (items_write g) old new ws x)
+      (unwritten_map (pair_write (items_write g) (items_write g)) (items_write g) (us, vs) (us ++ vs)
+      (λ c. each_split g.can us vs c) (total-append g.size us vs)
+      (λ b w. subst (Joined g.writes (us ++ vs)) (sym w.4) (joined_append g.writes us vs w.0 w.1 w.2 w.3))
+      (pair_unwritten_second (items_write_laws P see g l) (items_write_laws P see g l) laws r u))
+
+module _ {V E : Type 0} (g : WriteGrammar V) (see : E → V) (before : ℕ) where
+  pub sum_more : (sum new : ℕ) (all rest left : List E) (e : E) → SumsSoFar g see before sum all left → left ≡ e ∷ rest → g.can (see e) → new ≡ sum + g.size (see e) → SumsSoFar g see before new all rest
+  sum_more sum new all rest left e w k c n = record {
+    done = w.done ++ (e ∷ []);
+    joins = part_more w.done rest all left e w.joins k;
+    can = subst (Each g.can) (sym (map-append see w.done (e ∷ []))) (each_append g.can (map see w.done) (see e ∷ []) w.can (c, tt));
+    is = let a = ap (total g.size) (map-append see w.done (e ∷ [])) in let b = total-append g.size (map see w.done) (see e ∷ []) in let d = w.is in omega (arith, a, b, d, n);
+  }
+
+  total_part : (sum : ℕ) (all rest left : List E) (e : E) → SumsSoFar g see before sum all left → left ≡ e ∷ rest → sum + g.size (see e) ≤ before + total g.size (map see all)
+  total_part sum all rest left e w k =
+      let a = ap (total g.size) (part_seen see w.done rest all left e w.joins k) in
+      let b = total-append g.size (map see w.done) (see e ∷ map see rest) in
+      let d = w.is in omega (arith, a, b, d)
+
+  pub sum_refused : (sum : ℕ) (all rest left : List E) (e : E) (x : WriteError) → SumsSoFar g see before sum all left → left ≡ e ∷ rest → IsSizeRefused g (see e) x → IsSumRefused before g (map see all) x
+  sum_refused sum all rest left e x w k d = (
+    λ c fits.
+        let own = each_split g.can (map see w.done) (see e ∷ map see rest) (subst (Each g.can) (sym (part_seen see w.done rest all left e w.joins k)) c) in
+        let t = total_part sum all rest left e w k in d.0 own.1.0 (omega (arith, t, fits)),
+    d.1,
+  )
+
+  pub sum_past : (sum : ℕ) (all rest left : List E) (e : E) → SumsSoFar g see before sum all left → left ≡ e ∷ rest → (sum + g.size (see e) < 2 ^ 64 → ⊥) → Each g.can (map see all) → before + total g.size (map see all) < 2 ^ 64 → ⊥
+  sum_past sum all rest left e w k o c fits = let t = total_part sum all rest left e w k in o (omega (arith, t, fits))
+
+  -- ---- the sizes of two runs
+
+  parted : (xs ys all : List E) → xs ++ ys ≡ all → map see xs ++ map see ys ≡ map see all
+  parted xs ys all e = sym (map-append see xs ys) ∙ ap (map see) e
+
+  total_parted : (xs ys all : List E) → xs ++ ys ≡ all → total g.size (map see all) ≡ total g.size (map see xs) + total g.size (map see ys)
+  total_parted xs ys all e = sym (ap (total g.size) (parted xs ys all e)) ∙ total-append g.size (map see xs) (map see ys)
+
+  can_parted : (xs ys all : List E) → xs ++ ys ≡ all → Each g.can (map see all) → Each g.can (map see xs) × Each g.can (map see ys)
+  can_parted xs ys all e c = each_split g.can (map see xs) (map see ys) (subst (Each g.can) (sym (parted xs ys all e)) c)
+
+  pub sums_first : (xs ys all : List E) (x : WriteError) → xs ++ ys ≡ all → IsSumRefused before g (map see xs) x → IsSumRefused before g (map see all) x
+  sums_first xs ys all x e d = (λ c fits. d.0 (can_parted xs ys all e c).0 (omega (arith, fits, total_parted xs ys all e)), d.1)
+
+  pub sums_second : (xs ys all : List E) (sum : ℕ) (x : WriteError) → xs ++ ys ≡ all → sum ≡ before + total g.size (map see xs) → IsSumRefused sum g (map see ys) x → IsSumRefused before g (map see all) x
+  sums_second xs ys all sum x e s d = (λ c fits. d.0 (can_parted xs ys all e c).1 (omega (arith, fits, s, total_parted xs ys all e)), d.1)
+
+  pub sums_both : (xs ys all : List E) (sum n : ℕ) → xs ++ ys ≡ all → Each g.can (map see xs) × (sum ≡ before + total g.size (map see xs)) → Each g.can (map see ys) × (n ≡ sum + total g.size (map see ys))
+      → Each g.can (map see all) × (n ≡ before + total g.size (map see all))
+  sums_both xs ys all sum n e p q =
+      (subst (Each g.can) (parted xs ys all e) (each_append g.can (map see xs) (map see ys) p.0 q.0), omega (arith, p.1, q.1, total_parted xs ys all e))

@@ -1,0 +1,141 @@
+//! Schemas of arrays. An array is its items, one after another, with no length before them.
+//!
+//! Where the items have one size, the array is read and written through one window of its size, in bytes:
+//! fewer bytes are `Io(ReadSizeLimit)` of that size, and stay; where an item is refused, the bytes of the
+//! whole array are gone; less room is `Io(WriteSizeLimit)` of that size, and nothing is written.
+ghost use Rattle.std.specs.Prelude.{◌≡◌, List, map, IfErr, OnOk, OnErr, MatchResult};
+ghost use Rattle.wincode_base.specs.ArrayLaws.{array_read_laws};
+ghost use Rattle.wincode_base.specs.Arrays.{times_meta, IsArray, array_read};
+ghost use Rattle.wincode_base.specs.InWindow.{IsStaticRefused};
+ghost use Rattle.wincode_base.specs.Lists.{IsItemRefused, AreRefused};
+ghost use Rattle.wincode_base.specs.Outcomes.{Gives, Puts, Refuses, IsReadRefused};
+
+use crate::schema::in_window::read_in_window;
+use crate::schema::{SchemaGet, SchemaRead};
+use std::alloc::Global;
+use std::marker::PhantomData;
+use wincode_base::error::{ReadError, ReadResult};
+use wincode_base::meta::TypeMeta;
+use wincode_base::parts::Items;
+use wincode_base::sizes::size_of_items;
+use wincode_collect::{ItemSource, Sourced};
+use wincode_io::{Lending, Reader};
+
+/// The items that a schema reads, one after another.
+#[derive(Drop)]
+struct Reading<'r, L, T, R> {
+    alloc: Global,
+    reader: &'r mut R,
+    of: PhantomData<(L, T)>,
+}
+
+impl<'r, L: Lending, T: SchemaRead<L>, R: Reader<L>> ItemSource<T::Dst, ReadError>
+    for Reading<'r, L, T, R> {
+    ghost gives = { λ s r t. (t.reader.ghost_name ≡ s.reader.ghost_name)
+        × MatchResult r (λ v. Gives T.reading.reads (R.state s.reader.now) (R.state t.reader.now) (T.seen v))
+        (IsReadRefused T.reading T.refusal (R.state s.reader.now) (R.state t.reader.now)) };
+
+    fn next(&mut self) -> Result<T::Dst, ReadError> {
+        T::get(self.alloc, self.reader)
+    }
+}
+
+/// Reads N items, one after another, into the destination.
+fn read_items<L: Lending, T: SchemaRead<L>, R: Reader<L>, const N: usize>(
+    alloc: Global,
+    reader: &mut R,
+    dst: &mut Option<[T::Dst; N]>,
+) -> ReadResult<()>
+    ensures ok { OnOk result (Puts (array_read N T.reading).reads (λ xs. map T.seen xs) (R.state reader.old) (R.state reader.new) dst.new) }
+    ensures err { IfErr result (Refuses (array_read N T.reading).reads T.reading.asks T.reading.sparing (R.state reader.old) (R.state reader.new)) }
+    ensures refused { IfErr result (IsItemRefused N T.reading T.refusal (R.state reader.old) (R.state reader.new)) }
+    ensures same { OnErr result (dst.new ≡ dst.old) }
+{
+    let mut sourced = Sourced::new(Reading::<L, T, R> {
+        alloc,
+        reader,
+        of: PhantomData,
+    });
+    let result = sourced.fill(dst);
+    let Reading {
+        alloc: _,
+        reader,
+        of: _,
+    } = sourced.into_inner();
+    // No effect at run time. The proof reads what `reader` holds from this use of it.
+    let _ = &*reader;
+    result
+}
+
+impl<L: Lending, T: SchemaRead<L>, const N: usize> SchemaRead<L> for Items<T, N> {
+    type Dst = [T::Dst; N];
+
+    ghost Value = { List T.Value };
+
+    ghost seen = { λ xs. map T.seen xs };
+
+    ghost proper = { IsArray N T.proper };
+
+    ghost reading = { array_read N T.reading };
+
+    ghost refusal = { AreRefused N T.reading T.refusal };
+
+    fn type_meta() -> TypeMeta {
+        size_of_items(N, T::type_meta())
+    }
+
+    fn prealloc_size() -> usize {
+        N.saturating_mul(T::prealloc_size()).max(1)
+    }
+
+    fn read<R: Reader<L>>(
+        alloc: Global,
+        reader: &mut R,
+        dst: &mut Option<[T::Dst; N]>,
+    ) -> ReadResult<()> {
+        read_items::<L, T, R, N>(alloc, reader, dst)
+    }
+
+    ghost read_laws = { array_read_laws N T.proper T.reading T.read_laws };
+}
+
+impl<L: Lending, T: SchemaRead<L>, const N: usize> SchemaRead<L> for [T; N] {
+    type Dst = [T::Dst; N];
+
+    ghost Value = { List T.Value };
+
+    ghost seen = { λ xs. map T.seen xs };
+
+    ghost proper = { IsArray N T.proper };
+
+    ghost reading = { array_read N T.reading };
+
+    ghost refusal = { IsStaticRefused (times_meta N T.reading.meta) (AreRefused N T.reading T.refusal) };
+
+    fn type_meta() -> TypeMeta {
+        <Items<T, N> as SchemaRead<L>>::type_meta()
+    }
+
+    fn prealloc_size() -> usize {
+        <Items<T, N> as SchemaRead<L>>::prealloc_size()
+    }
+
+    fn read<R: Reader<L>>(
+        alloc: Global,
+        reader: &mut R,
+        dst: &mut Option<[T::Dst; N]>,
+    ) -> ReadResult<()> {
+        read_in_window::<L, Items<T, N>, R>(alloc, reader, dst)
+    }
+
+    fn read_items<R: Reader<L>>(
+        alloc: Global,
+        reader: &mut R,
+        n: usize,
+        into: &mut Vec<[T::Dst; N]>,
+    ) -> ReadResult<()> {
+        <Items<T, N> as SchemaRead<L>>::read_items::<R>(alloc, reader, n, into)
+    }
+
+    ghost read_laws = { array_read_laws N T.proper T.reading T.read_laws };
+}

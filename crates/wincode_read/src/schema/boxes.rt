@@ -1,0 +1,93 @@
+//! What is held in memory of its own.
+ghost use Rattle.wincode_base.specs.Held.{held_read, IsHeldRefused};
+ghost use Rattle.wincode_base.specs.HeldLaws.{held_read_laws};
+
+use crate::schema::{SchemaGet, SchemaRead};
+use std::alloc::Global;
+use std::rc::Rc;
+use wincode_base::error::{ReadError, ReadResult};
+use wincode_base::meta::TypeMeta;
+use wincode_base::sizes::held_meta;
+use wincode_io::{Lending, Reader};
+
+impl<L: Lending, T: SchemaRead<L>> SchemaRead<L> for Box<T> {
+    type Dst = Box<T::Dst>;
+
+    ghost Value = { T.Value };
+
+    ghost seen = { λ held. T.seen held.value };
+
+    ghost proper = { T.proper };
+
+    ghost reading = { held_read T.reading };
+
+    ghost refusal = { IsHeldRefused T.reading T.refusal };
+
+    fn type_meta() -> TypeMeta {
+        held_meta(T::type_meta())
+    }
+
+    fn prealloc_size() -> usize {
+        8
+    }
+
+    /// Memory is asked for once the value was read. Where there is none, it is `OutOfMemory`, and the
+    /// value's bytes are gone.
+    fn read<R: Reader<L>>(
+        alloc: Global,
+        reader: &mut R,
+        dst: &mut Option<Box<T::Dst>>,
+    ) -> ReadResult<()> {
+        let content = T::get(alloc, reader)?;
+        match Box::new(alloc, content) {
+            Ok(held) => {
+                *dst = Some(held);
+                Ok(())
+            }
+            Err(_) => Err(ReadError::OutOfMemory),
+        }
+    }
+
+    ghost read_laws = { held_read_laws T.proper T.reading T.read_laws };
+}
+
+impl<L: Lending, T: SchemaRead<L>> SchemaRead<L> for Rc<T> {
+    type Dst = Rc<T::Dst>;
+
+    ghost Value = { T.Value };
+
+    ghost seen = { λ held. T.seen held.value };
+
+    ghost proper = { T.proper };
+
+    ghost reading = { held_read T.reading };
+
+    ghost refusal = { IsHeldRefused T.reading T.refusal };
+
+    fn type_meta() -> TypeMeta {
+        held_meta(T::type_meta())
+    }
+
+    fn prealloc_size() -> usize {
+        8
+    }
+
+    /// Memory is asked for once the value was read. Where there is none, it is `OutOfMemory`, and the
+    /// value's bytes are gone.
+    fn read<R: Reader<L>>(
+        alloc: Global,
+        reader: &mut R,
+        dst: &mut Option<Rc<T::Dst>>,
+    ) -> ReadResult<()> {
+        let shared = T::get(alloc, reader)?;
+        match Rc::new(alloc, shared) {
+            Ok(held) => {
+                *dst = Some(held);
+                Ok(())
+            }
+            Err(_) => Err(ReadError::OutOfMemory),
+        }
+    }
+
+    ghost read_laws = { held_read_laws T.proper T.reading T.read_laws };
+}

@@ -1,0 +1,654 @@
+//! Schemas without parts.
+ghost use Rattle.std.specs.Int.{w8, w16, w32, w64, w128};
+ghost use Rattle.std.specs.Prelude.{ℕ, ℤ, ◌<◌, ◌≤◌, ◌^◌, FitsSigned, Bool, true, false, refl};
+ghost use Rattle.wincode_base.specs.LeafLaws.{bool_read_laws, unit_read_laws, number_read_laws, signed_read_laws};
+ghost use Rattle.wincode_base.specs.Leaves.{number_read, signed_read, bool_read, unit_read, IsBoolRefused};
+ghost use Rattle.wincode_base.specs.Outcomes.{never, IsDenied};
+
+use crate::schema::SchemaRead;
+use crate::schema::as_forms::read_all;
+use std::alloc::Global;
+use std::marker::PhantomData;
+use wincode_base::error::{ReadError, ReadResult, invalid_bool_encoding};
+use wincode_base::meta::TypeMeta;
+use wincode_base::reader::take_array;
+use wincode_io::bulk::add_bytes;
+use wincode_io::{Lending, Reader};
+
+impl<L: Lending> SchemaRead<L> for u8 {
+    type Dst = u8;
+
+    ghost Value = { ℕ };
+
+    ghost seen = { λ v. v };
+
+    ghost proper = { λ v. v < 256 ^ 1 };
+
+    ghost reading = { number_read 1 true };
+
+    ghost refusal = { IsDenied 1 };
+
+    fn type_meta() -> TypeMeta {
+        TypeMeta::Static {
+            size: 1,
+            zero_copy: true,
+        }
+    }
+
+    fn prealloc_size() -> usize {
+        1
+    }
+
+    fn read<R: Reader<L>>(_alloc: Global, reader: &mut R, dst: &mut Option<u8>) -> ReadResult<()> {
+        let bytes = take_array::<L, R, 1>(reader)?;
+        *dst = Some(u8::from_le_bytes(bytes));
+        Ok(())
+    }
+
+    /// All at once: `ReadSizeLimit(n)` where fewer are left. Refused, for memory too, all bytes stay.
+    fn read_items<R: Reader<L>>(
+        _alloc: Global,
+        reader: &mut R,
+        n: usize,
+        into: &mut Vec<u8>,
+    ) -> ReadResult<()> {
+        let bytes = reader.fill_exact(n)?;
+        if add_bytes(bytes, into).is_err() {
+            return Err(ReadError::OutOfMemory);
+        }
+        reader.consume_unchecked(n);
+        Ok(())
+    }
+
+    ghost read_laws = { number_read_laws 1 true (lit≤ tt) };
+}
+
+impl<L: Lending> SchemaRead<L> for u16 {
+    type Dst = u16;
+
+    ghost Value = { ℕ };
+
+    ghost seen = { λ v. v };
+
+    ghost proper = { λ v. v < 256 ^ 2 };
+
+    ghost reading = { number_read 2 true };
+
+    ghost refusal = { IsDenied 2 };
+
+    fn type_meta() -> TypeMeta {
+        TypeMeta::Static {
+            size: 2,
+            zero_copy: true,
+        }
+    }
+
+    fn prealloc_size() -> usize {
+        2
+    }
+
+    fn read<R: Reader<L>>(_alloc: Global, reader: &mut R, dst: &mut Option<u16>) -> ReadResult<()> {
+        let bytes = take_array::<L, R, 2>(reader)?;
+        *dst = Some(u16::from_le_bytes(bytes));
+        Ok(())
+    }
+
+    /// All at once: `ReadSizeLimit` of the size of all where fewer bytes are left. Refused, for memory
+    /// too, all bytes stay.
+    fn read_items<R: Reader<L>>(
+        _alloc: Global,
+        reader: &mut R,
+        n: usize,
+        into: &mut Vec<u16>,
+    ) -> ReadResult<()> {
+        read_all::<L, R, u16>(reader, n, into)
+    }
+
+    ghost read_laws = { number_read_laws 2 true (lit≤ tt) };
+}
+
+impl<L: Lending> SchemaRead<L> for u32 {
+    type Dst = u32;
+
+    ghost Value = { ℕ };
+
+    ghost seen = { λ v. v };
+
+    ghost proper = { λ v. v < 256 ^ 4 };
+
+    ghost reading = { number_read 4 true };
+
+    ghost refusal = { IsDenied 4 };
+
+    fn type_meta() -> TypeMeta {
+        TypeMeta::Static {
+            size: 4,
+            zero_copy: true,
+        }
+    }
+
+    fn prealloc_size() -> usize {
+        4
+    }
+
+    fn read<R: Reader<L>>(_alloc: Global, reader: &mut R, dst: &mut Option<u32>) -> ReadResult<()> {
+        let bytes = take_array::<L, R, 4>(reader)?;
+        *dst = Some(u32::from_le_bytes(bytes));
+        Ok(())
+    }
+
+    /// All at once: `ReadSizeLimit` of the size of all where fewer bytes are left. Refused, for memory
+    /// too, all bytes stay.
+    fn read_items<R: Reader<L>>(
+        _alloc: Global,
+        reader: &mut R,
+        n: usize,
+        into: &mut Vec<u32>,
+    ) -> ReadResult<()> {
+        read_all::<L, R, u32>(reader, n, into)
+    }
+
+    ghost read_laws = { number_read_laws 4 true (lit≤ tt) };
+}
+
+impl<L: Lending> SchemaRead<L> for u64 {
+    type Dst = u64;
+
+    ghost Value = { ℕ };
+
+    ghost seen = { λ v. v };
+
+    ghost proper = { λ v. v < 256 ^ 8 };
+
+    ghost reading = { number_read 8 true };
+
+    ghost refusal = { IsDenied 8 };
+
+    fn type_meta() -> TypeMeta {
+        TypeMeta::Static {
+            size: 8,
+            zero_copy: true,
+        }
+    }
+
+    fn prealloc_size() -> usize {
+        8
+    }
+
+    fn read<R: Reader<L>>(_alloc: Global, reader: &mut R, dst: &mut Option<u64>) -> ReadResult<()> {
+        let bytes = take_array::<L, R, 8>(reader)?;
+        *dst = Some(u64::from_le_bytes(bytes));
+        Ok(())
+    }
+
+    /// All at once: `ReadSizeLimit` of the size of all where fewer bytes are left. Refused, for memory
+    /// too, all bytes stay.
+    fn read_items<R: Reader<L>>(
+        _alloc: Global,
+        reader: &mut R,
+        n: usize,
+        into: &mut Vec<u64>,
+    ) -> ReadResult<()> {
+        read_all::<L, R, u64>(reader, n, into)
+    }
+
+    ghost read_laws = { number_read_laws 8 true (lit≤ tt) };
+}
+
+impl<L: Lending> SchemaRead<L> for u128 {
+    type Dst = u128;
+
+    ghost Value = { ℕ };
+
+    ghost seen = { λ v. v };
+
+    ghost proper = { λ v. v < 256 ^ 16 };
+
+    ghost reading = { number_read 16 true };
+
+    ghost refusal = { IsDenied 16 };
+
+    fn type_meta() -> TypeMeta {
+        TypeMeta::Static {
+            size: 16,
+            zero_copy: true,
+        }
+    }
+
+    fn prealloc_size() -> usize {
+        16
+    }
+
+    fn read<R: Reader<L>>(
+        _alloc: Global,
+        reader: &mut R,
+        dst: &mut Option<u128>,
+    ) -> ReadResult<()> {
+        let bytes = take_array::<L, R, 16>(reader)?;
+        *dst = Some(u128::from_le_bytes(bytes));
+        Ok(())
+    }
+
+    /// All at once: `ReadSizeLimit` of the size of all where fewer bytes are left. Refused, for memory
+    /// too, all bytes stay.
+    fn read_items<R: Reader<L>>(
+        _alloc: Global,
+        reader: &mut R,
+        n: usize,
+        into: &mut Vec<u128>,
+    ) -> ReadResult<()> {
+        read_all::<L, R, u128>(reader, n, into)
+    }
+
+    ghost read_laws = { number_read_laws 16 true (lit≤ tt) };
+}
+
+impl<L: Lending> SchemaRead<L> for usize {
+    type Dst = usize;
+
+    ghost Value = { ℕ };
+
+    ghost seen = { λ v. v };
+
+    ghost proper = { λ v. v < 256 ^ 8 };
+
+    ghost reading = { number_read 8 false };
+
+    ghost refusal = { IsDenied 8 };
+
+    fn type_meta() -> TypeMeta {
+        TypeMeta::Static {
+            size: 8,
+            zero_copy: false,
+        }
+    }
+
+    fn prealloc_size() -> usize {
+        8
+    }
+
+    fn read<R: Reader<L>>(
+        _alloc: Global,
+        reader: &mut R,
+        dst: &mut Option<usize>,
+    ) -> ReadResult<()> {
+        let bytes = take_array::<L, R, 8>(reader)?;
+        *dst = Some(usize::from_le_bytes(bytes));
+        Ok(())
+    }
+
+    ghost read_laws = { number_read_laws 8 false (lit≤ tt) };
+}
+
+impl<L: Lending> SchemaRead<L> for i8 {
+    type Dst = i8;
+
+    ghost Value = { ℤ };
+
+    ghost seen = { λ v. v };
+
+    ghost proper = { FitsSigned w8 };
+
+    ghost reading = { signed_read w8 true };
+
+    ghost refusal = { IsDenied 1 };
+
+    fn type_meta() -> TypeMeta {
+        TypeMeta::Static {
+            size: 1,
+            zero_copy: true,
+        }
+    }
+
+    fn prealloc_size() -> usize {
+        1
+    }
+
+    fn read<R: Reader<L>>(_alloc: Global, reader: &mut R, dst: &mut Option<i8>) -> ReadResult<()> {
+        let bytes = take_array::<L, R, 1>(reader)?;
+        *dst = Some(i8::from_le_bytes(bytes));
+        Ok(())
+    }
+
+    /// All at once: `ReadSizeLimit` of the size of all where fewer bytes are left. Refused, for memory
+    /// too, all bytes stay.
+    fn read_items<R: Reader<L>>(
+        _alloc: Global,
+        reader: &mut R,
+        n: usize,
+        into: &mut Vec<i8>,
+    ) -> ReadResult<()> {
+        read_all::<L, R, i8>(reader, n, into)
+    }
+
+    ghost read_laws = { signed_read_laws w8 refl true (lit≤ tt) };
+}
+
+impl<L: Lending> SchemaRead<L> for i16 {
+    type Dst = i16;
+
+    ghost Value = { ℤ };
+
+    ghost seen = { λ v. v };
+
+    ghost proper = { FitsSigned w16 };
+
+    ghost reading = { signed_read w16 true };
+
+    ghost refusal = { IsDenied 2 };
+
+    fn type_meta() -> TypeMeta {
+        TypeMeta::Static {
+            size: 2,
+            zero_copy: true,
+        }
+    }
+
+    fn prealloc_size() -> usize {
+        2
+    }
+
+    fn read<R: Reader<L>>(_alloc: Global, reader: &mut R, dst: &mut Option<i16>) -> ReadResult<()> {
+        let bytes = take_array::<L, R, 2>(reader)?;
+        *dst = Some(i16::from_le_bytes(bytes));
+        Ok(())
+    }
+
+    /// All at once: `ReadSizeLimit` of the size of all where fewer bytes are left. Refused, for memory
+    /// too, all bytes stay.
+    fn read_items<R: Reader<L>>(
+        _alloc: Global,
+        reader: &mut R,
+        n: usize,
+        into: &mut Vec<i16>,
+    ) -> ReadResult<()> {
+        read_all::<L, R, i16>(reader, n, into)
+    }
+
+    ghost read_laws = { signed_read_laws w16 refl true (lit≤ tt) };
+}
+
+impl<L: Lending> SchemaRead<L> for i32 {
+    type Dst = i32;
+
+    ghost Value = { ℤ };
+
+    ghost seen = { λ v. v };
+
+    ghost proper = { FitsSigned w32 };
+
+    ghost reading = { signed_read w32 true };
+
+    ghost refusal = { IsDenied 4 };
+
+    fn type_meta() -> TypeMeta {
+        TypeMeta::Static {
+            size: 4,
+            zero_copy: true,
+        }
+    }
+
+    fn prealloc_size() -> usize {
+        4
+    }
+
+    fn read<R: Reader<L>>(_alloc: Global, reader: &mut R, dst: &mut Option<i32>) -> ReadResult<()> {
+        let bytes = take_array::<L, R, 4>(reader)?;
+        *dst = Some(i32::from_le_bytes(bytes));
+        Ok(())
+    }
+
+    /// All at once: `ReadSizeLimit` of the size of all where fewer bytes are left. Refused, for memory
+    /// too, all bytes stay.
+    fn read_items<R: Reader<L>>(
+        _alloc: Global,
+        reader: &mut R,
+        n: usize,
+        into: &mut Vec<i32>,
+    ) -> ReadResult<()> {
+        read_all::<L, R, i32>(reader, n, into)
+    }
+
+    ghost read_laws = { signed_read_laws w32 refl true (lit≤ tt) };
+}
+
+impl<L: Lending> SchemaRead<L> for i64 {
+    type Dst = i64;
+
+    ghost Value = { ℤ };
+
+    ghost seen = { λ v. v };
+
+    ghost proper = { FitsSigned w64 };
+
+    ghost reading = { signed_read w64 true };
+
+    ghost refusal = { IsDenied 8 };
+
+    fn type_meta() -> TypeMeta {
+        TypeMeta::Static {
+            size: 8,
+            zero_copy: true,
+        }
+    }
+
+    fn prealloc_size() -> usize {
+        8
+    }
+
+    fn read<R: Reader<L>>(_alloc: Global, reader: &mut R, dst: &mut Option<i64>) -> ReadResult<()> {
+        let bytes = take_array::<L, R, 8>(reader)?;
+        *dst = Some(i64::from_le_bytes(bytes));
+        Ok(())
+    }
+
+    /// All at once: `ReadSizeLimit` of the size of all where fewer bytes are left. Refused, for memory
+    /// too, all bytes stay.
+    fn read_items<R: Reader<L>>(
+        _alloc: Global,
+        reader: &mut R,
+        n: usize,
+        into: &mut Vec<i64>,
+    ) -> ReadResult<()> {
+        read_all::<L, R, i64>(reader, n, into)
+    }
+
+    ghost read_laws = { signed_read_laws w64 refl true (lit≤ tt) };
+}
+
+impl<L: Lending> SchemaRead<L> for i128 {
+    type Dst = i128;
+
+    ghost Value = { ℤ };
+
+    ghost seen = { λ v. v };
+
+    ghost proper = { FitsSigned w128 };
+
+    ghost reading = { signed_read w128 true };
+
+    ghost refusal = { IsDenied 16 };
+
+    fn type_meta() -> TypeMeta {
+        TypeMeta::Static {
+            size: 16,
+            zero_copy: true,
+        }
+    }
+
+    fn prealloc_size() -> usize {
+        16
+    }
+
+    fn read<R: Reader<L>>(
+        _alloc: Global,
+        reader: &mut R,
+        dst: &mut Option<i128>,
+    ) -> ReadResult<()> {
+        let bytes = take_array::<L, R, 16>(reader)?;
+        *dst = Some(i128::from_le_bytes(bytes));
+        Ok(())
+    }
+
+    /// All at once: `ReadSizeLimit` of the size of all where fewer bytes are left. Refused, for memory
+    /// too, all bytes stay.
+    fn read_items<R: Reader<L>>(
+        _alloc: Global,
+        reader: &mut R,
+        n: usize,
+        into: &mut Vec<i128>,
+    ) -> ReadResult<()> {
+        read_all::<L, R, i128>(reader, n, into)
+    }
+
+    ghost read_laws = { signed_read_laws w128 refl true (lit≤ tt) };
+}
+
+impl<L: Lending> SchemaRead<L> for isize {
+    type Dst = isize;
+
+    ghost Value = { ℤ };
+
+    ghost seen = { λ v. v };
+
+    ghost proper = { FitsSigned w64 };
+
+    ghost reading = { signed_read w64 false };
+
+    ghost refusal = { IsDenied 8 };
+
+    fn type_meta() -> TypeMeta {
+        TypeMeta::Static {
+            size: 8,
+            zero_copy: false,
+        }
+    }
+
+    fn prealloc_size() -> usize {
+        8
+    }
+
+    fn read<R: Reader<L>>(
+        _alloc: Global,
+        reader: &mut R,
+        dst: &mut Option<isize>,
+    ) -> ReadResult<()> {
+        let bytes = take_array::<L, R, 8>(reader)?;
+        *dst = Some(isize::from_le_bytes(bytes));
+        Ok(())
+    }
+
+    ghost read_laws = { signed_read_laws w64 refl false (lit≤ tt) };
+}
+
+impl<L: Lending> SchemaRead<L> for bool {
+    type Dst = bool;
+
+    ghost Value = { Bool };
+
+    ghost seen = { λ v. v };
+
+    ghost proper = { λ v. Unit {0} };
+
+    ghost reading = { bool_read };
+
+    ghost refusal = { IsBoolRefused };
+
+    fn type_meta() -> TypeMeta {
+        TypeMeta::Static {
+            size: 1,
+            zero_copy: false,
+        }
+    }
+
+    fn prealloc_size() -> usize {
+        1
+    }
+
+    /// A byte that is neither 0 nor 1 is consumed, and is `InvalidBoolEncoding`.
+    fn read<R: Reader<L>>(
+        _alloc: Global,
+        reader: &mut R,
+        dst: &mut Option<bool>,
+    ) -> ReadResult<()> {
+        let bytes = take_array::<L, R, 1>(reader)?;
+        let byte = bytes[0];
+        if byte > 1 {
+            return Err(invalid_bool_encoding(byte));
+        }
+        *dst = Some(byte == 1);
+        Ok(())
+    }
+
+    ghost read_laws = { bool_read_laws };
+}
+
+#[tactic(auto, using(wincode_base::proofs::Integers::unit_puts))]
+impl<L: Lending> SchemaRead<L> for () {
+    type Dst = ();
+
+    ghost Value = { Unit };
+
+    ghost seen = { λ _. tt };
+
+    ghost proper = { λ _. Unit {0} };
+
+    ghost reading = { unit_read };
+
+    ghost refusal = { never };
+
+    fn type_meta() -> TypeMeta {
+        TypeMeta::Static {
+            size: 0,
+            zero_copy: true,
+        }
+    }
+
+    fn prealloc_size() -> usize {
+        1
+    }
+
+    fn read<R: Reader<L>>(_alloc: Global, _reader: &mut R, dst: &mut Option<()>) -> ReadResult<()> {
+        *dst = Some(());
+        Ok(())
+    }
+
+    ghost read_laws = { unit_read_laws };
+}
+
+#[tactic(auto, using(wincode_base::proofs::Integers::unit_puts))]
+impl<L: Lending, T> SchemaRead<L> for PhantomData<T> {
+    type Dst = PhantomData<T>;
+
+    ghost Value = { Unit };
+
+    ghost seen = { λ _. tt };
+
+    ghost proper = { λ _. Unit {0} };
+
+    ghost reading = { unit_read };
+
+    ghost refusal = { never };
+
+    fn type_meta() -> TypeMeta {
+        TypeMeta::Static {
+            size: 0,
+            zero_copy: true,
+        }
+    }
+
+    fn prealloc_size() -> usize {
+        1
+    }
+
+    fn read<R: Reader<L>>(
+        _alloc: Global,
+        _reader: &mut R,
+        dst: &mut Option<PhantomData<T>>,
+    ) -> ReadResult<()> {
+        *dst = Some(PhantomData);
+        Ok(())
+    }
+
+    ghost read_laws = { unit_read_laws };
+}

@@ -1,0 +1,122 @@
+//! Schemas of lists, behind a length of eight bytes.
+//!
+//! Items of one size are read through one window of all of them, taken before memory is asked for: where
+//! fewer bytes are left it is `Io(ReadSizeLimit)` of the size of all items, and the reader stands behind
+//! the length; where an item is refused, behind all items. Such a list is written through one window of
+//! the whole: where the room is less, nothing is written. A size past `usize::MAX` is
+//! `LengthEncodingOverflow`. Other items are read and written one after another.
+ghost use Rattle.std.specs.Prelude.{List, map};
+ghost use Rattle.wincode_io.specs.Joins.{Each};
+ghost use Rattle.wincode_base.specs.LengthLaws.{bincode_laws};
+ghost use Rattle.wincode_base.specs.Lengths.{bincode, IsLengthRefused};
+ghost use Rattle.wincode_base.specs.ListLaws.{list_read_laws};
+ghost use Rattle.wincode_base.specs.Lists.{list_read, IsListRefused};
+ghost use Rattle.wincode_base.specs.Sizes.{item_size};
+
+use crate::schema::SchemaRead;
+use crate::schema::from_items::get_list;
+use std::alloc::Global;
+use std::collections::{LinkedList, VecDeque};
+use wincode_base::error::ReadResult;
+use wincode_base::len::BincodeLen;
+use wincode_base::meta::TypeMeta;
+use wincode_io::{Lending, Reader};
+
+impl<L: Lending, T: SchemaRead<L>> SchemaRead<L> for Vec<T> {
+    type Dst = Vec<T::Dst>;
+
+    ghost Value = { List T.Value };
+
+    ghost seen = { λ v. map T.seen v.items };
+
+    ghost proper = { Each T.proper };
+
+    ghost reading = { list_read (bincode 4194304) 24 T.reading };
+
+    ghost refusal = { IsListRefused (bincode 4194304) (IsLengthRefused 4194304) (item_size T.reading.meta) T.reading T.refusal };
+
+    fn type_meta() -> TypeMeta {
+        TypeMeta::Dynamic
+    }
+
+    fn prealloc_size() -> usize {
+        24
+    }
+
+    fn read<R: Reader<L>>(
+        alloc: Global,
+        reader: &mut R,
+        dst: &mut Option<Vec<T::Dst>>,
+    ) -> ReadResult<()> {
+        *dst = Some(get_list::<Vec<T::Dst>, BincodeLen<4194304>, L, T, R>(alloc, reader)?);
+        Ok(())
+    }
+
+    ghost read_laws = { list_read_laws (bincode 4194304) (bincode_laws 4194304) 24 (lit≤ tt) T.proper T.reading T.read_laws };
+}
+
+impl<L: Lending, T: SchemaRead<L>> SchemaRead<L> for VecDeque<T> {
+    type Dst = VecDeque<T::Dst>;
+
+    ghost Value = { List T.Value };
+
+    ghost seen = { λ q. map T.seen q.items };
+
+    ghost proper = { Each T.proper };
+
+    ghost reading = { list_read (bincode 4194304) 24 T.reading };
+
+    ghost refusal = { IsListRefused (bincode 4194304) (IsLengthRefused 4194304) (item_size T.reading.meta) T.reading T.refusal };
+
+    fn type_meta() -> TypeMeta {
+        TypeMeta::Dynamic
+    }
+
+    fn prealloc_size() -> usize {
+        24
+    }
+
+    fn read<R: Reader<L>>(
+        alloc: Global,
+        reader: &mut R,
+        dst: &mut Option<VecDeque<T::Dst>>,
+    ) -> ReadResult<()> {
+        *dst = Some(get_list::<VecDeque<T::Dst>, BincodeLen<4194304>, L, T, R>(alloc, reader)?);
+        Ok(())
+    }
+
+    ghost read_laws = { list_read_laws (bincode 4194304) (bincode_laws 4194304) 24 (lit≤ tt) T.proper T.reading T.read_laws };
+}
+
+impl<L: Lending, T: SchemaRead<L>> SchemaRead<L> for LinkedList<T> {
+    type Dst = LinkedList<T::Dst>;
+
+    ghost Value = { List T.Value };
+
+    ghost seen = { λ l. map T.seen l };
+
+    ghost proper = { Each T.proper };
+
+    ghost reading = { list_read (bincode 4194304) 24 T.reading };
+
+    ghost refusal = { IsListRefused (bincode 4194304) (IsLengthRefused 4194304) (item_size T.reading.meta) T.reading T.refusal };
+
+    fn type_meta() -> TypeMeta {
+        TypeMeta::Dynamic
+    }
+
+    fn prealloc_size() -> usize {
+        24
+    }
+
+    fn read<R: Reader<L>>(
+        alloc: Global,
+        reader: &mut R,
+        dst: &mut Option<LinkedList<T::Dst>>,
+    ) -> ReadResult<()> {
+        *dst = Some(get_list::<LinkedList<T::Dst>, BincodeLen<4194304>, L, T, R>(alloc, reader)?);
+        Ok(())
+    }
+
+    ghost read_laws = { list_read_laws (bincode 4194304) (bincode_laws 4194304) 24 (lit≤ tt) T.proper T.reading T.read_laws };
+}

@@ -1,0 +1,78 @@
+//! The schema of a value that has a byte form.
+ghost use Rattle.std.specs.Prelude.{true, IfOk, IfErr};
+ghost use Rattle.wincode_base.specs.Outcomes.{Gives, Refuses};
+ghost use Rattle.wincode_base.specs.ViewLaws.{form_prealloc_some, form_read_laws};
+ghost use Rattle.wincode_base.specs.Views.{form_prealloc, form_read, IsFormDenied, IsPodDenied};
+
+use crate::schema::SchemaRead;
+use crate::schema::as_forms::read_all;
+use std::alloc::Global;
+use wincode_base::error::{ReadResult, read_length_encoding_overflow};
+use wincode_base::meta::TypeMeta;
+use wincode_base::parts::Pod;
+use wincode_base::sizes::meta_of_form;
+use wincode_io as io;
+use wincode_io::{Lending, Reader, ZeroCopy, see_bytes};
+
+/// The value of the next form, which is then gone.
+fn take_form<L: Lending, T: ZeroCopy, R: Reader<L>>(reader: &mut R) -> ReadResult<T>
+    ensures ok { IfOk result (λ v. Gives (form_read T.proper T.size T.form true (form_prealloc T.size) 0).reads (R.state reader.old) (R.state reader.new) v) }
+    ensures err { IfErr result (Refuses (form_read T.proper T.size T.form true (form_prealloc T.size) 0).reads 0 true (R.state reader.old) (R.state reader.new)) }
+    ensures refused { IfErr result (IsFormDenied 0 T.size (R.state reader.old) (R.state reader.new)) }
+{
+    let Some(size) = T::form_size() else {
+        return Err(io::ReadError::ReadSizeLimit(usize::MAX).into());
+    };
+    let bytes = reader.fill_exact(size)?;
+    see_bytes(bytes);
+    let value = T::of_form(bytes);
+    reader.consume_unchecked(size);
+    Ok(value)
+}
+
+impl<L: Lending, T: ZeroCopy> SchemaRead<L> for Pod<T> {
+    type Dst = T;
+
+    ghost Value = { T };
+
+    ghost seen = { λ v. v };
+
+    ghost proper = { T.proper };
+
+    ghost reading = { form_read T.proper T.size T.form true (form_prealloc T.size) 0 };
+
+    ghost refusal = { IsPodDenied T.size };
+
+    fn type_meta() -> TypeMeta {
+        meta_of_form::<T>(true)
+    }
+
+    fn prealloc_size() -> usize {
+        match T::form_size() {
+            Some(size) => size.max(1),
+            None => usize::MAX,
+        }
+    }
+
+    fn read<R: Reader<L>>(_alloc: Global, reader: &mut R, dst: &mut Option<T>) -> ReadResult<()> {
+        *dst = Some(take_form::<L, T, R>(reader)?);
+        Ok(())
+    }
+
+    /// All at once: `ReadSizeLimit` of the size of all where fewer bytes are left. Refused, for memory
+    /// too, all bytes stay. Where `usize` can't count the bytes of one it is `LengthEncodingOverflow`.
+    fn read_items<R: Reader<L>>(
+        _alloc: Global,
+        reader: &mut R,
+        n: usize,
+        into: &mut Vec<T>,
+    ) -> ReadResult<()> {
+        match T::form_size() {
+            Some(_) => read_all::<L, R, T>(reader, n, into),
+            None if n == 0 => Ok(()),
+            None => Err(read_length_encoding_overflow("usize::MAX")),
+        }
+    }
+
+    ghost read_laws = { form_read_laws T.byte_form true (form_prealloc T.size) 0 (form_prealloc_some T.size) };
+}

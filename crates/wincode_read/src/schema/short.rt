@@ -1,0 +1,46 @@
+//! Numbers below 2 to the 16 in one to three bytes.
+ghost use Rattle.std.specs.Prelude.{ℕ, ◌<◌, ◌^◌};
+ghost use Rattle.wincode_base.specs.Short.{short_read, IsShortRefused};
+ghost use Rattle.wincode_base.specs.ShortLaws.{short_read_laws};
+
+use crate::schema::SchemaRead;
+use std::alloc::Global;
+use wincode_base::error::ReadResult;
+use wincode_base::len::short_vec::take_short;
+use wincode_base::len::{SeqLen, ShortU16};
+use wincode_base::meta::TypeMeta;
+use wincode_io::{Lending, Reader};
+
+impl<L: Lending> SchemaRead<L> for ShortU16 {
+    type Dst = ShortU16;
+
+    ghost Value = { ℕ };
+
+    ghost seen = { λ v. v.0 };
+
+    ghost proper = { λ n. n < 2 ^ 16 };
+
+    ghost reading = { short_read };
+
+    ghost refusal = { IsShortRefused };
+
+    fn type_meta() -> TypeMeta {
+        TypeMeta::Dynamic
+    }
+
+    fn prealloc_size() -> usize {
+        2
+    }
+
+    /// Where no short number stands in front, it is `LengthEncodingOverflow`, and all bytes stay.
+    fn read<R: Reader<L>>(
+        _alloc: Global,
+        reader: &mut R,
+        dst: &mut Option<ShortU16>,
+    ) -> ReadResult<()> {
+        *dst = Some(ShortU16(take_short::<L, R>(reader)?));
+        Ok(())
+    }
+
+    ghost read_laws = { short_read_laws };
+}

@@ -1,0 +1,129 @@
+//! Schemas of a tag and then what it names.
+ghost use Rattle.std.specs.Option.{option_map};
+ghost use Rattle.std.specs.Prelude.{Option, Result, IfOk, IfErr};
+ghost use Rattle.std.specs.Result.{result_map_both};
+ghost use Rattle.wincode_base.specs.Outcomes.{Gives, Refuses};
+ghost use Rattle.wincode_base.specs.TagLaws.{option_read_laws, result_read_laws};
+ghost use Rattle.wincode_base.specs.Tags.{option_read, IfPart, IsOptionRefused, result_read, IfSide, IsResultRefused};
+
+use crate::schema::{SchemaGet, SchemaRead};
+use std::alloc::Global;
+use wincode_base::error::{ReadResult, invalid_tag_encoding};
+use wincode_base::meta::TypeMeta;
+use wincode_base::sizes::result_meta;
+use wincode_base::tag::{TagCode, read_tag};
+use wincode_io::{Lending, Reader};
+
+/// A tag, and then what it names.
+pub fn get_option<Tag: TagCode, L: Lending, T: SchemaRead<L>, R: Reader<L>>(
+    alloc: Global,
+    reader: &mut R,
+) -> ReadResult<Option<T::Dst>>
+    ensures ok { IfOk result (λ o. Gives (option_read Tag.size T.reading).reads (R.state reader.old) (R.state reader.new) (option_map T.seen o)) }
+    ensures err { IfErr result (Refuses (option_read Tag.size T.reading).reads T.reading.asks T.reading.sparing (R.state reader.old) (R.state reader.new)) }
+    ensures refused { IfErr result (IsOptionRefused Tag.size T.reading T.refusal (R.state reader.old) (R.state reader.new)) }
+{
+    let tag = read_tag::<Tag, L, R>(reader)?;
+    match tag {
+        0 => Ok(None),
+        1 => {
+            let value = T::get(alloc, reader)?;
+            Ok(Some(value))
+        }
+        _ => Err(invalid_tag_encoding(tag)),
+    }
+}
+
+/// A tag, and then the side that it names.
+pub fn get_result<Tag: TagCode, L: Lending, T: SchemaRead<L>, E: SchemaRead<L>, R: Reader<L>>(
+    alloc: Global,
+    reader: &mut R,
+) -> ReadResult<Result<T::Dst, E::Dst>>
+    ensures ok { IfOk result (λ r. Gives (result_read Tag.size T.reading E.reading).reads (R.state reader.old) (R.state reader.new) (result_map_both T.seen E.seen r)) }
+    ensures err { IfErr result (Refuses (result_read Tag.size T.reading E.reading).reads (result_read Tag.size T.reading
+        E.reading).asks (result_read Tag.size T.reading E.reading).sparing (R.state reader.old) (R.state reader.new)) }
+    ensures refused { IfErr result (IsResultRefused Tag.size T.reading T.refusal E.reading E.refusal (R.state reader.old) (R.state reader.new)) }
+{
+    let side = read_tag::<Tag, L, R>(reader)?;
+    match side {
+        0 => {
+            let value = T::get(alloc, reader)?;
+            Ok(Ok(value))
+        }
+        1 => {
+            let error = E::get(alloc, reader)?;
+            Ok(Err(error))
+        }
+        _ => Err(invalid_tag_encoding(side)),
+    }
+}
+
+impl<L: Lending, T: SchemaRead<L>> SchemaRead<L> for Option<T> {
+    type Dst = Option<T::Dst>;
+
+    ghost Value = { Option T.Value };
+
+    ghost seen = { option_map T.seen };
+
+    ghost proper = { IfPart T.proper };
+
+    ghost reading = { option_read 1 T.reading };
+
+    ghost refusal = { IsOptionRefused 1 T.reading T.refusal };
+
+    fn type_meta() -> TypeMeta {
+        TypeMeta::Dynamic
+    }
+
+    fn prealloc_size() -> usize {
+        T::prealloc_size()
+    }
+
+    /// A byte that is neither 0 nor 1 is consumed, and is `InvalidTagEncoding`. A refused value leaves
+    /// the reader behind its tag, at the least.
+    fn read<R: Reader<L>>(
+        alloc: Global,
+        reader: &mut R,
+        dst: &mut Option<Option<T::Dst>>,
+    ) -> ReadResult<()> {
+        *dst = Some(get_option::<u8, L, T, R>(alloc, reader)?);
+        Ok(())
+    }
+
+    ghost read_laws = { option_read_laws 1 (lit≤ tt) T.proper T.reading T.read_laws };
+}
+
+impl<L: Lending, T: SchemaRead<L>, E: SchemaRead<L>> SchemaRead<L> for Result<T, E> {
+    type Dst = Result<T::Dst, E::Dst>;
+
+    ghost Value = { Result T.Value E.Value };
+
+    ghost seen = { result_map_both T.seen E.seen };
+
+    ghost proper = { IfSide T.proper E.proper };
+
+    ghost reading = { result_read 4 T.reading E.reading };
+
+    ghost refusal = { IsResultRefused 4 T.reading T.refusal E.reading E.refusal };
+
+    fn type_meta() -> TypeMeta {
+        result_meta(4, T::type_meta(), E::type_meta())
+    }
+
+    fn prealloc_size() -> usize {
+        T::prealloc_size().max(E::prealloc_size())
+    }
+
+    /// A number that is neither 0 nor 1 is consumed, and is `InvalidTagEncoding`; fewer than four
+    /// bytes stay. A refused side leaves the reader behind the number, at the least.
+    fn read<R: Reader<L>>(
+        alloc: Global,
+        reader: &mut R,
+        dst: &mut Option<Result<T::Dst, E::Dst>>,
+    ) -> ReadResult<()> {
+        *dst = Some(get_result::<u32, L, T, E, R>(alloc, reader)?);
+        Ok(())
+    }
+
+    ghost read_laws = { result_read_laws 4 (lit≤ tt) T.proper E.proper T.reading E.reading T.read_laws E.read_laws };
+}

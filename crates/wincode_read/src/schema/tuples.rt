@@ -1,0 +1,361 @@
+//! Schemas of tuples. A tuple is its members, one after another, with nothing between them.
+//!
+//! Where all members have one size, the tuple is read and written through one window of the sum, in bytes.
+//! Reading: fewer bytes are `Io(ReadSizeLimit)` of the sum, and stay; where a member is refused, the bytes of
+//! the whole tuple are gone. Writing: less room is `Io(WriteSizeLimit)` of the sum, and nothing is written.
+//! Other tuples go member by member, and a refusal leaves what the members before it took or wrote.
+ghost use Rattle.wincode_base.specs.InWindow.{IsStaticRefused};
+ghost use Rattle.wincode_base.specs.PairLaws.{pair_read_laws};
+ghost use Rattle.wincode_base.specs.Pairs.{pair_read, IsPairRefused};
+
+mod longer;
+
+use crate::schema::in_window::get_in_window;
+use crate::schema::{SchemaGet, SchemaRead};
+use std::alloc::Global;
+use wincode_base::error::ReadResult;
+use wincode_base::meta::TypeMeta;
+use wincode_base::parts::{Members2, Members3, Members4, Members5, Members6, Members7, Members8};
+use wincode_base::sizes::joined_meta;
+use wincode_io::{Lending, Reader};
+
+impl<L: Lending, A: SchemaRead<L>, B: SchemaRead<L>> SchemaRead<L> for Members2<A, B> {
+    type Dst = (A::Dst, B::Dst);
+
+    ghost Value = { A.Value × B.Value };
+
+    ghost seen = { λ t. (A.seen t.0, B.seen t.1) };
+
+    ghost proper = { λ v. A.proper v.0 × B.proper v.1 };
+
+    ghost reading = { pair_read A.reading B.reading };
+
+    ghost refusal = { IsPairRefused A.reading A.refusal B.reading B.refusal };
+
+    fn type_meta() -> TypeMeta {
+        joined_meta(A::type_meta(), B::type_meta())
+    }
+
+    fn prealloc_size() -> usize {
+        A::prealloc_size().saturating_add(B::prealloc_size())
+    }
+
+    fn read<R: Reader<L>>(
+        alloc: Global,
+        reader: &mut R,
+        dst: &mut Option<(A::Dst, B::Dst)>,
+    ) -> ReadResult<()> {
+        let first = A::get(alloc, reader)?;
+        let second = B::get(alloc, reader)?;
+        *dst = Some((first, second));
+        Ok(())
+    }
+
+    ghost read_laws = { pair_read_laws A.read_laws B.read_laws };
+}
+
+impl<L: Lending, A: SchemaRead<L>, B: SchemaRead<L>> SchemaRead<L> for (A, B) {
+    type Dst = (A::Dst, B::Dst);
+
+    ghost Value = { ⟦<Members2<A, B> as SchemaRead<L>>⟧.Value };
+
+    ghost seen = { λ t. ⟦<Members2<A, B> as SchemaRead<L>>⟧.seen (t.0, t.1) };
+
+    ghost proper = { ⟦<Members2<A, B> as SchemaRead<L>>⟧.proper };
+
+    ghost reading = { ⟦<Members2<A, B> as SchemaRead<L>>⟧.reading };
+
+    ghost refusal = { IsStaticRefused ⟦<Members2<A, B> as SchemaRead<L>>⟧.reading.meta ⟦<Members2<A, B> as SchemaRead<L>>⟧.refusal };
+
+    fn type_meta() -> TypeMeta {
+        joined_meta(A::type_meta(), B::type_meta())
+    }
+
+    fn prealloc_size() -> usize {
+        A::prealloc_size().saturating_add(B::prealloc_size())
+    }
+
+    fn read<R: Reader<L>>(
+        alloc: Global,
+        reader: &mut R,
+        dst: &mut Option<Self::Dst>,
+    ) -> ReadResult<()> {
+        let (a, b) = get_in_window::<L, Members2<A, B>, R>(alloc, reader)?;
+        *dst = Some((a, b));
+        Ok(())
+    }
+
+    ghost read_laws = { pair_read_laws A.read_laws B.read_laws };
+}
+
+impl<L: Lending, A: SchemaRead<L>, B: SchemaRead<L>, C: SchemaRead<L>> SchemaRead<L> for (A, B, C) {
+    type Dst = (A::Dst, B::Dst, C::Dst);
+
+    ghost Value = { ⟦<Members3<A, B, C> as SchemaRead<L>>⟧.Value };
+
+    ghost seen = { λ t. ⟦<Members3<A, B, C> as SchemaRead<L>>⟧.seen (t.0, (t.1, t.2)) };
+
+    ghost proper = { ⟦<Members3<A, B, C> as SchemaRead<L>>⟧.proper };
+
+    ghost reading = { ⟦<Members3<A, B, C> as SchemaRead<L>>⟧.reading };
+
+    ghost refusal = { IsStaticRefused ⟦<Members3<A, B, C> as SchemaRead<L>>⟧.reading.meta ⟦<Members3<A, B, C> as SchemaRead<L>>⟧.refusal };
+
+    fn type_meta() -> TypeMeta {
+        joined_meta(A::type_meta(), <(B, C) as SchemaRead<L>>::type_meta())
+    }
+
+    fn prealloc_size() -> usize {
+        A::prealloc_size().saturating_add(<(B, C) as SchemaRead<L>>::prealloc_size())
+    }
+
+    fn read<R: Reader<L>>(
+        alloc: Global,
+        reader: &mut R,
+        dst: &mut Option<Self::Dst>,
+    ) -> ReadResult<()> {
+        let (a, (b, c)) = get_in_window::<L, Members3<A, B, C>, R>(alloc, reader)?;
+        *dst = Some((a, b, c));
+        Ok(())
+    }
+
+    ghost read_laws = { pair_read_laws A.read_laws (pair_read_laws B.read_laws C.read_laws) };
+}
+
+impl<L: Lending, A: SchemaRead<L>, B: SchemaRead<L>, C: SchemaRead<L>, D: SchemaRead<L>> SchemaRead<
+    L,
+> for (A, B, C, D) {
+    type Dst = (A::Dst, B::Dst, C::Dst, D::Dst);
+
+    ghost Value = { ⟦<Members4<A, B, C, D> as SchemaRead<L>>⟧.Value };
+
+    ghost seen = { λ t. ⟦<Members4<A, B, C, D> as SchemaRead<L>>⟧.seen (t.0, (t.1, (t.2, t.3))) };
+
+    ghost proper = { ⟦<Members4<A, B, C, D> as SchemaRead<L>>⟧.proper };
+
+    ghost reading = { ⟦<Members4<A, B, C, D> as SchemaRead<L>>⟧.reading };
+
+    ghost refusal = { IsStaticRefused ⟦<Members4<A, B, C, D> as SchemaRead<L>>⟧.reading.meta ⟦<Members4<A, B, C, D> as SchemaRead<L>>⟧.refusal };
+
+    fn type_meta() -> TypeMeta {
+        joined_meta(A::type_meta(), <(B, C, D) as SchemaRead<L>>::type_meta())
+    }
+
+    fn prealloc_size() -> usize {
+        A::prealloc_size().saturating_add(<(B, C, D) as SchemaRead<L>>::prealloc_size())
+    }
+
+    fn read<R: Reader<L>>(
+        alloc: Global,
+        reader: &mut R,
+        dst: &mut Option<Self::Dst>,
+    ) -> ReadResult<()> {
+        let (a, (b, (c, d))) = get_in_window::<L, Members4<A, B, C, D>, R>(alloc, reader)?;
+        *dst = Some((a, b, c, d));
+        Ok(())
+    }
+
+    ghost read_laws = { pair_read_laws A.read_laws (pair_read_laws B.read_laws (pair_read_laws C.read_laws
+        D.read_laws)) };
+}
+
+impl<
+    L: Lending,
+    A: SchemaRead<L>,
+    B: SchemaRead<L>,
+    C: SchemaRead<L>,
+    D: SchemaRead<L>,
+    E: SchemaRead<L>,
+> SchemaRead<L> for (A, B, C, D, E) {
+    type Dst = (A::Dst, B::Dst, C::Dst, D::Dst, E::Dst);
+
+    ghost Value = { ⟦<Members5<A, B, C, D, E> as SchemaRead<L>>⟧.Value };
+
+    ghost seen = { λ t. ⟦<Members5<A, B, C, D, E> as SchemaRead<L>>⟧.seen (t.0, (t.1, (t.2, (t.3, t.4)))) };
+
+    ghost proper = { ⟦<Members5<A, B, C, D, E> as SchemaRead<L>>⟧.proper };
+
+    ghost reading = { ⟦<Members5<A, B, C, D, E> as SchemaRead<L>>⟧.reading };
+
+    ghost refusal = { IsStaticRefused ⟦<Members5<A, B, C, D, E> as SchemaRead<L>>⟧.reading.meta ⟦<Members5<A, B, C, D, E> as SchemaRead<L>>⟧.refusal };
+
+    fn type_meta() -> TypeMeta {
+        joined_meta(A::type_meta(), <(B, C, D, E) as SchemaRead<L>>::type_meta())
+    }
+
+    fn prealloc_size() -> usize {
+        A::prealloc_size().saturating_add(<(B, C, D, E) as SchemaRead<L>>::prealloc_size())
+    }
+
+    fn read<R: Reader<L>>(
+        alloc: Global,
+        reader: &mut R,
+        dst: &mut Option<Self::Dst>,
+    ) -> ReadResult<()> {
+        let (a, (b, (c, (d, e)))) = get_in_window::<L, Members5<A, B, C, D, E>, R>(alloc, reader)?;
+        *dst = Some((a, b, c, d, e));
+        Ok(())
+    }
+
+    ghost read_laws = { pair_read_laws A.read_laws (pair_read_laws B.read_laws (pair_read_laws C.read_laws
+        (pair_read_laws D.read_laws E.read_laws))) };
+}
+
+impl<
+    L: Lending,
+    A: SchemaRead<L>,
+    B: SchemaRead<L>,
+    C: SchemaRead<L>,
+    D: SchemaRead<L>,
+    E: SchemaRead<L>,
+    F: SchemaRead<L>,
+> SchemaRead<L> for (A, B, C, D, E, F) {
+    type Dst = (A::Dst, B::Dst, C::Dst, D::Dst, E::Dst, F::Dst);
+
+    ghost Value = { ⟦<Members6<A, B, C, D, E, F> as SchemaRead<L>>⟧.Value };
+
+    ghost seen = { λ t. ⟦<Members6<A, B, C, D, E, F> as SchemaRead<L>>⟧.seen (t.0, (t.1, (t.2, (t.3, (t.4, t.5))))) };
+
+    ghost proper = { ⟦<Members6<A, B, C, D, E, F> as SchemaRead<L>>⟧.proper };
+
+    ghost reading = { ⟦<Members6<A, B, C, D, E, F> as SchemaRead<L>>⟧.reading };
+
+    ghost refusal = { IsStaticRefused ⟦<Members6<A, B, C, D, E, F> as SchemaRead<L>>⟧.reading.meta ⟦<Members6<A, B, C, D, E, F> as SchemaRead<L>>⟧.refusal };
+
+    fn type_meta() -> TypeMeta {
+        joined_meta(
+            A::type_meta(),
+            <(B, C, D, E, F) as SchemaRead<L>>::type_meta(),
+        )
+    }
+
+    fn prealloc_size() -> usize {
+        A::prealloc_size().saturating_add(<(B, C, D, E, F) as SchemaRead<L>>::prealloc_size())
+    }
+
+    fn read<R: Reader<L>>(
+        alloc: Global,
+        reader: &mut R,
+        dst: &mut Option<Self::Dst>,
+    ) -> ReadResult<()> {
+        let (a, (b, (c, (d, (e, f))))) = get_in_window::<L, Members6<A, B, C, D, E, F>, R>(
+            alloc, reader,
+        )?;
+        *dst = Some((a, b, c, d, e, f));
+        Ok(())
+    }
+
+    ghost read_laws = { pair_read_laws A.read_laws (pair_read_laws B.read_laws (pair_read_laws C.read_laws
+        (pair_read_laws D.read_laws (pair_read_laws E.read_laws F.read_laws)))) };
+}
+
+impl<
+    L: Lending,
+    A: SchemaRead<L>,
+    B: SchemaRead<L>,
+    C: SchemaRead<L>,
+    D: SchemaRead<L>,
+    E: SchemaRead<L>,
+    F: SchemaRead<L>,
+    G: SchemaRead<L>,
+> SchemaRead<L> for (A, B, C, D, E, F, G) {
+    type Dst = (A::Dst, B::Dst, C::Dst, D::Dst, E::Dst, F::Dst, G::Dst);
+
+    ghost Value = { ⟦<Members7<A, B, C, D, E, F, G> as SchemaRead<L>>⟧.Value };
+
+    ghost seen = { λ t. ⟦<Members7<A, B, C, D, E, F, G> as SchemaRead<L>>⟧.seen (t.0, (t.1, (t.2, (t.3, (t.4, (t.5, t.6)))))) };
+
+    ghost proper = { ⟦<Members7<A, B, C, D, E, F, G> as SchemaRead<L>>⟧.proper };
+
+    ghost reading = { ⟦<Members7<A, B, C, D, E, F, G> as SchemaRead<L>>⟧.reading };
+
+    ghost refusal = { IsStaticRefused ⟦<Members7<A, B, C, D, E, F, G> as SchemaRead<L>>⟧.reading.meta ⟦<Members7<A, B, C, D, E, F, G> as SchemaRead<L>>⟧.refusal };
+
+    fn type_meta() -> TypeMeta {
+        joined_meta(
+            A::type_meta(),
+            <(B, C, D, E, F, G) as SchemaRead<L>>::type_meta(),
+        )
+    }
+
+    fn prealloc_size() -> usize {
+        A::prealloc_size().saturating_add(<(B, C, D, E, F, G) as SchemaRead<L>>::prealloc_size())
+    }
+
+    fn read<R: Reader<L>>(
+        alloc: Global,
+        reader: &mut R,
+        dst: &mut Option<Self::Dst>,
+    ) -> ReadResult<()> {
+        let (a, (b, (c, (d, (e, (f, g)))))) = get_in_window::<L, Members7<A, B, C, D, E, F, G>, R>(
+            alloc, reader,
+        )?;
+        *dst = Some((a, b, c, d, e, f, g));
+        Ok(())
+    }
+
+    ghost read_laws = { pair_read_laws A.read_laws (pair_read_laws B.read_laws (pair_read_laws C.read_laws
+        (pair_read_laws D.read_laws (pair_read_laws E.read_laws (pair_read_laws F.read_laws G.read_laws))))) };
+}
+
+impl<
+    L: Lending,
+    A: SchemaRead<L>,
+    B: SchemaRead<L>,
+    C: SchemaRead<L>,
+    D: SchemaRead<L>,
+    E: SchemaRead<L>,
+    F: SchemaRead<L>,
+    G: SchemaRead<L>,
+    H: SchemaRead<L>,
+> SchemaRead<L> for (A, B, C, D, E, F, G, H) {
+    type Dst = (
+        A::Dst,
+        B::Dst,
+        C::Dst,
+        D::Dst,
+        E::Dst,
+        F::Dst,
+        G::Dst,
+        H::Dst,
+    );
+
+    ghost Value = { ⟦<Members8<A, B, C, D, E, F, G, H> as SchemaRead<L>>⟧.Value };
+
+    ghost seen = { λ t. ⟦<Members8<A, B, C, D, E, F, G, H> as SchemaRead<L>>⟧.seen (t.0, (t.1, (t.2, (t.3, (t.4, (t.5, (t.6, t.7))))))) };
+
+    ghost proper = { ⟦<Members8<A, B, C, D, E, F, G, H> as SchemaRead<L>>⟧.proper };
+
+    ghost reading = { ⟦<Members8<A, B, C, D, E, F, G, H> as SchemaRead<L>>⟧.reading };
+
+    ghost refusal = { IsStaticRefused ⟦<Members8<A, B, C, D, E, F, G, H> as SchemaRead<L>>⟧.reading.meta ⟦<Members8<A, B, C, D, E, F, G, H> as SchemaRead<L>>⟧.refusal };
+
+    fn type_meta() -> TypeMeta {
+        joined_meta(
+            A::type_meta(),
+            <(B, C, D, E, F, G, H) as SchemaRead<L>>::type_meta(),
+        )
+    }
+
+    fn prealloc_size() -> usize {
+        A::prealloc_size().saturating_add(<(B, C, D, E, F, G, H) as SchemaRead<L>>::prealloc_size())
+    }
+
+    fn read<R: Reader<L>>(
+        alloc: Global,
+        reader: &mut R,
+        dst: &mut Option<Self::Dst>,
+    ) -> ReadResult<()> {
+        let (a, (b, (c, (d, (e, (f, (g, h))))))) = get_in_window::<
+            L,
+            Members8<A, B, C, D, E, F, G, H>,
+            R,
+        >(alloc, reader)?;
+        *dst = Some((a, b, c, d, e, f, g, h));
+        Ok(())
+    }
+
+    ghost read_laws = { pair_read_laws A.read_laws (pair_read_laws B.read_laws (pair_read_laws C.read_laws
+        (pair_read_laws D.read_laws (pair_read_laws E.read_laws (pair_read_laws F.read_laws (pair_read_laws
+        G.read_laws H.read_laws)))))) };
+}

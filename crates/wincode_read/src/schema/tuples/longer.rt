@@ -1,0 +1,290 @@
+//! Schemas of tuples of 9 to 12 members.
+ghost use Rattle.wincode_base.specs.InWindow.{IsStaticRefused};
+ghost use Rattle.wincode_base.specs.PairLaws.{pair_read_laws};
+
+use crate::schema::SchemaRead;
+use crate::schema::in_window::get_in_window;
+use std::alloc::Global;
+use wincode_base::error::ReadResult;
+use wincode_base::meta::TypeMeta;
+use wincode_base::parts::{Members9, Members10, Members11, Members12};
+use wincode_base::sizes::joined_meta;
+use wincode_io::{Lending, Reader};
+
+impl<
+    L: Lending,
+    A: SchemaRead<L>,
+    B: SchemaRead<L>,
+    C: SchemaRead<L>,
+    D: SchemaRead<L>,
+    E: SchemaRead<L>,
+    F: SchemaRead<L>,
+    G: SchemaRead<L>,
+    H: SchemaRead<L>,
+    I: SchemaRead<L>,
+> SchemaRead<L> for (A, B, C, D, E, F, G, H, I) {
+    type Dst = (
+        A::Dst,
+        B::Dst,
+        C::Dst,
+        D::Dst,
+        E::Dst,
+        F::Dst,
+        G::Dst,
+        H::Dst,
+        I::Dst,
+    );
+
+    ghost Value = { ⟦<Members9<A, B, C, D, E, F, G, H, I> as SchemaRead<L>>⟧.Value };
+
+    ghost seen = { λ t. ⟦<Members9<A, B, C, D, E, F, G, H, I> as SchemaRead<L>>⟧.seen (t.0, (t.1, (t.2, (t.3, (t.4, (t.5, (t.6, (t.7, t.8)))))))) };
+
+    ghost proper = { ⟦<Members9<A, B, C, D, E, F, G, H, I> as SchemaRead<L>>⟧.proper };
+
+    ghost reading = { ⟦<Members9<A, B, C, D, E, F, G, H, I> as SchemaRead<L>>⟧.reading };
+
+    ghost refusal = { IsStaticRefused ⟦<Members9<A, B, C, D, E, F, G, H, I> as SchemaRead<L>>⟧.reading.meta ⟦<Members9<A, B, C, D, E, F, G, H, I> as SchemaRead<L>>⟧.refusal };
+
+    fn type_meta() -> TypeMeta {
+        joined_meta(
+            A::type_meta(),
+            <(B, C, D, E, F, G, H, I) as SchemaRead<L>>::type_meta(),
+        )
+    }
+
+    fn prealloc_size() -> usize {
+        A::prealloc_size().saturating_add(<(B, C, D, E, F, G, H, I) as SchemaRead<
+            L,
+        >>::prealloc_size())
+    }
+
+    fn read<R: Reader<L>>(
+        alloc: Global,
+        reader: &mut R,
+        dst: &mut Option<Self::Dst>,
+    ) -> ReadResult<()> {
+        let (a, (b, (c, (d, (e, (f, (g, (h, i)))))))) = get_in_window::<
+            L,
+            Members9<A, B, C, D, E, F, G, H, I>,
+            R,
+        >(alloc, reader)?;
+        *dst = Some((a, b, c, d, e, f, g, h, i));
+        Ok(())
+    }
+
+    ghost read_laws = { pair_read_laws A.read_laws (pair_read_laws B.read_laws (pair_read_laws C.read_laws
+        (pair_read_laws D.read_laws (pair_read_laws E.read_laws (pair_read_laws F.read_laws (pair_read_laws
+        G.read_laws (pair_read_laws H.read_laws I.read_laws))))))) };
+}
+
+impl<
+    L: Lending,
+    A: SchemaRead<L>,
+    B: SchemaRead<L>,
+    C: SchemaRead<L>,
+    D: SchemaRead<L>,
+    E: SchemaRead<L>,
+    F: SchemaRead<L>,
+    G: SchemaRead<L>,
+    H: SchemaRead<L>,
+    I: SchemaRead<L>,
+    J: SchemaRead<L>,
+> SchemaRead<L> for (A, B, C, D, E, F, G, H, I, J) {
+    type Dst = (
+        A::Dst,
+        B::Dst,
+        C::Dst,
+        D::Dst,
+        E::Dst,
+        F::Dst,
+        G::Dst,
+        H::Dst,
+        I::Dst,
+        J::Dst,
+    );
+
+    ghost Value = { ⟦<Members10<A, B, C, D, E, F, G, H, I, J> as SchemaRead<L>>⟧.Value };
+
+    ghost seen = { λ t. ⟦<Members10<A, B, C, D, E, F, G, H, I, J> as SchemaRead<L>>⟧.seen (t.0, (t.1, (t.2, (t.3, (t.4, (t.5, (t.6, (t.7, (t.8, t.9))))))))) };
+
+    ghost proper = { ⟦<Members10<A, B, C, D, E, F, G, H, I, J> as SchemaRead<L>>⟧.proper };
+
+    ghost reading = { ⟦<Members10<A, B, C, D, E, F, G, H, I, J> as SchemaRead<L>>⟧.reading };
+
+    ghost refusal = { IsStaticRefused ⟦<Members10<A, B, C, D, E, F, G, H, I, J> as SchemaRead<L>>⟧.reading.meta ⟦<Members10<A, B, C, D, E, F, G, H, I, J> as SchemaRead<L>>⟧.refusal };
+
+    fn type_meta() -> TypeMeta {
+        joined_meta(
+            A::type_meta(),
+            <(B, C, D, E, F, G, H, I, J) as SchemaRead<L>>::type_meta(),
+        )
+    }
+
+    fn prealloc_size() -> usize {
+        A::prealloc_size().saturating_add(<(B, C, D, E, F, G, H, I, J) as SchemaRead<
+            L,
+        >>::prealloc_size())
+    }
+
+    fn read<R: Reader<L>>(
+        alloc: Global,
+        reader: &mut R,
+        dst: &mut Option<Self::Dst>,
+    ) -> ReadResult<()> {
+        let (a, (b, (c, (d, (e, (f, (g, (h, (i, j))))))))) = get_in_window::<
+            L,
+            Members10<A, B, C, D, E, F, G, H, I, J>,
+            R,
+        >(alloc, reader)?;
+        *dst = Some((a, b, c, d, e, f, g, h, i, j));
+        Ok(())
+    }
+
+    ghost read_laws = { pair_read_laws A.read_laws (pair_read_laws B.read_laws (pair_read_laws C.read_laws
+        (pair_read_laws D.read_laws (pair_read_laws E.read_laws (pair_read_laws F.read_laws (pair_read_laws
+        G.read_laws (pair_read_laws H.read_laws (pair_read_laws I.read_laws J.read_laws)))))))) };
+}
+
+impl<
+    L: Lending,
+    A: SchemaRead<L>,
+    B: SchemaRead<L>,
+    C: SchemaRead<L>,
+    D: SchemaRead<L>,
+    E: SchemaRead<L>,
+    F: SchemaRead<L>,
+    G: SchemaRead<L>,
+    H: SchemaRead<L>,
+    I: SchemaRead<L>,
+    J: SchemaRead<L>,
+    K: SchemaRead<L>,
+> SchemaRead<L> for (A, B, C, D, E, F, G, H, I, J, K) {
+    type Dst = (
+        A::Dst,
+        B::Dst,
+        C::Dst,
+        D::Dst,
+        E::Dst,
+        F::Dst,
+        G::Dst,
+        H::Dst,
+        I::Dst,
+        J::Dst,
+        K::Dst,
+    );
+
+    ghost Value = { ⟦<Members11<A, B, C, D, E, F, G, H, I, J, K> as SchemaRead<L>>⟧.Value };
+
+    ghost seen = { λ t. ⟦<Members11<A, B, C, D, E, F, G, H, I, J, K> as SchemaRead<L>>⟧.seen (t.0, (t.1, (t.2, (t.3, (t.4, (t.5, (t.6, (t.7, (t.8, (t.9, t.10)))))))))) };
+
+    ghost proper = { ⟦<Members11<A, B, C, D, E, F, G, H, I, J, K> as SchemaRead<L>>⟧.proper };
+
+    ghost reading = { ⟦<Members11<A, B, C, D, E, F, G, H, I, J, K> as SchemaRead<L>>⟧.reading };
+
+    ghost refusal = { IsStaticRefused ⟦<Members11<A, B, C, D, E, F, G, H, I, J, K> as SchemaRead<L>>⟧.reading.meta ⟦<Members11<A, B, C, D, E, F, G, H, I, J, K> as SchemaRead<L>>⟧.refusal };
+
+    fn type_meta() -> TypeMeta {
+        joined_meta(
+            A::type_meta(),
+            <(B, C, D, E, F, G, H, I, J, K) as SchemaRead<L>>::type_meta(),
+        )
+    }
+
+    fn prealloc_size() -> usize {
+        A::prealloc_size().saturating_add(<(B, C, D, E, F, G, H, I, J, K) as SchemaRead<
+            L,
+        >>::prealloc_size())
+    }
+
+    fn read<R: Reader<L>>(
+        alloc: Global,
+        reader: &mut R,
+        dst: &mut Option<Self::Dst>,
+    ) -> ReadResult<()> {
+        let (a, (b, (c, (d, (e, (f, (g, (h, (i, (j, k)))))))))) = get_in_window::<
+            L,
+            Members11<A, B, C, D, E, F, G, H, I, J, K>,
+            R,
+        >(alloc, reader)?;
+        *dst = Some((a, b, c, d, e, f, g, h, i, j, k));
+        Ok(())
+    }
+
+    ghost read_laws = { pair_read_laws A.read_laws (pair_read_laws B.read_laws (pair_read_laws C.read_laws
+        (pair_read_laws D.read_laws (pair_read_laws E.read_laws (pair_read_laws F.read_laws (pair_read_laws
+        G.read_laws (pair_read_laws H.read_laws (pair_read_laws I.read_laws (pair_read_laws J.read_laws
+        K.read_laws))))))))) };
+}
+
+impl<
+    L: Lending,
+    A: SchemaRead<L>,
+    B: SchemaRead<L>,
+    C: SchemaRead<L>,
+    D: SchemaRead<L>,
+    E: SchemaRead<L>,
+    F: SchemaRead<L>,
+    G: SchemaRead<L>,
+    H: SchemaRead<L>,
+    I: SchemaRead<L>,
+    J: SchemaRead<L>,
+    K: SchemaRead<L>,
+    M: SchemaRead<L>,
+> SchemaRead<L> for (A, B, C, D, E, F, G, H, I, J, K, M) {
+    type Dst = (
+        A::Dst,
+        B::Dst,
+        C::Dst,
+        D::Dst,
+        E::Dst,
+        F::Dst,
+        G::Dst,
+        H::Dst,
+        I::Dst,
+        J::Dst,
+        K::Dst,
+        M::Dst,
+    );
+
+    ghost Value = { ⟦<Members12<A, B, C, D, E, F, G, H, I, J, K, M> as SchemaRead<L>>⟧.Value };
+
+    ghost seen = { λ t. ⟦<Members12<A, B, C, D, E, F, G, H, I, J, K, M> as SchemaRead<L>>⟧.seen (t.0, (t.1, (t.2, (t.3, (t.4, (t.5, (t.6, (t.7, (t.8, (t.9, (t.10, t.11))))))))))) };
+
+    ghost proper = { ⟦<Members12<A, B, C, D, E, F, G, H, I, J, K, M> as SchemaRead<L>>⟧.proper };
+
+    ghost reading = { ⟦<Members12<A, B, C, D, E, F, G, H, I, J, K, M> as SchemaRead<L>>⟧.reading };
+
+    ghost refusal = { IsStaticRefused ⟦<Members12<A, B, C, D, E, F, G, H, I, J, K, M> as SchemaRead<L>>⟧.reading.meta ⟦<Members12<A, B, C, D, E, F, G, H, I, J, K, M> as SchemaRead<L>>⟧.refusal };
+
+    fn type_meta() -> TypeMeta {
+        joined_meta(
+            A::type_meta(),
+            <(B, C, D, E, F, G, H, I, J, K, M) as SchemaRead<L>>::type_meta(),
+        )
+    }
+
+    fn prealloc_size() -> usize {
+        A::prealloc_size().saturating_add(<(B, C, D, E, F, G, H, I, J, K, M) as SchemaRead<
+            L,
+        >>::prealloc_size())
+    }
+
+    fn read<R: Reader<L>>(
+        alloc: Global,
+        reader: &mut R,
+        dst: &mut Option<Self::Dst>,
+    ) -> ReadResult<()> {
+        let (a, (b, (c, (d, (e, (f, (g, (h, (i, (j, (k, m))))))))))) = get_in_window::<
+            L,
+            Members12<A, B, C, D, E, F, G, H, I, J, K, M>,
+            R,
+        >(alloc, reader)?;
+        *dst = Some((a, b, c, d, e, f, g, h, i, j, k, m));
+        Ok(())
+    }
+
+    ghost read_laws = { pair_read_laws A.read_laws (pair_read_laws B.read_laws (pair_read_laws C.read_laws
+        (pair_read_laws D.read_laws (pair_read_laws E.read_laws (pair_read_laws F.read_laws (pair_read_laws
+        G.read_laws (pair_read_laws H.read_laws (pair_read_laws I.read_laws (pair_read_laws J.read_laws
+        (pair_read_laws K.read_laws M.read_laws)))))))))) };
+}

@@ -1,0 +1,26 @@
+use Rattle.std.proofs.Common.{rules, ◌∙◌, ap, ◌+◌}
+use Rattle.wincode_collect.specs.Seen.{sees}
+use Rattle.wincode_base.specs.Pairs.{pair_write}
+use Rattle.wincode_base.proofs.Walks.{sum_more, sum_refused, sum_past}
+use Rattle.wincode_write.proofs.schema.to_items.HashMapToItemsMembers2.add_sizes.Goals as goal
+
+pub returns-in_err-size-clause-err : goal.returns-in_err-size-clause-err
+returns-in_err-size-clause-err g c =
+    let K = g.K.SchemaWrite in
+    let V = g.V.SchemaWrite in
+    let h = sum_refused (pair_write K.writing V.writing) (sees K.seen V.seen) c.args.before _ _ _ _ (c.in-Some.key.now, c.in-Some.value.now) _ c.loop-key.invariant c.in-Some.ensures.steps c.in_err-size.ensures.err in search (rules, h)
+
+pub returns-in-None-checked_add-clause-err : goal.returns-in-None-checked_add-clause-err
+returns-in-None-checked_add-clause-err g c =
+    let K = g.K.SchemaWrite in
+    let V = g.V.SchemaWrite in (
+      sum_past (pair_write K.writing V.writing) (sees K.seen V.seen) c.args.before _ _ _ _ (c.in-Some.key.now, c.in-Some.value.now) c.loop-key.invariant c.in-Some.ensures.steps (rw c.in_ok-size.ensures.ok.1 at c.in-None-checked_add.ensures),
+      rw c.write_length_encoding_overflow.ensures (tt, λ own. tt),
+    )
+
+pub loop-key-preserved : goal.loop-key-preserved
+loop-key-preserved g c =
+    let K = g.K.SchemaWrite in
+    let V = g.V.SchemaWrite in
+    let e = c.in-Some-checked_add.ensures in
+    sum_more (pair_write K.writing V.writing) (sees K.seen V.seen) c.args.before _ _ _ _ _ (c.in-Some.key.now, c.in-Some.value.now) c.loop-key.invariant c.in-Some.ensures.steps c.in_ok-size.ensures.ok.0 (e.1 ∙ ap (λ n. c.loop-key.sum + n) c.in_ok-size.ensures.ok.1)

@@ -1,0 +1,149 @@
+use Rattle.std.proofs.lemmas.Result.{IfOk-weaker, IfErr-weaker}
+use Rattle.wincode_base.specs.Pairs.{pair_write}
+use Rattle.wincode_base.specs.SizeLaws.{size_first, size_second, size_both, size_over}
+use Rattle.wincode_base.proofs.Refused.{passed_on}
+use Rattle.wincode_write.proofs.schema.tuples.longer.size_of_members_12.Goals as goal
+
+pub returns-in_err-size_of-clause-err : goal.returns-in_err-size_of-clause-err
+returns-in_err-size_of-clause-err g c =
+    let rest = pair_write g.B.SchemaWrite.writing (pair_write g.C.SchemaWrite.writing (pair_write g.D.SchemaWrite.writing (pair_write
+    g.E.SchemaWrite.writing (pair_write g.F.SchemaWrite.writing (pair_write g.G.SchemaWrite.writing (pair_write g.H.SchemaWrite.writing
+    (pair_write g.I.SchemaWrite.writing (pair_write g.J.SchemaWrite.writing (pair_write g.K.SchemaWrite.writing g.M.SchemaWrite.writing)))))))))
+    in
+    passed_on _ _ _ c.from_residual.ensures (size_first g.A.SchemaWrite.writing rest (g.A.SchemaWrite.seen c.args.a.now) (
+      g.B.SchemaWrite.seen
+          c.args.b.now,
+      (
+        g.C.SchemaWrite.seen c.args.c.now,
+        (
+          g.D.SchemaWrite.seen c.args.d.now,
+          (
+            g.E.SchemaWrite.seen c.args.e.now,
+            (
+              g.F.SchemaWrite.seen c.args.f.now,
+              (
+                g.G.SchemaWrite.seen c.args.g.now,
+                (
+                  g.H.SchemaWrite.seen c.args.h.now,
+                  (
+                    g.I.SchemaWrite.seen
+                        c.args.i.now,
+                    (g.J.SchemaWrite.seen c.args.j.now, (g.K.SchemaWrite.seen c.args.k.now, g.M.SchemaWrite.seen c.args.m.now)),
+                  ),
+                ),
+              ),
+            ),
+          ),
+        ),
+      ),
+    ) _
+    c.in_err-size_of.ensures.err)
+
+pub returns-in_err-size_of_members_11-clause-err : goal.returns-in_err-size_of_members_11-clause-err
+returns-in_err-size_of_members_11-clause-err g c =
+    let rest = pair_write g.B.SchemaWrite.writing (pair_write g.C.SchemaWrite.writing (pair_write g.D.SchemaWrite.writing (pair_write
+    g.E.SchemaWrite.writing (pair_write g.F.SchemaWrite.writing (pair_write g.G.SchemaWrite.writing (pair_write g.H.SchemaWrite.writing
+    (pair_write g.I.SchemaWrite.writing (pair_write g.J.SchemaWrite.writing (pair_write g.K.SchemaWrite.writing g.M.SchemaWrite.writing)))))))))
+    in
+    passed_on _ _ _ c.from_residual-in_err-size_of_members_11.ensures (size_second g.A.SchemaWrite.writing rest (g.A.SchemaWrite.seen c.args.a.now) (
+      g.B.SchemaWrite.seen c.args.b.now,
+      (
+        g.C.SchemaWrite.seen c.args.c.now,
+        (
+          g.D.SchemaWrite.seen c.args.d.now,
+          (
+            g.E.SchemaWrite.seen
+                c.args.e.now,
+            (
+              g.F.SchemaWrite.seen c.args.f.now,
+              (
+                g.G.SchemaWrite.seen c.args.g.now,
+                (
+                  g.H.SchemaWrite.seen c.args.h.now,
+                  (
+                    g.I.SchemaWrite.seen c.args.i.now,
+                    (
+                      g.J.SchemaWrite.seen c.args.j.now,
+                      (
+                        g.K.SchemaWrite.seen c.args.k.now,
+                        g.M.SchemaWrite.seen
+                            c.args.m.now,
+                      ),
+                    ),
+                  ),
+                ),
+              ),
+            ),
+          ),
+        ),
+      ),
+    ) _ c.in_err-size_of_members_11.ensures.err)
+
+pub returns-clause-ok : goal.returns-clause-ok
+returns-clause-ok g c =
+    let rest = pair_write g.B.SchemaWrite.writing (pair_write g.C.SchemaWrite.writing (pair_write g.D.SchemaWrite.writing (pair_write
+    g.E.SchemaWrite.writing (pair_write g.F.SchemaWrite.writing (pair_write g.G.SchemaWrite.writing (pair_write g.H.SchemaWrite.writing
+    (pair_write g.I.SchemaWrite.writing (pair_write g.J.SchemaWrite.writing (pair_write g.K.SchemaWrite.writing g.M.SchemaWrite.writing)))))))))
+    in
+    IfOk-weaker c.add_size.result _ _ (size_both g.A.SchemaWrite.writing rest (g.A.SchemaWrite.seen c.args.a.now) (
+      g.B.SchemaWrite.seen c.args.b.now,
+      (
+        g.C.SchemaWrite.seen c.args.c.now,
+        (
+          g.D.SchemaWrite.seen c.args.d.now,
+          (
+            g.E.SchemaWrite.seen c.args.e.now,
+            (
+              g.F.SchemaWrite.seen
+                  c.args.f.now,
+              (
+                g.G.SchemaWrite.seen c.args.g.now,
+                (
+                  g.H.SchemaWrite.seen c.args.h.now,
+                  (
+                    g.I.SchemaWrite.seen c.args.i.now,
+                    (g.J.SchemaWrite.seen c.args.j.now, (g.K.SchemaWrite.seen c.args.k.now, g.M.SchemaWrite.seen c.args.m.now)),
+                  ),
+                ),
+              ),
+            ),
+          ),
+        ),
+      ),
+    ) _ _
+    c.in_ok-size_of.ensures.ok c.in_ok-size_of_members_11.ensures.ok) c.add_size.ensures.ok
+
+pub returns-clause-err : goal.returns-clause-err
+returns-clause-err g c =
+    let rest = pair_write g.B.SchemaWrite.writing (pair_write g.C.SchemaWrite.writing (pair_write g.D.SchemaWrite.writing (pair_write
+    g.E.SchemaWrite.writing (pair_write g.F.SchemaWrite.writing (pair_write g.G.SchemaWrite.writing (pair_write g.H.SchemaWrite.writing
+    (pair_write g.I.SchemaWrite.writing (pair_write g.J.SchemaWrite.writing (pair_write g.K.SchemaWrite.writing g.M.SchemaWrite.writing)))))))))
+    in
+    IfErr-weaker c.add_size.result _ _ (size_over g.A.SchemaWrite.writing rest (g.A.SchemaWrite.seen c.args.a.now) (
+      g.B.SchemaWrite.seen
+          c.args.b.now,
+      (
+        g.C.SchemaWrite.seen c.args.c.now,
+        (
+          g.D.SchemaWrite.seen c.args.d.now,
+          (
+            g.E.SchemaWrite.seen c.args.e.now,
+            (
+              g.F.SchemaWrite.seen c.args.f.now,
+              (
+                g.G.SchemaWrite.seen c.args.g.now,
+                (
+                  g.H.SchemaWrite.seen c.args.h.now,
+                  (
+                    g.I.SchemaWrite.seen
+                        c.args.i.now,
+                    (g.J.SchemaWrite.seen c.args.j.now, (g.K.SchemaWrite.seen c.args.k.now, g.M.SchemaWrite.seen c.args.m.now)),
+                  ),
+                ),
+              ),
+            ),
+          ),
+        ),
+      ),
+    ) _ _
+    c.in_ok-size_of.ensures.ok c.in_ok-size_of_members_11.ensures.ok) c.add_size.ensures.err

@@ -1,0 +1,544 @@
+//! Schemas without parts.
+ghost use Rattle.std.specs.Int.{w8, w16, w32, w64, w128};
+ghost use Rattle.std.specs.Prelude.{ℕ, ℤ, ◌<◌, ◌^◌, FitsSigned, Bool, true, false};
+ghost use Rattle.wincode_base.specs.LeafLaws.{bool_write_laws, unit_write_laws, number_write_laws, signed_write_laws};
+ghost use Rattle.wincode_base.specs.Leaves.{number_write, signed_write, bool_write, unit_write};
+
+use crate::schema::SchemaWrite;
+use crate::schema::as_forms::write_all;
+use std::marker::PhantomData;
+use wincode_base::error::WriteResult;
+use wincode_base::meta::TypeMeta;
+use wincode_io::Writer;
+
+impl SchemaWrite for u8 {
+    type Src = u8;
+
+    ghost Value = { ℕ };
+
+    ghost seen = { λ v. v };
+
+    ghost proper = { λ v. v < 256 ^ 1 };
+
+    ghost writing = { number_write 1 true };
+
+    ghost in_one_piece = { true };
+
+    fn type_meta() -> TypeMeta {
+        TypeMeta::Static {
+            size: 1,
+            zero_copy: true,
+        }
+    }
+
+    fn size_of(_src: &u8) -> WriteResult<usize> {
+        Ok(1)
+    }
+
+    fn write<W: Writer>(writer: &mut W, src: &u8) -> WriteResult<()> {
+        writer.write(&src.to_le_bytes())?;
+        Ok(())
+    }
+
+    /// All at once: refused, nothing is written.
+    fn write_items<W: Writer>(writer: &mut W, items: &[u8]) -> WriteResult<()> {
+        writer.write(items)?;
+        Ok(())
+    }
+
+    ghost write_laws = { number_write_laws 1 true };
+}
+
+impl SchemaWrite for u16 {
+    type Src = u16;
+
+    ghost Value = { ℕ };
+
+    ghost seen = { λ v. v };
+
+    ghost proper = { λ v. v < 256 ^ 2 };
+
+    ghost writing = { number_write 2 true };
+
+    ghost in_one_piece = { true };
+
+    fn type_meta() -> TypeMeta {
+        TypeMeta::Static {
+            size: 2,
+            zero_copy: true,
+        }
+    }
+
+    fn size_of(_src: &u16) -> WriteResult<usize> {
+        Ok(2)
+    }
+
+    fn write<W: Writer>(writer: &mut W, src: &u16) -> WriteResult<()> {
+        writer.write(&src.to_le_bytes())?;
+        Ok(())
+    }
+
+    /// All at once: refused, nothing is written.
+    fn write_items<W: Writer>(writer: &mut W, items: &[u16]) -> WriteResult<()> {
+        write_all::<u16, W>(writer, items)
+    }
+
+    ghost write_laws = { number_write_laws 2 true };
+}
+
+impl SchemaWrite for u32 {
+    type Src = u32;
+
+    ghost Value = { ℕ };
+
+    ghost seen = { λ v. v };
+
+    ghost proper = { λ v. v < 256 ^ 4 };
+
+    ghost writing = { number_write 4 true };
+
+    ghost in_one_piece = { true };
+
+    fn type_meta() -> TypeMeta {
+        TypeMeta::Static {
+            size: 4,
+            zero_copy: true,
+        }
+    }
+
+    fn size_of(_src: &u32) -> WriteResult<usize> {
+        Ok(4)
+    }
+
+    fn write<W: Writer>(writer: &mut W, src: &u32) -> WriteResult<()> {
+        writer.write(&src.to_le_bytes())?;
+        Ok(())
+    }
+
+    /// All at once: refused, nothing is written.
+    fn write_items<W: Writer>(writer: &mut W, items: &[u32]) -> WriteResult<()> {
+        write_all::<u32, W>(writer, items)
+    }
+
+    ghost write_laws = { number_write_laws 4 true };
+}
+
+impl SchemaWrite for u64 {
+    type Src = u64;
+
+    ghost Value = { ℕ };
+
+    ghost seen = { λ v. v };
+
+    ghost proper = { λ v. v < 256 ^ 8 };
+
+    ghost writing = { number_write 8 true };
+
+    ghost in_one_piece = { true };
+
+    fn type_meta() -> TypeMeta {
+        TypeMeta::Static {
+            size: 8,
+            zero_copy: true,
+        }
+    }
+
+    fn size_of(_src: &u64) -> WriteResult<usize> {
+        Ok(8)
+    }
+
+    fn write<W: Writer>(writer: &mut W, src: &u64) -> WriteResult<()> {
+        writer.write(&src.to_le_bytes())?;
+        Ok(())
+    }
+
+    /// All at once: refused, nothing is written.
+    fn write_items<W: Writer>(writer: &mut W, items: &[u64]) -> WriteResult<()> {
+        write_all::<u64, W>(writer, items)
+    }
+
+    ghost write_laws = { number_write_laws 8 true };
+}
+
+impl SchemaWrite for u128 {
+    type Src = u128;
+
+    ghost Value = { ℕ };
+
+    ghost seen = { λ v. v };
+
+    ghost proper = { λ v. v < 256 ^ 16 };
+
+    ghost writing = { number_write 16 true };
+
+    ghost in_one_piece = { true };
+
+    fn type_meta() -> TypeMeta {
+        TypeMeta::Static {
+            size: 16,
+            zero_copy: true,
+        }
+    }
+
+    fn size_of(_src: &u128) -> WriteResult<usize> {
+        Ok(16)
+    }
+
+    fn write<W: Writer>(writer: &mut W, src: &u128) -> WriteResult<()> {
+        writer.write(&src.to_le_bytes())?;
+        Ok(())
+    }
+
+    /// All at once: refused, nothing is written.
+    fn write_items<W: Writer>(writer: &mut W, items: &[u128]) -> WriteResult<()> {
+        write_all::<u128, W>(writer, items)
+    }
+
+    ghost write_laws = { number_write_laws 16 true };
+}
+
+impl SchemaWrite for usize {
+    type Src = usize;
+
+    ghost Value = { ℕ };
+
+    ghost seen = { λ v. v };
+
+    ghost proper = { λ v. v < 256 ^ 8 };
+
+    ghost writing = { number_write 8 false };
+
+    ghost in_one_piece = { true };
+
+    fn type_meta() -> TypeMeta {
+        TypeMeta::Static {
+            size: 8,
+            zero_copy: false,
+        }
+    }
+
+    fn size_of(_src: &usize) -> WriteResult<usize> {
+        Ok(8)
+    }
+
+    fn write<W: Writer>(writer: &mut W, src: &usize) -> WriteResult<()> {
+        writer.write(&src.to_le_bytes())?;
+        Ok(())
+    }
+
+    ghost write_laws = { number_write_laws 8 false };
+}
+
+impl SchemaWrite for i8 {
+    type Src = i8;
+
+    ghost Value = { ℤ };
+
+    ghost seen = { λ v. v };
+
+    ghost proper = { FitsSigned w8 };
+
+    ghost writing = { signed_write w8 true };
+
+    ghost in_one_piece = { true };
+
+    fn type_meta() -> TypeMeta {
+        TypeMeta::Static {
+            size: 1,
+            zero_copy: true,
+        }
+    }
+
+    fn size_of(_src: &i8) -> WriteResult<usize> {
+        Ok(1)
+    }
+
+    fn write<W: Writer>(writer: &mut W, src: &i8) -> WriteResult<()> {
+        writer.write(&src.to_le_bytes())?;
+        Ok(())
+    }
+
+    /// All at once: refused, nothing is written.
+    fn write_items<W: Writer>(writer: &mut W, items: &[i8]) -> WriteResult<()> {
+        write_all::<i8, W>(writer, items)
+    }
+
+    ghost write_laws = { signed_write_laws w8 true };
+}
+
+impl SchemaWrite for i16 {
+    type Src = i16;
+
+    ghost Value = { ℤ };
+
+    ghost seen = { λ v. v };
+
+    ghost proper = { FitsSigned w16 };
+
+    ghost writing = { signed_write w16 true };
+
+    ghost in_one_piece = { true };
+
+    fn type_meta() -> TypeMeta {
+        TypeMeta::Static {
+            size: 2,
+            zero_copy: true,
+        }
+    }
+
+    fn size_of(_src: &i16) -> WriteResult<usize> {
+        Ok(2)
+    }
+
+    fn write<W: Writer>(writer: &mut W, src: &i16) -> WriteResult<()> {
+        writer.write(&src.to_le_bytes())?;
+        Ok(())
+    }
+
+    /// All at once: refused, nothing is written.
+    fn write_items<W: Writer>(writer: &mut W, items: &[i16]) -> WriteResult<()> {
+        write_all::<i16, W>(writer, items)
+    }
+
+    ghost write_laws = { signed_write_laws w16 true };
+}
+
+impl SchemaWrite for i32 {
+    type Src = i32;
+
+    ghost Value = { ℤ };
+
+    ghost seen = { λ v. v };
+
+    ghost proper = { FitsSigned w32 };
+
+    ghost writing = { signed_write w32 true };
+
+    ghost in_one_piece = { true };
+
+    fn type_meta() -> TypeMeta {
+        TypeMeta::Static {
+            size: 4,
+            zero_copy: true,
+        }
+    }
+
+    fn size_of(_src: &i32) -> WriteResult<usize> {
+        Ok(4)
+    }
+
+    fn write<W: Writer>(writer: &mut W, src: &i32) -> WriteResult<()> {
+        writer.write(&src.to_le_bytes())?;
+        Ok(())
+    }
+
+    /// All at once: refused, nothing is written.
+    fn write_items<W: Writer>(writer: &mut W, items: &[i32]) -> WriteResult<()> {
+        write_all::<i32, W>(writer, items)
+    }
+
+    ghost write_laws = { signed_write_laws w32 true };
+}
+
+impl SchemaWrite for i64 {
+    type Src = i64;
+
+    ghost Value = { ℤ };
+
+    ghost seen = { λ v. v };
+
+    ghost proper = { FitsSigned w64 };
+
+    ghost writing = { signed_write w64 true };
+
+    ghost in_one_piece = { true };
+
+    fn type_meta() -> TypeMeta {
+        TypeMeta::Static {
+            size: 8,
+            zero_copy: true,
+        }
+    }
+
+    fn size_of(_src: &i64) -> WriteResult<usize> {
+        Ok(8)
+    }
+
+    fn write<W: Writer>(writer: &mut W, src: &i64) -> WriteResult<()> {
+        writer.write(&src.to_le_bytes())?;
+        Ok(())
+    }
+
+    /// All at once: refused, nothing is written.
+    fn write_items<W: Writer>(writer: &mut W, items: &[i64]) -> WriteResult<()> {
+        write_all::<i64, W>(writer, items)
+    }
+
+    ghost write_laws = { signed_write_laws w64 true };
+}
+
+impl SchemaWrite for i128 {
+    type Src = i128;
+
+    ghost Value = { ℤ };
+
+    ghost seen = { λ v. v };
+
+    ghost proper = { FitsSigned w128 };
+
+    ghost writing = { signed_write w128 true };
+
+    ghost in_one_piece = { true };
+
+    fn type_meta() -> TypeMeta {
+        TypeMeta::Static {
+            size: 16,
+            zero_copy: true,
+        }
+    }
+
+    fn size_of(_src: &i128) -> WriteResult<usize> {
+        Ok(16)
+    }
+
+    fn write<W: Writer>(writer: &mut W, src: &i128) -> WriteResult<()> {
+        writer.write(&src.to_le_bytes())?;
+        Ok(())
+    }
+
+    /// All at once: refused, nothing is written.
+    fn write_items<W: Writer>(writer: &mut W, items: &[i128]) -> WriteResult<()> {
+        write_all::<i128, W>(writer, items)
+    }
+
+    ghost write_laws = { signed_write_laws w128 true };
+}
+
+impl SchemaWrite for isize {
+    type Src = isize;
+
+    ghost Value = { ℤ };
+
+    ghost seen = { λ v. v };
+
+    ghost proper = { FitsSigned w64 };
+
+    ghost writing = { signed_write w64 false };
+
+    ghost in_one_piece = { true };
+
+    fn type_meta() -> TypeMeta {
+        TypeMeta::Static {
+            size: 8,
+            zero_copy: false,
+        }
+    }
+
+    fn size_of(_src: &isize) -> WriteResult<usize> {
+        Ok(8)
+    }
+
+    fn write<W: Writer>(writer: &mut W, src: &isize) -> WriteResult<()> {
+        writer.write(&src.to_le_bytes())?;
+        Ok(())
+    }
+
+    ghost write_laws = { signed_write_laws w64 false };
+}
+
+impl SchemaWrite for bool {
+    type Src = bool;
+
+    ghost Value = { Bool };
+
+    ghost seen = { λ v. v };
+
+    ghost proper = { λ v. Unit {0} };
+
+    ghost writing = { bool_write };
+
+    ghost in_one_piece = { true };
+
+    fn type_meta() -> TypeMeta {
+        TypeMeta::Static {
+            size: 1,
+            zero_copy: false,
+        }
+    }
+
+    fn size_of(_src: &bool) -> WriteResult<usize> {
+        Ok(1)
+    }
+
+    fn write<W: Writer>(writer: &mut W, src: &bool) -> WriteResult<()> {
+        let byte = if *src { 1 } else { 0 };
+        writer.write(&[byte])?;
+        Ok(())
+    }
+
+    ghost write_laws = { bool_write_laws };
+}
+
+impl SchemaWrite for () {
+    type Src = ();
+
+    ghost Value = { Unit };
+
+    ghost seen = { λ _. tt };
+
+    ghost proper = { λ _. Unit {0} };
+
+    ghost writing = { unit_write };
+
+    ghost in_one_piece = { true };
+
+    fn type_meta() -> TypeMeta {
+        TypeMeta::Static {
+            size: 0,
+            zero_copy: true,
+        }
+    }
+
+    fn size_of(_src: &()) -> WriteResult<usize> {
+        Ok(0)
+    }
+
+    fn write<W: Writer>(writer: &mut W, _src: &()) -> WriteResult<()> {
+        let _ = &*writer;
+        Ok(())
+    }
+
+    ghost write_laws = { unit_write_laws };
+}
+
+impl<T> SchemaWrite for PhantomData<T> {
+    type Src = PhantomData<T>;
+
+    ghost Value = { Unit };
+
+    ghost seen = { λ _. tt };
+
+    ghost proper = { λ _. Unit {0} };
+
+    ghost writing = { unit_write };
+
+    ghost in_one_piece = { true };
+
+    fn type_meta() -> TypeMeta {
+        TypeMeta::Static {
+            size: 0,
+            zero_copy: true,
+        }
+    }
+
+    fn size_of(_src: &PhantomData<T>) -> WriteResult<usize> {
+        Ok(0)
+    }
+
+    fn write<W: Writer>(writer: &mut W, _src: &PhantomData<T>) -> WriteResult<()> {
+        let _ = &*writer;
+        Ok(())
+    }
+
+    ghost write_laws = { unit_write_laws };
+}

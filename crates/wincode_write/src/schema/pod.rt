@@ -1,0 +1,55 @@
+//! The schema of a value that has a byte form.
+ghost use Rattle.std.specs.Prelude.{true};
+ghost use Rattle.wincode_base.specs.ViewLaws.{form_write_laws};
+ghost use Rattle.wincode_base.specs.Views.{form_prealloc, form_write};
+
+use crate::schema::SchemaWrite;
+use wincode_base::error::{WriteResult, write_length_encoding_overflow};
+use wincode_base::meta::TypeMeta;
+use wincode_base::parts::Pod;
+use wincode_base::sizes::meta_of_form;
+use wincode_io as io;
+use wincode_io::bulk::write_forms;
+use wincode_io::{Writer, ZeroCopy};
+
+impl<T: ZeroCopy> SchemaWrite for Pod<T> {
+    type Src = T;
+
+    ghost Value = { T };
+
+    ghost seen = { λ v. v };
+
+    ghost proper = { T.proper };
+
+    ghost writing = { form_write T.proper T.size T.form true (form_prealloc T.size) };
+
+    ghost in_one_piece = { true };
+
+    fn type_meta() -> TypeMeta {
+        meta_of_form::<T>(true)
+    }
+
+    fn size_of(_src: &T) -> WriteResult<usize> {
+        match T::form_size() {
+            Some(size) => Ok(size),
+            None => Err(write_length_encoding_overflow("usize::MAX")),
+        }
+    }
+
+    fn write<W: Writer>(writer: &mut W, src: &T) -> WriteResult<()> {
+        let Some(size) = T::form_size() else {
+            return Err(io::WriteError::WriteSizeLimit(usize::MAX).into());
+        };
+        writer.make_room(size)?;
+        writer.write_ready_t(src);
+        Ok(())
+    }
+
+    /// All at once: refused, nothing is written.
+    fn write_items<W: Writer>(writer: &mut W, items: &[T]) -> WriteResult<()> {
+        write_forms(writer, items)?;
+        Ok(())
+    }
+
+    ghost write_laws = { form_write_laws T.byte_form (λ v. v) true (form_prealloc T.size) };
+}

@@ -1,0 +1,170 @@
+//! Schemas of characters, of texts and of references.
+ghost use Rattle.std.specs.Char.{IsScalar};
+ghost use Rattle.std.specs.Prelude.{◌≡◌, ℕ, ◌<◌, true, false, List, IsUtf8, string_bytes, IfOk, IfErr, OnOk};
+ghost use Rattle.wincode_base.specs.Outcomes.{Wrote, Unwritten, IsSizeRefused};
+ghost use Rattle.wincode_base.specs.Text.{char_write, text_write, reference_write};
+ghost use Rattle.wincode_base.specs.TextLaws.{char_write_laws, text_write_laws, reference_write_laws};
+
+use crate::schema::SchemaWrite;
+use std::str;
+use wincode_base::error::{WriteResult, write_length_encoding_overflow};
+use wincode_base::len::{BincodeLen, SeqLen};
+use wincode_base::meta::TypeMeta;
+use wincode_io::Writer;
+
+/// A `char` is the bytes of its UTF-8, with no length before them.
+impl SchemaWrite for char {
+    type Src = char;
+
+    ghost Value = { ℕ };
+
+    ghost seen = { λ c. c };
+
+    ghost proper = { IsScalar };
+
+    ghost writing = { char_write };
+
+    ghost in_one_piece = { true };
+
+    fn type_meta() -> TypeMeta {
+        TypeMeta::Dynamic
+    }
+
+    fn size_of(src: &char) -> WriteResult<usize> {
+        let value = *src;
+        Ok(value.len_utf8())
+    }
+
+    fn write<W: Writer>(writer: &mut W, src: &char) -> WriteResult<()> {
+        let value = *src;
+        let mut room = [0; 4];
+        let text = value.encode_utf8(&mut room);
+        writer.write(text.as_bytes())?;
+        Ok(())
+    }
+
+    ghost write_laws = { char_write_laws };
+}
+
+/// The size of a text with its length.
+fn size_of_text(text: &str) -> WriteResult<usize>
+    ensures ok { IfOk result (λ n. (text_write 24).can text.now × (n ≡ (text_write 24).size text.now)) }
+    ensures err { IfErr result (IsSizeRefused (text_write 24) text.now) }
+{
+    match text.len().checked_add(8) {
+        Some(size) => Ok(size),
+        None => Err(write_length_encoding_overflow("usize::MAX")),
+    }
+}
+
+/// Writes the length of a text, and then its bytes.
+fn write_text<W: Writer>(writer: &mut W, text: &str) -> WriteResult<()>
+    ensures ok { OnOk result (Wrote (text_write 24) (W.state writer.old) (W.state writer.new) text.now) }
+    ensures err { IfErr result (Unwritten (text_write 24) (W.state writer.old) (W.state writer.new) text.now) }
+{
+    BincodeLen::<4194304>::write::<W>(writer, text.len())?;
+    writer.write(text.as_bytes())?;
+    Ok(())
+}
+
+/// A `String` is how many bytes it has, and then its bytes.
+impl SchemaWrite for String {
+    type Src = String;
+
+    ghost Value = { List ℕ };
+
+    ghost seen = { λ s. string_bytes s };
+
+    ghost proper = { λ s. IsUtf8 (string_bytes s) };
+
+    ghost writing = { text_write 24 };
+
+    ghost in_one_piece = { false };
+
+    fn type_meta() -> TypeMeta {
+        TypeMeta::Dynamic
+    }
+
+    fn size_of(src: &String) -> WriteResult<usize> {
+        size_of_text(src.as_str())
+    }
+
+    fn write<W: Writer>(writer: &mut W, src: &String) -> WriteResult<()> {
+        write_text::<W>(writer, src.as_str())
+    }
+
+    ghost write_laws = { text_write_laws 24 (λ s. IsUtf8 (string_bytes s)) (λ s. string_bytes s) };
+}
+
+/// A `&str` is written as a `String`.
+impl<'a> SchemaWrite for &'a str {
+    type Src = &'a str;
+
+    ghost Value = { List ℕ };
+
+    ghost seen = { λ s. s.now };
+
+    ghost proper = { λ s. IsUtf8 s.now };
+
+    ghost writing = { text_write 16 };
+
+    ghost in_one_piece = { false };
+
+    fn type_meta() -> TypeMeta
+        ensures { result ≡ (text_write 16).meta }
+    {
+        TypeMeta::Dynamic
+    }
+
+    fn size_of(src: &&'a str) -> WriteResult<usize> {
+        size_of_text(*src)
+    }
+
+    fn write<W: Writer>(writer: &mut W, src: &&'a str) -> WriteResult<()> {
+        write_text::<W>(writer, *src)
+    }
+
+    ghost write_laws = { text_write_laws 16 (λ s. IsUtf8 s.now) (λ s. s.now) };
+}
+
+/// A reference is written as its value. It is no list of bytes, whatever its value is.
+impl<'a, U: 'a, T: SchemaWrite<Src = U>> SchemaWrite for &'a T {
+    type Src = &'a U;
+
+    ghost Value = { T.Value };
+
+    ghost seen = { λ r. T.seen r.now };
+
+    ghost proper = { λ r. T.proper r.now };
+
+    ghost writing = { reference_write T.writing };
+
+    ghost in_one_piece = { T.in_one_piece };
+
+    fn type_meta() -> TypeMeta {
+        match T::type_meta() {
+            TypeMeta::Static { size, .. } => TypeMeta::Static {
+                size,
+                zero_copy: false,
+            },
+            TypeMeta::Dynamic => TypeMeta::Dynamic,
+        }
+    }
+
+    fn size_of(src: &&'a U) -> WriteResult<usize> {
+        T::size_of(*src)
+    }
+
+    fn write<W: Writer>(writer: &mut W, src: &&'a U) -> WriteResult<()> {
+        T::write::<W>(writer, *src)
+    }
+
+    fn write_items<W: Writer>(writer: &mut W, items: &[&'a U]) -> WriteResult<()> {
+        for item in items {
+            T::write::<W>(writer, *item)?;
+        }
+        Ok(())
+    }
+
+    ghost write_laws = { reference_write_laws T.proper T.seen (λ r. r.now) T.writing T.write_laws };
+}

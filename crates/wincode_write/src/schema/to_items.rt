@@ -1,0 +1,360 @@
+//! Writing items, one after another, and lists behind their length.
+ghost use Rattle.std.specs.BTreeMap.{IsOrdered};
+ghost use Rattle.std.specs.BinaryHeap.{heap_items};
+ghost use Rattle.std.specs.HashMap.{IsUnique};
+ghost use Rattle.std.specs.List.{IsDistinct};
+ghost use Rattle.std.specs.List.Sorted.{IsStrictlySortedBy};
+ghost use Rattle.std.specs.Prelude.{◌≡◌, ◌+◌, List, length, map, IfOk, IfErr, OnOk};
+ghost use Rattle.wincode_io.specs.Joins.{Each, total};
+ghost use Rattle.wincode_base.specs.InWindow.{is_static};
+ghost use Rattle.wincode_base.specs.Lists.{items_write, list_write, IsSumRefused};
+ghost use Rattle.wincode_base.specs.Outcomes.{IsSized, Wrote, Unwritten, IsSizeRefused, IsPieceRefused};
+ghost use Rattle.wincode_base.specs.Pairs.{pair_write};
+ghost use Rattle.wincode_base.specs.Sizes.{is_known, IsValueSize};
+
+use crate::schema::SchemaWrite;
+use crate::schema::tuples::size_of_members_2;
+use std::collections::{BTreeMap, BTreeSet, BinaryHeap, HashMap, HashSet, LinkedList, VecDeque};
+use std::hash::Hash;
+use wincode_base::error::{WriteResult, write_length_encoding_overflow};
+use wincode_base::len::SeqLen;
+use wincode_base::parts::Members2;
+use wincode_base::sizes::ItemSize;
+use wincode_io::{WriteWindow, Writer};
+
+/// Items that are gone over in order, by reference.
+pub trait ToItems<T: SchemaWrite> {
+    // Its items, in that order.
+    ghost listed: { Self → List T.Src };
+
+    // What holds of each such collection.
+    ghost sound: { Self → Type 0 };
+
+    /// How many there are.
+    fn count(&self) -> usize
+        ensures count { result ≡ length (listed self.now) }
+        ensures sound { sound self.now };
+
+    /// Their sizes, added to the size of what stands before them.
+    fn add_sizes(&self, before: usize) -> WriteResult<usize>
+        ensures ok { IfOk result (λ n. Each T.writing.can (map T.seen (listed self.now)) × (n ≡ before + total T.writing.size (map T.seen (listed self.now)))) }
+        ensures err { IfErr result (IsSumRefused before T.writing (map T.seen (listed self.now))) };
+
+    /// Writes them, one after another.
+    fn write_to<W: Writer>(&self, writer: &mut W) -> WriteResult<()>
+        ensures ok { OnOk result (Wrote (items_write T.writing) (W.state writer.old) (W.state writer.new) (map T.seen (listed self.now))) }
+        ensures value { OnOk result (Each T.proper (listed self.now)) }
+        ensures err { IfErr result (Unwritten (items_write T.writing) (W.state writer.old) (W.state writer.new) (map T.seen (listed self.now))) };
+}
+
+/// The sizes of items, added to the size of what stands before them.
+pub(crate) fn add_sizes<T: SchemaWrite>(before: usize, items: &[T::Src]) -> WriteResult<usize>
+    ensures ok { IfOk result (λ n. Each T.writing.can (map T.seen items.now) × (n ≡ before + total T.writing.size (map T.seen items.now))) }
+    ensures err { IfErr result (IsSumRefused before T.writing (map T.seen items.now)) }
+{
+    let mut sum = before;
+    for item in items {
+        let size = T::size_of(item)?;
+        sum = match sum.checked_add(size) {
+            Some(more) => more,
+            None => return Err(write_length_encoding_overflow("usize::MAX")),
+        };
+    }
+    Ok(sum)
+}
+
+/// They are written by the schema's `write_items`.
+impl<'a, U: 'a, T: SchemaWrite<Src = U>> ToItems<T> for &'a [U] {
+    ghost listed = { λ s. s.now };
+
+    ghost sound = { λ s. Unit {0} };
+
+    fn count(&self) -> usize {
+        self.len()
+    }
+
+    fn add_sizes(&self, before: usize) -> WriteResult<usize> {
+        add_sizes::<T>(before, *self)
+    }
+
+    fn write_to<W: Writer>(&self, writer: &mut W) -> WriteResult<()> {
+        T::write_items::<W>(writer, *self)
+    }
+}
+
+/// From front to back, wherever they lie in memory.
+impl<U, T: SchemaWrite<Src = U>> ToItems<T> for VecDeque<U> {
+    ghost listed = { λ q. q.items };
+
+    ghost sound = { λ q. Unit {0} };
+
+    fn count(&self) -> usize {
+        self.len()
+    }
+
+    fn add_sizes(&self, before: usize) -> WriteResult<usize> {
+        let (front, back) = self.as_slices();
+        let sum = add_sizes::<T>(before, front)?;
+        add_sizes::<T>(sum, back)
+    }
+
+    fn write_to<W: Writer>(&self, writer: &mut W) -> WriteResult<()> {
+        let (front, back) = self.as_slices();
+        T::write_items::<W>(writer, front)?;
+        T::write_items::<W>(writer, back)
+    }
+}
+
+impl<U, T: SchemaWrite<Src = U>> ToItems<T> for LinkedList<U> {
+    ghost listed = { λ l. l };
+
+    ghost sound = { λ l. Unit {0} };
+
+    fn count(&self) -> usize {
+        self.len()
+    }
+
+    fn add_sizes(&self, before: usize) -> WriteResult<usize> {
+        let mut sum = before;
+        for item in self {
+            let size = T::size_of(item)?;
+            sum = match sum.checked_add(size) {
+                Some(more) => more,
+                None => return Err(write_length_encoding_overflow("usize::MAX")),
+            };
+        }
+        Ok(sum)
+    }
+
+    fn write_to<W: Writer>(&self, writer: &mut W) -> WriteResult<()> {
+        for item in self {
+            T::write(writer, item)?;
+        }
+        Ok(())
+    }
+}
+
+/// In the order in which the heap keeps them.
+impl<U: Ord, T: SchemaWrite<Src = U>> ToItems<T> for BinaryHeap<U> {
+    ghost listed = { heap_items };
+
+    ghost sound = { λ h. Unit {0} };
+
+    fn count(&self) -> usize {
+        self.as_slice().len()
+    }
+
+    fn add_sizes(&self, before: usize) -> WriteResult<usize> {
+        add_sizes::<T>(before, self.as_slice())
+    }
+
+    fn write_to<W: Writer>(&self, writer: &mut W) -> WriteResult<()> {
+        T::write_items::<W>(writer, self.as_slice())
+    }
+}
+
+/// In the order of the keys.
+impl<A: Ord, B, K: SchemaWrite<Src = A>, V: SchemaWrite<Src = B>> ToItems<Members2<K, V>>
+    for BTreeMap<A, B> {
+    ghost listed = { λ m. m.entries };
+
+    ghost sound = { IsOrdered A.cmp };
+
+    fn count(&self) -> usize {
+        self.len()
+    }
+
+    fn add_sizes(&self, before: usize) -> WriteResult<usize> {
+        let mut sum = before;
+        for (key, value) in self {
+            let size = size_of_members_2::<K, V>(key, value)?;
+            sum = match sum.checked_add(size) {
+                Some(more) => more,
+                None => return Err(write_length_encoding_overflow("usize::MAX")),
+            };
+        }
+        Ok(sum)
+    }
+
+    fn write_to<W: Writer>(&self, writer: &mut W) -> WriteResult<()> {
+        for (key, value) in self {
+            write_pair::<K, V, W>(writer, key, value)?;
+        }
+        Ok(())
+    }
+}
+
+impl<A: Eq + Hash, B, K: SchemaWrite<Src = A>, V: SchemaWrite<Src = B>> ToItems<Members2<K, V>>
+    for HashMap<A, B> {
+    ghost listed = { λ m. m.entries };
+
+    ghost sound = { IsUnique A.eq };
+
+    fn count(&self) -> usize {
+        self.len()
+    }
+
+    fn add_sizes(&self, before: usize) -> WriteResult<usize> {
+        let mut sum = before;
+        for (key, value) in self {
+            let size = size_of_members_2::<K, V>(key, value)?;
+            sum = match sum.checked_add(size) {
+                Some(more) => more,
+                None => return Err(write_length_encoding_overflow("usize::MAX")),
+            };
+        }
+        Ok(sum)
+    }
+
+    fn write_to<W: Writer>(&self, writer: &mut W) -> WriteResult<()> {
+        for (key, value) in self {
+            write_pair::<K, V, W>(writer, key, value)?;
+        }
+        Ok(())
+    }
+}
+
+/// In order.
+impl<A: Ord, K: SchemaWrite<Src = A>> ToItems<K> for BTreeSet<A> {
+    ghost listed = { λ s. s.keys };
+
+    ghost sound = { λ s. IsStrictlySortedBy A.cmp s.keys };
+
+    fn count(&self) -> usize {
+        self.len()
+    }
+
+    fn add_sizes(&self, before: usize) -> WriteResult<usize> {
+        let mut sum = before;
+        for key in self {
+            let size = K::size_of(key)?;
+            sum = match sum.checked_add(size) {
+                Some(more) => more,
+                None => return Err(write_length_encoding_overflow("usize::MAX")),
+            };
+        }
+        Ok(sum)
+    }
+
+    fn write_to<W: Writer>(&self, writer: &mut W) -> WriteResult<()> {
+        for key in self {
+            K::write(writer, key)?;
+        }
+        Ok(())
+    }
+}
+
+impl<A: Eq + Hash, K: SchemaWrite<Src = A>> ToItems<K> for HashSet<A> {
+    ghost listed = { λ s. s.keys };
+
+    ghost sound = { λ s. IsDistinct A.eq s.keys };
+
+    fn count(&self) -> usize {
+        self.len()
+    }
+
+    fn add_sizes(&self, before: usize) -> WriteResult<usize> {
+        let mut sum = before;
+        for key in self {
+            let size = K::size_of(key)?;
+            sum = match sum.checked_add(size) {
+                Some(more) => more,
+                None => return Err(write_length_encoding_overflow("usize::MAX")),
+            };
+        }
+        Ok(sum)
+    }
+
+    fn write_to<W: Writer>(&self, writer: &mut W) -> WriteResult<()> {
+        for key in self {
+            K::write(writer, key)?;
+        }
+        Ok(())
+    }
+}
+
+/// Writes a key, and then its value, through no window of their own.
+fn write_pair<K: SchemaWrite, V: SchemaWrite, W: Writer>(
+    writer: &mut W,
+    key: &K::Src,
+    value: &V::Src,
+) -> WriteResult<()>
+    ensures ok { OnOk result (Wrote (pair_write K.writing V.writing) (W.state writer.old) (W.state writer.new) (K.seen key.now, V.seen value.now)) }
+    ensures value { OnOk result (K.proper key.now × V.proper value.now) }
+    ensures err { IfErr result (Unwritten (pair_write K.writing V.writing) (W.state writer.old) (W.state writer.new) (K.seen key.now, V.seen value.now)) }
+{
+    K::write(writer, key)?;
+    V::write(writer, value)
+}
+
+/// The size of a list of these items, in bytes. `COUNT` is what a list counts against the limit of a
+/// list of lists.
+pub fn size_of_list<Len: SeqLen, T: SchemaWrite, C: ToItems<T>, const COUNT: usize>(
+    src: &C,
+) -> WriteResult<usize>
+    ensures ok { IfOk result (IsSized (list_write Len.scheme COUNT T.writing) (map T.seen (C.listed src.now))) }
+    ensures err { IfErr result (IsSizeRefused (list_write Len.scheme COUNT T.writing) (map T.seen (C.listed src.now))) }
+{
+    let length = Len::write_bytes_needed(src.count())?;
+    src.add_sizes(length)
+}
+
+/// Writes the length of a list, and then its items.
+fn write_parts<Len: SeqLen, T: SchemaWrite, C: ToItems<T>, W: Writer, const COUNT: usize>(
+    writer: &mut W,
+    src: &C,
+) -> WriteResult<()>
+    ensures ok { OnOk result (Wrote (list_write Len.scheme COUNT T.writing) (W.state writer.old) (W.state writer.new) (map T.seen (C.listed src.now))) }
+    ensures value { OnOk result (Each T.proper (C.listed src.now)) }
+    ensures sound { C.sound src.now }
+    ensures err { IfErr result (Unwritten (list_write Len.scheme COUNT T.writing) (W.state writer.old) (W.state writer.new) (map T.seen (C.listed src.now))) }
+{
+    Len::write::<W>(writer, src.count())?;
+    src.write_to::<W>(writer)
+}
+
+/// Writes a list of items of this size, through one window of all of it where the size is known: then
+/// it asks for the length's text, for the total and for the room, in this order.
+pub(crate) fn write_list_of<
+    Len: SeqLen,
+    T: SchemaWrite,
+    C: ToItems<T>,
+    W: Writer,
+    const COUNT: usize,
+>(writer: &mut W, src: &C, size: ItemSize) -> WriteResult<()>
+    requires size { IsValueSize T.writing size }
+    ensures ok { OnOk result (Wrote (list_write Len.scheme COUNT T.writing) (W.state writer.old) (W.state writer.new) (map T.seen (C.listed src.now))) }
+    ensures value { OnOk result (Each T.proper (C.listed src.now)) }
+    ensures sound { C.sound src.now }
+    ensures err { IfErr result (Unwritten (list_write Len.scheme COUNT T.writing) (W.state writer.old) (W.state writer.new) (map T.seen (C.listed src.now))) }
+    ensures piece { IfErr result (IsPieceRefused (is_known size) (list_write Len.scheme COUNT T.writing) (W.state writer.old) (W.state writer.new) (map T.seen (C.listed src.now))) }
+{
+    if let ItemSize::Unknown = size {
+        return write_parts::<Len, T, C, W, COUNT>(writer, src);
+    }
+    let n = src.count();
+    let length = Len::write_bytes_needed(n)?;
+    let total = match size.times_behind(length, n) {
+        Some(total) => total,
+        None => return Err(write_length_encoding_overflow("usize::MAX")),
+    };
+    writer.make_room(total)?;
+    let mut window = WriteWindow::new(writer, total);
+    write_parts::<Len, T, C, WriteWindow<'_, W>, COUNT>(&mut window, src)?;
+    window.finish()?;
+    Ok(())
+}
+
+/// Writes a list.
+pub fn write_list<Len: SeqLen, T: SchemaWrite, C: ToItems<T>, W: Writer, const COUNT: usize>(
+    writer: &mut W,
+    src: &C,
+) -> WriteResult<()>
+    ensures ok { OnOk result (Wrote (list_write Len.scheme COUNT T.writing) (W.state writer.old) (W.state writer.new) (map T.seen (C.listed src.now))) }
+    ensures value { OnOk result (Each T.proper (C.listed src.now)) }
+    ensures sound { C.sound src.now }
+    ensures err { IfErr result (Unwritten (list_write Len.scheme COUNT T.writing) (W.state writer.old) (W.state writer.new) (map T.seen (C.listed src.now))) }
+    ensures piece { IfErr result (IsPieceRefused (is_static T.writing.meta) (list_write Len.scheme COUNT T.writing) (W.state writer.old) (W.state writer.new) (map T.seen (C.listed src.now))) }
+{
+    write_list_of::<Len, T, C, W, COUNT>(writer, src, ItemSize::of(T::type_meta()))
+}

@@ -1,0 +1,830 @@
+//! Schemas of tuples. A tuple is its members, one after another, with nothing between them.
+//!
+//! Where all members have one size, the tuple is read and written through one window of the sum, in bytes.
+//! Reading: fewer bytes are `Io(ReadSizeLimit)` of the sum, and stay; where a member is refused, the bytes of
+//! the whole tuple are gone. Writing: less room is `Io(WriteSizeLimit)` of the sum, and nothing is written.
+//! Other tuples go member by member, and a refusal leaves what the members before it took or wrote.
+ghost use Rattle.std.specs.Prelude.{◌≡◌, false, IfOk, IfErr, OnOk};
+ghost use Rattle.wincode_base.specs.InWindow.{is_static};
+ghost use Rattle.wincode_base.specs.Outcomes.{IsSized, Wrote, Unwritten, IsPieceRefused, IsSizeRefused};
+ghost use Rattle.wincode_base.specs.PairLaws.{pair_write_laws, write_laws_by};
+ghost use Rattle.wincode_base.specs.Pairs.{pair_write};
+
+mod longer;
+
+use crate::schema::SchemaWrite;
+use crate::schema::in_window::write_in_window;
+pub use crate::schema::tuples::longer::{
+    size_of_members_9, size_of_members_10, size_of_members_11, size_of_members_12, write_members_9,
+    write_members_10, write_members_11, write_members_12,
+};
+use wincode_base::error::WriteResult;
+use wincode_base::meta::TypeMeta;
+use wincode_base::parts::{
+    Member, Members2, Members3, Members4, Members5, Members6, Members7, Members8,
+};
+use wincode_base::sizes::{add_size, joined_meta};
+use wincode_io::Writer;
+
+impl<A: SchemaWrite, B: SchemaWrite> SchemaWrite for Members2<A, B> {
+    type Src = (A::Src, B::Src);
+
+    ghost Value = { A.Value × B.Value };
+
+    ghost seen = { λ t. (A.seen t.0, B.seen t.1) };
+
+    ghost proper = { λ t. A.proper t.0 × B.proper t.1 };
+
+    ghost writing = { pair_write A.writing B.writing };
+
+    ghost in_one_piece = { false };
+
+    fn type_meta() -> TypeMeta {
+        joined_meta(A::type_meta(), B::type_meta())
+    }
+
+    fn size_of(src: &(A::Src, B::Src)) -> WriteResult<usize> {
+        add_size(A::size_of(&src.0)?, B::size_of(&src.1)?)
+    }
+
+    fn write<W: Writer>(writer: &mut W, src: &(A::Src, B::Src)) -> WriteResult<()> {
+        A::write(writer, &src.0)?;
+        B::write(writer, &src.1)
+    }
+
+    ghost write_laws = { pair_write_laws A.write_laws B.write_laws };
+}
+
+impl<'a, U: 'a, T: SchemaWrite<Src = U>> SchemaWrite for &'a Member<T> {
+    type Src = &'a U;
+
+    ghost Value = { T.Value };
+
+    ghost seen = { λ r. T.seen r.now };
+
+    ghost proper = { λ r. T.proper r.now };
+
+    ghost writing = { T.writing };
+
+    ghost in_one_piece = { T.in_one_piece };
+
+    fn type_meta() -> TypeMeta
+        ensures { result ≡ T.writing.meta }
+    {
+        T::type_meta()
+    }
+
+    fn size_of(src: &&'a U) -> WriteResult<usize> {
+        T::size_of(*src)
+    }
+
+    fn write<W: Writer>(writer: &mut W, src: &&'a U) -> WriteResult<()> {
+        T::write::<W>(writer, *src)
+    }
+
+    fn write_items<W: Writer>(writer: &mut W, items: &[&'a U]) -> WriteResult<()> {
+        for item in items {
+            T::write::<W>(writer, *item)?;
+        }
+        Ok(())
+    }
+
+    ghost write_laws = { write_laws_by (λ r. r.now) T.write_laws };
+}
+
+/// The size of 2 members, each seen by a schema of its own: that of a tuple of them.
+pub fn size_of_members_2<A: SchemaWrite, B: SchemaWrite>(
+    a: &A::Src,
+    b: &B::Src,
+) -> WriteResult<usize>
+    ensures ok { let tuple = ⟦<(A, B) as SchemaWrite>⟧ in IfOk result
+        (IsSized tuple.writing (tuple.seen (a.now, b.now))) }
+    ensures err { let tuple = ⟦<(A, B) as SchemaWrite>⟧ in IfErr result
+        (IsSizeRefused tuple.writing (tuple.seen (a.now, b.now))) }
+{
+    add_size(A::size_of(a)?, B::size_of(b)?)
+}
+
+/// Writes 2 members through one window where all have one size.
+fn write_2<A: SchemaWrite, B: SchemaWrite, W: Writer>(
+    writer: &mut W,
+    src: &(A::Src, B::Src),
+) -> WriteResult<()>
+    ensures ok { let members = ⟦<Members2<A, B> as SchemaWrite>⟧ in OnOk result
+        (Wrote members.writing (W.state writer.old) (W.state writer.new) (members.seen src.now)) }
+    ensures value { OnOk result (⟦<Members2<A, B> as SchemaWrite>⟧.proper src.now) }
+    ensures err { let members = ⟦<Members2<A, B> as SchemaWrite>⟧ in IfErr result
+        (Unwritten members.writing (W.state writer.old) (W.state writer.new) (members.seen src.now)) }
+    ensures piece { let members = ⟦<Members2<A, B> as SchemaWrite>⟧ in IfErr result
+        (IsPieceRefused (is_static members.writing.meta) members.writing (W.state writer.old) (W.state writer.new) (members.seen src.now)) }
+{
+    write_in_window::<Members2<A, B>, W>(writer, src)
+}
+
+/// Writes 2 members, each by a schema of its own, as a tuple of them is written.
+pub fn write_members_2<A: SchemaWrite, B: SchemaWrite, W: Writer>(
+    writer: &mut W,
+    a: &A::Src,
+    b: &B::Src,
+) -> WriteResult<()>
+    ensures ok { let tuple = ⟦<(A, B) as SchemaWrite>⟧ in OnOk result
+        (Wrote tuple.writing (W.state writer.old) (W.state writer.new) (tuple.seen (a.now, b.now))) }
+    ensures value { OnOk result (⟦<(A, B) as SchemaWrite>⟧.proper (a.now, b.now)) }
+    ensures err { let tuple = ⟦<(A, B) as SchemaWrite>⟧ in IfErr result
+        (Unwritten tuple.writing (W.state writer.old) (W.state writer.new) (tuple.seen (a.now, b.now))) }
+    ensures piece { let tuple = ⟦<(A, B) as SchemaWrite>⟧ in IfErr result
+        (IsPieceRefused tuple.in_one_piece tuple.writing (W.state writer.old) (W.state writer.new) (tuple.seen (a.now, b.now))) }
+{
+    write_2::<&Member<A>, &Member<B>, W>(writer, &(a, b))
+}
+
+impl<A: SchemaWrite, B: SchemaWrite> SchemaWrite for (A, B) {
+    type Src = (A::Src, B::Src);
+
+    ghost Value = { ⟦<Members2<A, B> as SchemaWrite>⟧.Value };
+
+    ghost seen = { λ t. ⟦<Members2<A, B> as SchemaWrite>⟧.seen (t.0, t.1) };
+
+    ghost proper = { λ t. ⟦<Members2<A, B> as SchemaWrite>⟧.proper (t.0, t.1) };
+
+    ghost writing = { ⟦<Members2<A, B> as SchemaWrite>⟧.writing };
+
+    ghost in_one_piece = { is_static ⟦<Members2<A, B> as SchemaWrite>⟧.writing.meta };
+
+    fn type_meta() -> TypeMeta {
+        joined_meta(A::type_meta(), B::type_meta())
+    }
+
+    fn size_of(src: &Self::Src) -> WriteResult<usize> {
+        size_of_members_2::<A, B>(&src.0, &src.1)
+    }
+
+    fn write<W: Writer>(writer: &mut W, src: &Self::Src) -> WriteResult<()> {
+        write_members_2::<A, B, W>(writer, &src.0, &src.1)
+    }
+
+    ghost write_laws = { write_laws_by (λ t. (t.0, t.1)) (pair_write_laws A.write_laws B.write_laws) };
+}
+
+/// The size of 3 members, each seen by a schema of its own: that of a tuple of them.
+pub fn size_of_members_3<A: SchemaWrite, B: SchemaWrite, C: SchemaWrite>(
+    a: &A::Src,
+    b: &B::Src,
+    c: &C::Src,
+) -> WriteResult<usize>
+    ensures ok { let tuple = ⟦<(A, B, C) as SchemaWrite>⟧ in IfOk result
+        (IsSized tuple.writing (tuple.seen (a.now, b.now, c.now))) }
+    ensures err { let tuple = ⟦<(A, B, C) as SchemaWrite>⟧ in IfErr result
+        (IsSizeRefused tuple.writing (tuple.seen (a.now, b.now, c.now))) }
+{
+    add_size(A::size_of(a)?, size_of_members_2::<B, C>(b, c)?)
+}
+
+/// Writes 3 members through one window where all have one size.
+fn write_3<A: SchemaWrite, B: SchemaWrite, C: SchemaWrite, W: Writer>(
+    writer: &mut W,
+    src: &(A::Src, (B::Src, C::Src)),
+) -> WriteResult<()>
+    ensures ok { let members = ⟦<Members3<A, B, C> as SchemaWrite>⟧ in OnOk result
+        (Wrote members.writing (W.state writer.old) (W.state writer.new) (members.seen src.now)) }
+    ensures value { OnOk result (⟦<Members3<A, B, C> as SchemaWrite>⟧.proper src.now) }
+    ensures err { let members = ⟦<Members3<A, B, C> as SchemaWrite>⟧ in IfErr result
+        (Unwritten members.writing (W.state writer.old) (W.state writer.new) (members.seen src.now)) }
+    ensures piece { let members = ⟦<Members3<A, B, C> as SchemaWrite>⟧ in IfErr result
+        (IsPieceRefused (is_static members.writing.meta) members.writing (W.state writer.old) (W.state writer.new) (members.seen src.now)) }
+{
+    write_in_window::<Members3<A, B, C>, W>(writer, src)
+}
+
+/// Writes 3 members, each by a schema of its own, as a tuple of them is written.
+pub fn write_members_3<A: SchemaWrite, B: SchemaWrite, C: SchemaWrite, W: Writer>(
+    writer: &mut W,
+    a: &A::Src,
+    b: &B::Src,
+    c: &C::Src,
+) -> WriteResult<()>
+    ensures ok { let tuple = ⟦<(A, B, C) as SchemaWrite>⟧ in OnOk result
+        (Wrote tuple.writing (W.state writer.old) (W.state writer.new) (tuple.seen (a.now, b.now, c.now))) }
+    ensures value { OnOk result (⟦<(A, B, C) as SchemaWrite>⟧.proper (a.now, b.now, c.now)) }
+    ensures err { let tuple = ⟦<(A, B, C) as SchemaWrite>⟧ in IfErr result
+        (Unwritten tuple.writing (W.state writer.old) (W.state writer.new) (tuple.seen (a.now, b.now, c.now))) }
+    ensures piece { let tuple = ⟦<(A, B, C) as SchemaWrite>⟧ in IfErr result
+        (IsPieceRefused tuple.in_one_piece tuple.writing (W.state writer.old) (W.state writer.new) (tuple.seen (a.now, b.now, c.now))) }
+{
+    write_3::<&Member<A>, &Member<B>, &Member<C>, W>(writer, &(a, (b, c)))
+}
+
+impl<A: SchemaWrite, B: SchemaWrite, C: SchemaWrite> SchemaWrite for (A, B, C) {
+    type Src = (A::Src, B::Src, C::Src);
+
+    ghost Value = { ⟦<Members3<A, B, C> as SchemaWrite>⟧.Value };
+
+    ghost seen = { λ t. ⟦<Members3<A, B, C> as SchemaWrite>⟧.seen (t.0, (t.1, t.2)) };
+
+    ghost proper = { λ t. ⟦<Members3<A, B, C> as SchemaWrite>⟧.proper (t.0, (t.1, t.2)) };
+
+    ghost writing = { ⟦<Members3<A, B, C> as SchemaWrite>⟧.writing };
+
+    ghost in_one_piece = { is_static ⟦<Members3<A, B, C> as SchemaWrite>⟧.writing.meta };
+
+    fn type_meta() -> TypeMeta {
+        joined_meta(A::type_meta(), <(B, C) as SchemaWrite>::type_meta())
+    }
+
+    fn size_of(src: &Self::Src) -> WriteResult<usize> {
+        size_of_members_3::<A, B, C>(&src.0, &src.1, &src.2)
+    }
+
+    fn write<W: Writer>(writer: &mut W, src: &Self::Src) -> WriteResult<()> {
+        write_members_3::<A, B, C, W>(writer, &src.0, &src.1, &src.2)
+    }
+
+    ghost write_laws = { write_laws_by (λ t. (t.0, (t.1, t.2))) (pair_write_laws A.write_laws (pair_write_laws
+        B.write_laws C.write_laws)) };
+}
+
+/// The size of 4 members, each seen by a schema of its own: that of a tuple of them.
+pub fn size_of_members_4<A: SchemaWrite, B: SchemaWrite, C: SchemaWrite, D: SchemaWrite>(
+    a: &A::Src,
+    b: &B::Src,
+    c: &C::Src,
+    d: &D::Src,
+) -> WriteResult<usize>
+    ensures ok { let tuple = ⟦<(A, B, C, D) as SchemaWrite>⟧ in IfOk result
+        (IsSized tuple.writing (tuple.seen (a.now, b.now, c.now, d.now))) }
+    ensures err { let tuple = ⟦<(A, B, C, D) as SchemaWrite>⟧ in IfErr result
+        (IsSizeRefused tuple.writing (tuple.seen (a.now, b.now, c.now, d.now))) }
+{
+    add_size(A::size_of(a)?, size_of_members_3::<B, C, D>(b, c, d)?)
+}
+
+/// Writes 4 members through one window where all have one size.
+fn write_4<A: SchemaWrite, B: SchemaWrite, C: SchemaWrite, D: SchemaWrite, W: Writer>(
+    writer: &mut W,
+    src: &(A::Src, (B::Src, (C::Src, D::Src))),
+) -> WriteResult<()>
+    ensures ok { let members = ⟦<Members4<A, B, C, D> as SchemaWrite>⟧ in OnOk result
+        (Wrote members.writing (W.state writer.old) (W.state writer.new) (members.seen src.now)) }
+    ensures value { OnOk result (⟦<Members4<A, B, C, D> as SchemaWrite>⟧.proper src.now) }
+    ensures err { let members = ⟦<Members4<A, B, C, D> as SchemaWrite>⟧ in IfErr result
+        (Unwritten members.writing (W.state writer.old) (W.state writer.new) (members.seen src.now)) }
+    ensures piece { let members = ⟦<Members4<A, B, C, D> as SchemaWrite>⟧ in IfErr result
+        (IsPieceRefused (is_static members.writing.meta) members.writing (W.state writer.old) (W.state writer.new) (members.seen src.now)) }
+{
+    write_in_window::<Members4<A, B, C, D>, W>(writer, src)
+}
+
+/// Writes 4 members, each by a schema of its own, as a tuple of them is written.
+pub fn write_members_4<A: SchemaWrite, B: SchemaWrite, C: SchemaWrite, D: SchemaWrite, W: Writer>(
+    writer: &mut W,
+    a: &A::Src,
+    b: &B::Src,
+    c: &C::Src,
+    d: &D::Src,
+) -> WriteResult<()>
+    ensures ok { let tuple = ⟦<(A, B, C, D) as SchemaWrite>⟧ in OnOk result
+        (Wrote tuple.writing (W.state writer.old) (W.state writer.new) (tuple.seen (a.now, b.now, c.now, d.now))) }
+    ensures value { OnOk result (⟦<(A, B, C, D) as SchemaWrite>⟧.proper (a.now, b.now, c.now, d.now)) }
+    ensures err { let tuple = ⟦<(A, B, C, D) as SchemaWrite>⟧ in IfErr result
+        (Unwritten tuple.writing (W.state writer.old) (W.state writer.new) (tuple.seen (a.now, b.now, c.now, d.now))) }
+    ensures piece { let tuple = ⟦<(A, B, C, D) as SchemaWrite>⟧ in IfErr result
+        (IsPieceRefused tuple.in_one_piece tuple.writing (W.state writer.old) (W.state writer.new) (tuple.seen (a.now, b.now, c.now, d.now))) }
+{
+    write_4::<&Member<A>, &Member<B>, &Member<C>, &Member<D>, W>(writer, &(a, (b, (c, d))))
+}
+
+impl<A: SchemaWrite, B: SchemaWrite, C: SchemaWrite, D: SchemaWrite> SchemaWrite for (A, B, C, D) {
+    type Src = (A::Src, B::Src, C::Src, D::Src);
+
+    ghost Value = { ⟦<Members4<A, B, C, D> as SchemaWrite>⟧.Value };
+
+    ghost seen = { λ t. ⟦<Members4<A, B, C, D> as SchemaWrite>⟧.seen (t.0, (t.1, (t.2, t.3))) };
+
+    ghost proper = { λ t. ⟦<Members4<A, B, C, D> as SchemaWrite>⟧.proper (t.0, (t.1, (t.2, t.3))) };
+
+    ghost writing = { ⟦<Members4<A, B, C, D> as SchemaWrite>⟧.writing };
+
+    ghost in_one_piece = { is_static ⟦<Members4<A, B, C, D> as SchemaWrite>⟧.writing.meta };
+
+    fn type_meta() -> TypeMeta {
+        joined_meta(A::type_meta(), <(B, C, D) as SchemaWrite>::type_meta())
+    }
+
+    fn size_of(src: &Self::Src) -> WriteResult<usize> {
+        size_of_members_4::<A, B, C, D>(&src.0, &src.1, &src.2, &src.3)
+    }
+
+    fn write<W: Writer>(writer: &mut W, src: &Self::Src) -> WriteResult<()> {
+        write_members_4::<A, B, C, D, W>(writer, &src.0, &src.1, &src.2, &src.3)
+    }
+
+    ghost write_laws = { write_laws_by (λ t. (t.0, (t.1, (t.2, t.3)))) (pair_write_laws A.write_laws (pair_write_laws
+        B.write_laws (pair_write_laws C.write_laws D.write_laws))) };
+}
+
+/// The size of 5 members, each seen by a schema of its own: that of a tuple of them.
+pub fn size_of_members_5<
+    A: SchemaWrite,
+    B: SchemaWrite,
+    C: SchemaWrite,
+    D: SchemaWrite,
+    E: SchemaWrite,
+>(a: &A::Src, b: &B::Src, c: &C::Src, d: &D::Src, e: &E::Src) -> WriteResult<usize>
+    ensures ok { let tuple = ⟦<(A, B, C, D, E) as SchemaWrite>⟧ in IfOk result
+        (IsSized tuple.writing (tuple.seen (a.now, b.now, c.now, d.now, e.now))) }
+    ensures err { let tuple = ⟦<(A, B, C, D, E) as SchemaWrite>⟧ in IfErr result
+        (IsSizeRefused tuple.writing (tuple.seen (a.now, b.now, c.now, d.now, e.now))) }
+{
+    add_size(A::size_of(a)?, size_of_members_4::<B, C, D, E>(b, c, d, e)?)
+}
+
+/// Writes 5 members through one window where all have one size.
+fn write_5<
+    A: SchemaWrite,
+    B: SchemaWrite,
+    C: SchemaWrite,
+    D: SchemaWrite,
+    E: SchemaWrite,
+    W: Writer,
+>(writer: &mut W, src: &(A::Src, (B::Src, (C::Src, (D::Src, E::Src))))) -> WriteResult<()>
+    ensures ok { let members = ⟦<Members5<A, B, C, D, E> as SchemaWrite>⟧ in OnOk result
+        (Wrote members.writing (W.state writer.old) (W.state writer.new) (members.seen src.now)) }
+    ensures value { OnOk result (⟦<Members5<A, B, C, D, E> as SchemaWrite>⟧.proper src.now) }
+    ensures err { let members = ⟦<Members5<A, B, C, D, E> as SchemaWrite>⟧ in IfErr result
+        (Unwritten members.writing (W.state writer.old) (W.state writer.new) (members.seen src.now)) }
+    ensures piece { let members = ⟦<Members5<A, B, C, D, E> as SchemaWrite>⟧ in IfErr result
+        (IsPieceRefused (is_static members.writing.meta) members.writing (W.state writer.old) (W.state writer.new) (members.seen src.now)) }
+{
+    write_in_window::<Members5<A, B, C, D, E>, W>(writer, src)
+}
+
+/// Writes 5 members, each by a schema of its own, as a tuple of them is written.
+pub fn write_members_5<
+    A: SchemaWrite,
+    B: SchemaWrite,
+    C: SchemaWrite,
+    D: SchemaWrite,
+    E: SchemaWrite,
+    W: Writer,
+>(writer: &mut W, a: &A::Src, b: &B::Src, c: &C::Src, d: &D::Src, e: &E::Src) -> WriteResult<()>
+    ensures ok { let tuple = ⟦<(A, B, C, D, E) as SchemaWrite>⟧ in OnOk result
+        (Wrote tuple.writing (W.state writer.old) (W.state writer.new) (tuple.seen (a.now, b.now, c.now, d.now, e.now))) }
+    ensures value { OnOk result (⟦<(A, B, C, D, E) as SchemaWrite>⟧.proper (a.now, b.now, c.now, d.now, e.now)) }
+    ensures err { let tuple = ⟦<(A, B, C, D, E) as SchemaWrite>⟧ in IfErr result
+        (Unwritten tuple.writing (W.state writer.old) (W.state writer.new) (tuple.seen (a.now, b.now, c.now, d.now, e.now))) }
+    ensures piece { let tuple = ⟦<(A, B, C, D, E) as SchemaWrite>⟧ in IfErr result
+        (IsPieceRefused tuple.in_one_piece tuple.writing (W.state writer.old) (W.state writer.new) (tuple.seen (a.now, b.now, c.now, d.now, e.now))) }
+{
+    write_5::<&Member<A>, &Member<B>, &Member<C>, &Member<D>, &Member<E>, W>(
+        writer,
+        &(a, (b, (c, (d, e)))),
+    )
+}
+
+impl<A: SchemaWrite, B: SchemaWrite, C: SchemaWrite, D: SchemaWrite, E: SchemaWrite> SchemaWrite
+    for (A, B, C, D, E) {
+    type Src = (A::Src, B::Src, C::Src, D::Src, E::Src);
+
+    ghost Value = { ⟦<Members5<A, B, C, D, E> as SchemaWrite>⟧.Value };
+
+    ghost seen = { λ t. ⟦<Members5<A, B, C, D, E> as SchemaWrite>⟧.seen (t.0, (t.1, (t.2, (t.3, t.4)))) };
+
+    ghost proper = { λ t. ⟦<Members5<A, B, C, D, E> as SchemaWrite>⟧.proper (t.0, (t.1, (t.2, (t.3, t.4)))) };
+
+    ghost writing = { ⟦<Members5<A, B, C, D, E> as SchemaWrite>⟧.writing };
+
+    ghost in_one_piece = { is_static ⟦<Members5<A, B, C, D, E> as SchemaWrite>⟧.writing.meta };
+
+    fn type_meta() -> TypeMeta {
+        joined_meta(A::type_meta(), <(B, C, D, E) as SchemaWrite>::type_meta())
+    }
+
+    fn size_of(src: &Self::Src) -> WriteResult<usize> {
+        size_of_members_5::<A, B, C, D, E>(&src.0, &src.1, &src.2, &src.3, &src.4)
+    }
+
+    fn write<W: Writer>(writer: &mut W, src: &Self::Src) -> WriteResult<()> {
+        write_members_5::<A, B, C, D, E, W>(writer, &src.0, &src.1, &src.2, &src.3, &src.4)
+    }
+
+    ghost write_laws = { write_laws_by (λ t. (t.0, (t.1, (t.2, (t.3, t.4))))) (pair_write_laws A.write_laws
+        (pair_write_laws B.write_laws (pair_write_laws C.write_laws (pair_write_laws D.write_laws E.write_laws)))) };
+}
+
+/// The size of 6 members, each seen by a schema of its own: that of a tuple of them.
+pub fn size_of_members_6<
+    A: SchemaWrite,
+    B: SchemaWrite,
+    C: SchemaWrite,
+    D: SchemaWrite,
+    E: SchemaWrite,
+    F: SchemaWrite,
+>(a: &A::Src, b: &B::Src, c: &C::Src, d: &D::Src, e: &E::Src, f: &F::Src) -> WriteResult<usize>
+    ensures ok { let tuple = ⟦<(A, B, C, D, E, F) as SchemaWrite>⟧ in IfOk result
+        (IsSized tuple.writing (tuple.seen (a.now, b.now, c.now, d.now, e.now, f.now))) }
+    ensures err { let tuple = ⟦<(A, B, C, D, E, F) as SchemaWrite>⟧ in IfErr result
+        (IsSizeRefused tuple.writing (tuple.seen (a.now, b.now, c.now, d.now, e.now, f.now))) }
+{
+    add_size(
+        A::size_of(a)?,
+        size_of_members_5::<B, C, D, E, F>(b, c, d, e, f)?,
+    )
+}
+
+/// Writes 6 members through one window where all have one size.
+fn write_6<
+    A: SchemaWrite,
+    B: SchemaWrite,
+    C: SchemaWrite,
+    D: SchemaWrite,
+    E: SchemaWrite,
+    F: SchemaWrite,
+    W: Writer,
+>(writer: &mut W, src: &(A::Src, (B::Src, (C::Src, (D::Src, (E::Src, F::Src)))))) -> WriteResult<()>
+    ensures ok { let members = ⟦<Members6<A, B, C, D, E, F> as SchemaWrite>⟧ in OnOk result
+        (Wrote members.writing (W.state writer.old) (W.state writer.new) (members.seen src.now)) }
+    ensures value { OnOk result (⟦<Members6<A, B, C, D, E, F> as SchemaWrite>⟧.proper src.now) }
+    ensures err { let members = ⟦<Members6<A, B, C, D, E, F> as SchemaWrite>⟧ in IfErr result
+        (Unwritten members.writing (W.state writer.old) (W.state writer.new) (members.seen src.now)) }
+    ensures piece { let members = ⟦<Members6<A, B, C, D, E, F> as SchemaWrite>⟧ in IfErr result
+        (IsPieceRefused (is_static members.writing.meta) members.writing (W.state writer.old) (W.state writer.new) (members.seen src.now)) }
+{
+    write_in_window::<Members6<A, B, C, D, E, F>, W>(writer, src)
+}
+
+/// Writes 6 members, each by a schema of its own, as a tuple of them is written.
+pub fn write_members_6<
+    A: SchemaWrite,
+    B: SchemaWrite,
+    C: SchemaWrite,
+    D: SchemaWrite,
+    E: SchemaWrite,
+    F: SchemaWrite,
+    W: Writer,
+>(
+    writer: &mut W,
+    a: &A::Src,
+    b: &B::Src,
+    c: &C::Src,
+    d: &D::Src,
+    e: &E::Src,
+    f: &F::Src,
+) -> WriteResult<()>
+    ensures ok { let tuple = ⟦<(A, B, C, D, E, F) as SchemaWrite>⟧ in OnOk result
+        (Wrote tuple.writing (W.state writer.old) (W.state writer.new) (tuple.seen (a.now, b.now, c.now, d.now, e.now, f.now))) }
+    ensures value { OnOk result (⟦<(A, B, C, D, E, F) as SchemaWrite>⟧.proper (a.now, b.now, c.now, d.now, e.now, f.now)) }
+    ensures err { let tuple = ⟦<(A, B, C, D, E, F) as SchemaWrite>⟧ in IfErr result
+        (Unwritten tuple.writing (W.state writer.old) (W.state writer.new) (tuple.seen (a.now, b.now, c.now, d.now, e.now, f.now))) }
+    ensures piece { let tuple = ⟦<(A, B, C, D, E, F) as SchemaWrite>⟧ in IfErr result
+        (IsPieceRefused tuple.in_one_piece tuple.writing (W.state writer.old) (W.state writer.new) (tuple.seen (a.now, b.now, c.now, d.now, e.now, f.now))) }
+{
+    write_6::<&Member<A>, &Member<B>, &Member<C>, &Member<D>, &Member<E>, &Member<F>, W>(
+        writer,
+        &(a, (b, (c, (d, (e, f))))),
+    )
+}
+
+impl<
+    A: SchemaWrite,
+    B: SchemaWrite,
+    C: SchemaWrite,
+    D: SchemaWrite,
+    E: SchemaWrite,
+    F: SchemaWrite,
+> SchemaWrite for (A, B, C, D, E, F) {
+    type Src = (A::Src, B::Src, C::Src, D::Src, E::Src, F::Src);
+
+    ghost Value = { ⟦<Members6<A, B, C, D, E, F> as SchemaWrite>⟧.Value };
+
+    ghost seen = { λ t. ⟦<Members6<A, B, C, D, E, F> as SchemaWrite>⟧.seen (t.0, (t.1, (t.2, (t.3, (t.4, t.5))))) };
+
+    ghost proper = { λ t. ⟦<Members6<A, B, C, D, E, F> as SchemaWrite>⟧.proper (t.0, (t.1, (t.2, (t.3, (t.4, t.5))))) };
+
+    ghost writing = { ⟦<Members6<A, B, C, D, E, F> as SchemaWrite>⟧.writing };
+
+    ghost in_one_piece = { is_static ⟦<Members6<A, B, C, D, E, F> as SchemaWrite>⟧.writing.meta };
+
+    fn type_meta() -> TypeMeta {
+        joined_meta(
+            A::type_meta(),
+            <(B, C, D, E, F) as SchemaWrite>::type_meta(),
+        )
+    }
+
+    fn size_of(src: &Self::Src) -> WriteResult<usize> {
+        size_of_members_6::<A, B, C, D, E, F>(&src.0, &src.1, &src.2, &src.3, &src.4, &src.5)
+    }
+
+    fn write<W: Writer>(writer: &mut W, src: &Self::Src) -> WriteResult<()> {
+        write_members_6::<A, B, C, D, E, F, W>(
+            writer, &src.0, &src.1, &src.2, &src.3, &src.4, &src.5,
+        )
+    }
+
+    ghost write_laws = { write_laws_by (λ t. (t.0, (t.1, (t.2, (t.3, (t.4, t.5)))))) (pair_write_laws A.write_laws
+        (pair_write_laws B.write_laws (pair_write_laws C.write_laws (pair_write_laws D.write_laws (pair_write_laws
+        E.write_laws F.write_laws))))) };
+}
+
+/// The size of 7 members, each seen by a schema of its own: that of a tuple of them.
+pub fn size_of_members_7<
+    A: SchemaWrite,
+    B: SchemaWrite,
+    C: SchemaWrite,
+    D: SchemaWrite,
+    E: SchemaWrite,
+    F: SchemaWrite,
+    G: SchemaWrite,
+>(
+    a: &A::Src,
+    b: &B::Src,
+    c: &C::Src,
+    d: &D::Src,
+    e: &E::Src,
+    f: &F::Src,
+    g: &G::Src,
+) -> WriteResult<usize>
+    ensures ok { let tuple = ⟦<(A, B, C, D, E, F, G) as SchemaWrite>⟧ in IfOk result
+        (IsSized tuple.writing (tuple.seen (a.now, b.now, c.now, d.now, e.now, f.now, g.now))) }
+    ensures err { let tuple = ⟦<(A, B, C, D, E, F, G) as SchemaWrite>⟧ in IfErr result
+        (IsSizeRefused tuple.writing (tuple.seen (a.now, b.now, c.now, d.now, e.now, f.now, g.now))) }
+{
+    add_size(
+        A::size_of(a)?,
+        size_of_members_6::<B, C, D, E, F, G>(b, c, d, e, f, g)?,
+    )
+}
+
+/// Writes 7 members through one window where all have one size.
+fn write_7<
+    A: SchemaWrite,
+    B: SchemaWrite,
+    C: SchemaWrite,
+    D: SchemaWrite,
+    E: SchemaWrite,
+    F: SchemaWrite,
+    G: SchemaWrite,
+    W: Writer,
+>(
+    writer: &mut W,
+    src: &(
+        A::Src,
+        (B::Src, (C::Src, (D::Src, (E::Src, (F::Src, G::Src))))),
+    ),
+) -> WriteResult<()>
+    ensures ok { let members = ⟦<Members7<A, B, C, D, E, F, G> as SchemaWrite>⟧ in OnOk result
+        (Wrote members.writing (W.state writer.old) (W.state writer.new) (members.seen src.now)) }
+    ensures value { OnOk result (⟦<Members7<A, B, C, D, E, F, G> as SchemaWrite>⟧.proper src.now) }
+    ensures err { let members = ⟦<Members7<A, B, C, D, E, F, G> as SchemaWrite>⟧ in IfErr result
+        (Unwritten members.writing (W.state writer.old) (W.state writer.new) (members.seen src.now)) }
+    ensures piece { let members = ⟦<Members7<A, B, C, D, E, F, G> as SchemaWrite>⟧ in IfErr result
+        (IsPieceRefused (is_static members.writing.meta) members.writing (W.state writer.old) (W.state writer.new) (members.seen src.now)) }
+{
+    write_in_window::<Members7<A, B, C, D, E, F, G>, W>(writer, src)
+}
+
+/// Writes 7 members, each by a schema of its own, as a tuple of them is written.
+pub fn write_members_7<
+    A: SchemaWrite,
+    B: SchemaWrite,
+    C: SchemaWrite,
+    D: SchemaWrite,
+    E: SchemaWrite,
+    F: SchemaWrite,
+    G: SchemaWrite,
+    W: Writer,
+>(
+    writer: &mut W,
+    a: &A::Src,
+    b: &B::Src,
+    c: &C::Src,
+    d: &D::Src,
+    e: &E::Src,
+    f: &F::Src,
+    g: &G::Src,
+) -> WriteResult<()>
+    ensures ok { let tuple = ⟦<(A, B, C, D, E, F, G) as SchemaWrite>⟧ in OnOk result
+        (Wrote tuple.writing (W.state writer.old) (W.state writer.new) (tuple.seen (a.now, b.now, c.now, d.now, e.now, f.now, g.now))) }
+    ensures value { OnOk result (⟦<(A, B, C, D, E, F, G) as SchemaWrite>⟧.proper (a.now, b.now, c.now, d.now, e.now, f.now, g.now)) }
+    ensures err { let tuple = ⟦<(A, B, C, D, E, F, G) as SchemaWrite>⟧ in IfErr result
+        (Unwritten tuple.writing (W.state writer.old) (W.state writer.new) (tuple.seen (a.now, b.now, c.now, d.now, e.now, f.now, g.now))) }
+    ensures piece { let tuple = ⟦<(A, B, C, D, E, F, G) as SchemaWrite>⟧ in IfErr result
+        (IsPieceRefused tuple.in_one_piece tuple.writing (W.state writer.old) (W.state writer.new) (tuple.seen (a.now, b.now, c.now, d.now, e.now, f.now, g.now))) }
+{
+    write_7::<
+        &Member<A>,
+        &Member<B>,
+        &Member<C>,
+        &Member<D>,
+        &Member<E>,
+        &Member<F>,
+        &Member<G>,
+        W,
+    >(writer, &(a, (b, (c, (d, (e, (f, g)))))))
+}
+
+impl<
+    A: SchemaWrite,
+    B: SchemaWrite,
+    C: SchemaWrite,
+    D: SchemaWrite,
+    E: SchemaWrite,
+    F: SchemaWrite,
+    G: SchemaWrite,
+> SchemaWrite for (A, B, C, D, E, F, G) {
+    type Src = (A::Src, B::Src, C::Src, D::Src, E::Src, F::Src, G::Src);
+
+    ghost Value = { ⟦<Members7<A, B, C, D, E, F, G> as SchemaWrite>⟧.Value };
+
+    ghost seen = { λ t. ⟦<Members7<A, B, C, D, E, F, G> as SchemaWrite>⟧.seen (t.0, (t.1, (t.2, (t.3, (t.4, (t.5, t.6)))))) };
+
+    ghost proper = { λ t. ⟦<Members7<A, B, C, D, E, F, G> as SchemaWrite>⟧.proper (t.0, (t.1, (t.2, (t.3, (t.4, (t.5, t.6)))))) };
+
+    ghost writing = { ⟦<Members7<A, B, C, D, E, F, G> as SchemaWrite>⟧.writing };
+
+    ghost in_one_piece = { is_static ⟦<Members7<A, B, C, D, E, F, G> as SchemaWrite>⟧.writing.meta };
+
+    fn type_meta() -> TypeMeta {
+        joined_meta(
+            A::type_meta(),
+            <(B, C, D, E, F, G) as SchemaWrite>::type_meta(),
+        )
+    }
+
+    fn size_of(src: &Self::Src) -> WriteResult<usize> {
+        size_of_members_7::<A, B, C, D, E, F, G>(
+            &src.0, &src.1, &src.2, &src.3, &src.4, &src.5, &src.6,
+        )
+    }
+
+    fn write<W: Writer>(writer: &mut W, src: &Self::Src) -> WriteResult<()> {
+        write_members_7::<A, B, C, D, E, F, G, W>(
+            writer, &src.0, &src.1, &src.2, &src.3, &src.4, &src.5, &src.6,
+        )
+    }
+
+    ghost write_laws = { write_laws_by (λ t. (t.0, (t.1, (t.2, (t.3, (t.4, (t.5, t.6))))))) (pair_write_laws
+        A.write_laws (pair_write_laws B.write_laws (pair_write_laws C.write_laws (pair_write_laws D.write_laws
+        (pair_write_laws E.write_laws (pair_write_laws F.write_laws G.write_laws)))))) };
+}
+
+/// The size of 8 members, each seen by a schema of its own: that of a tuple of them.
+pub fn size_of_members_8<
+    A: SchemaWrite,
+    B: SchemaWrite,
+    C: SchemaWrite,
+    D: SchemaWrite,
+    E: SchemaWrite,
+    F: SchemaWrite,
+    G: SchemaWrite,
+    H: SchemaWrite,
+>(
+    a: &A::Src,
+    b: &B::Src,
+    c: &C::Src,
+    d: &D::Src,
+    e: &E::Src,
+    f: &F::Src,
+    g: &G::Src,
+    h: &H::Src,
+) -> WriteResult<usize>
+    ensures ok { let tuple = ⟦<(A, B, C, D, E, F, G, H) as SchemaWrite>⟧ in IfOk result
+        (IsSized tuple.writing (tuple.seen (a.now, b.now, c.now, d.now, e.now, f.now, g.now, h.now))) }
+    ensures err { let tuple = ⟦<(A, B, C, D, E, F, G, H) as SchemaWrite>⟧ in IfErr result
+        (IsSizeRefused tuple.writing (tuple.seen (a.now, b.now, c.now, d.now, e.now, f.now, g.now, h.now))) }
+{
+    add_size(
+        A::size_of(a)?,
+        size_of_members_7::<B, C, D, E, F, G, H>(b, c, d, e, f, g, h)?,
+    )
+}
+
+/// Writes 8 members through one window where all have one size.
+fn write_8<
+    A: SchemaWrite,
+    B: SchemaWrite,
+    C: SchemaWrite,
+    D: SchemaWrite,
+    E: SchemaWrite,
+    F: SchemaWrite,
+    G: SchemaWrite,
+    H: SchemaWrite,
+    W: Writer,
+>(
+    writer: &mut W,
+    src: &(
+        A::Src,
+        (
+            B::Src,
+            (C::Src, (D::Src, (E::Src, (F::Src, (G::Src, H::Src))))),
+        ),
+    ),
+) -> WriteResult<()>
+    ensures ok { let members = ⟦<Members8<A, B, C, D, E, F, G, H> as SchemaWrite>⟧ in OnOk result
+        (Wrote members.writing (W.state writer.old) (W.state writer.new) (members.seen src.now)) }
+    ensures value { OnOk result (⟦<Members8<A, B, C, D, E, F, G, H> as SchemaWrite>⟧.proper src.now) }
+    ensures err { let members = ⟦<Members8<A, B, C, D, E, F, G, H> as SchemaWrite>⟧ in IfErr result
+        (Unwritten members.writing (W.state writer.old) (W.state writer.new) (members.seen src.now)) }
+    ensures piece { let members = ⟦<Members8<A, B, C, D, E, F, G, H> as SchemaWrite>⟧ in IfErr result
+        (IsPieceRefused (is_static members.writing.meta) members.writing (W.state writer.old) (W.state writer.new) (members.seen src.now)) }
+{
+    write_in_window::<Members8<A, B, C, D, E, F, G, H>, W>(writer, src)
+}
+
+/// Writes 8 members, each by a schema of its own, as a tuple of them is written.
+pub fn write_members_8<
+    A: SchemaWrite,
+    B: SchemaWrite,
+    C: SchemaWrite,
+    D: SchemaWrite,
+    E: SchemaWrite,
+    F: SchemaWrite,
+    G: SchemaWrite,
+    H: SchemaWrite,
+    W: Writer,
+>(
+    writer: &mut W,
+    a: &A::Src,
+    b: &B::Src,
+    c: &C::Src,
+    d: &D::Src,
+    e: &E::Src,
+    f: &F::Src,
+    g: &G::Src,
+    h: &H::Src,
+) -> WriteResult<()>
+    ensures ok { let tuple = ⟦<(A, B, C, D, E, F, G, H) as SchemaWrite>⟧ in OnOk result
+        (Wrote tuple.writing (W.state writer.old) (W.state writer.new) (tuple.seen (a.now, b.now, c.now, d.now, e.now, f.now, g.now, h.now))) }
+    ensures value { OnOk result (⟦<(A, B, C, D, E, F, G, H) as SchemaWrite>⟧.proper (a.now, b.now, c.now, d.now, e.now, f.now, g.now, h.now)) }
+    ensures err { let tuple = ⟦<(A, B, C, D, E, F, G, H) as SchemaWrite>⟧ in IfErr result
+        (Unwritten tuple.writing (W.state writer.old) (W.state writer.new) (tuple.seen (a.now, b.now, c.now, d.now, e.now, f.now, g.now, h.now))) }
+    ensures piece { let tuple = ⟦<(A, B, C, D, E, F, G, H) as SchemaWrite>⟧ in IfErr result
+        (IsPieceRefused tuple.in_one_piece tuple.writing (W.state writer.old) (W.state writer.new) (tuple.seen (a.now, b.now, c.now, d.now, e.now, f.now, g.now, h.now))) }
+{
+    write_8::<
+        &Member<A>,
+        &Member<B>,
+        &Member<C>,
+        &Member<D>,
+        &Member<E>,
+        &Member<F>,
+        &Member<G>,
+        &Member<H>,
+        W,
+    >(writer, &(a, (b, (c, (d, (e, (f, (g, h))))))))
+}
+
+impl<
+    A: SchemaWrite,
+    B: SchemaWrite,
+    C: SchemaWrite,
+    D: SchemaWrite,
+    E: SchemaWrite,
+    F: SchemaWrite,
+    G: SchemaWrite,
+    H: SchemaWrite,
+> SchemaWrite for (A, B, C, D, E, F, G, H) {
+    type Src = (
+        A::Src,
+        B::Src,
+        C::Src,
+        D::Src,
+        E::Src,
+        F::Src,
+        G::Src,
+        H::Src,
+    );
+
+    ghost Value = { ⟦<Members8<A, B, C, D, E, F, G, H> as SchemaWrite>⟧.Value };
+
+    ghost seen = { λ t. ⟦<Members8<A, B, C, D, E, F, G, H> as SchemaWrite>⟧.seen (t.0, (t.1, (t.2, (t.3, (t.4, (t.5, (t.6, t.7))))))) };
+
+    ghost proper = { λ t. ⟦<Members8<A, B, C, D, E, F, G, H> as SchemaWrite>⟧.proper (t.0, (t.1, (t.2, (t.3, (t.4, (t.5, (t.6, t.7))))))) };
+
+    ghost writing = { ⟦<Members8<A, B, C, D, E, F, G, H> as SchemaWrite>⟧.writing };
+
+    ghost in_one_piece = { is_static ⟦<Members8<A, B, C, D, E, F, G, H> as SchemaWrite>⟧.writing.meta };
+
+    fn type_meta() -> TypeMeta {
+        joined_meta(
+            A::type_meta(),
+            <(B, C, D, E, F, G, H) as SchemaWrite>::type_meta(),
+        )
+    }
+
+    fn size_of(src: &Self::Src) -> WriteResult<usize> {
+        size_of_members_8::<A, B, C, D, E, F, G, H>(
+            &src.0, &src.1, &src.2, &src.3, &src.4, &src.5, &src.6, &src.7,
+        )
+    }
+
+    fn write<W: Writer>(writer: &mut W, src: &Self::Src) -> WriteResult<()> {
+        write_members_8::<A, B, C, D, E, F, G, H, W>(
+            writer, &src.0, &src.1, &src.2, &src.3, &src.4, &src.5, &src.6, &src.7,
+        )
+    }
+
+    ghost write_laws = { write_laws_by (λ t. (t.0, (t.1, (t.2, (t.3, (t.4, (t.5, (t.6, t.7)))))))) (pair_write_laws
+        A.write_laws (pair_write_laws B.write_laws (pair_write_laws C.write_laws (pair_write_laws D.write_laws
+        (pair_write_laws E.write_laws (pair_write_laws F.write_laws (pair_write_laws G.write_laws H.write_laws))))))) };
+}

@@ -1,0 +1,841 @@
+//! Schemas of tuples of 9 to 12 members.
+ghost use Rattle.std.specs.Prelude.{IfOk, IfErr, OnOk};
+ghost use Rattle.wincode_base.specs.InWindow.{is_static};
+ghost use Rattle.wincode_base.specs.Outcomes.{IsSized, Wrote, Unwritten, IsPieceRefused, IsSizeRefused};
+ghost use Rattle.wincode_base.specs.PairLaws.{pair_write_laws, write_laws_by};
+
+use super::size_of_members_8;
+use crate::schema::SchemaWrite;
+use crate::schema::in_window::write_in_window;
+use wincode_base::error::WriteResult;
+use wincode_base::meta::TypeMeta;
+use wincode_base::parts::{Member, Members9, Members10, Members11, Members12};
+use wincode_base::sizes::{add_size, joined_meta};
+use wincode_io::Writer;
+
+/// The size of 9 members, each seen by a schema of its own: that of a tuple of them.
+pub fn size_of_members_9<
+    A: SchemaWrite,
+    B: SchemaWrite,
+    C: SchemaWrite,
+    D: SchemaWrite,
+    E: SchemaWrite,
+    F: SchemaWrite,
+    G: SchemaWrite,
+    H: SchemaWrite,
+    I: SchemaWrite,
+>(
+    a: &A::Src,
+    b: &B::Src,
+    c: &C::Src,
+    d: &D::Src,
+    e: &E::Src,
+    f: &F::Src,
+    g: &G::Src,
+    h: &H::Src,
+    i: &I::Src,
+) -> WriteResult<usize>
+    ensures ok { let tuple = ⟦<(A, B, C, D, E, F, G, H, I) as SchemaWrite>⟧ in IfOk result
+        (IsSized tuple.writing (tuple.seen (a.now, b.now, c.now, d.now, e.now, f.now, g.now, h.now, i.now))) }
+    ensures err { let tuple = ⟦<(A, B, C, D, E, F, G, H, I) as SchemaWrite>⟧ in IfErr result
+        (IsSizeRefused tuple.writing (tuple.seen (a.now, b.now, c.now, d.now, e.now, f.now, g.now, h.now, i.now))) }
+{
+    add_size(
+        A::size_of(a)?,
+        size_of_members_8::<B, C, D, E, F, G, H, I>(b, c, d, e, f, g, h, i)?,
+    )
+}
+
+/// Writes 9 members through one window where all have one size.
+fn write_9<
+    A: SchemaWrite,
+    B: SchemaWrite,
+    C: SchemaWrite,
+    D: SchemaWrite,
+    E: SchemaWrite,
+    F: SchemaWrite,
+    G: SchemaWrite,
+    H: SchemaWrite,
+    I: SchemaWrite,
+    W: Writer,
+>(
+    writer: &mut W,
+    src: &(
+        A::Src,
+        (
+            B::Src,
+            (
+                C::Src,
+                (D::Src, (E::Src, (F::Src, (G::Src, (H::Src, I::Src))))),
+            ),
+        ),
+    ),
+) -> WriteResult<()>
+    ensures ok { let members = ⟦<Members9<A, B, C, D, E, F, G, H, I> as SchemaWrite>⟧ in OnOk result
+        (Wrote members.writing (W.state writer.old) (W.state writer.new) (members.seen src.now)) }
+    ensures value { OnOk result (⟦<Members9<A, B, C, D, E, F, G, H, I> as SchemaWrite>⟧.proper src.now) }
+    ensures err { let members = ⟦<Members9<A, B, C, D, E, F, G, H, I> as SchemaWrite>⟧ in IfErr result
+        (Unwritten members.writing (W.state writer.old) (W.state writer.new) (members.seen src.now)) }
+    ensures piece { let members = ⟦<Members9<A, B, C, D, E, F, G, H, I> as SchemaWrite>⟧ in IfErr result
+        (IsPieceRefused (is_static members.writing.meta) members.writing (W.state writer.old) (W.state writer.new) (members.seen src.now)) }
+{
+    write_in_window::<Members9<A, B, C, D, E, F, G, H, I>, W>(writer, src)
+}
+
+/// Writes 9 members, each by a schema of its own, as a tuple of them is written.
+pub fn write_members_9<
+    A: SchemaWrite,
+    B: SchemaWrite,
+    C: SchemaWrite,
+    D: SchemaWrite,
+    E: SchemaWrite,
+    F: SchemaWrite,
+    G: SchemaWrite,
+    H: SchemaWrite,
+    I: SchemaWrite,
+    W: Writer,
+>(
+    writer: &mut W,
+    a: &A::Src,
+    b: &B::Src,
+    c: &C::Src,
+    d: &D::Src,
+    e: &E::Src,
+    f: &F::Src,
+    g: &G::Src,
+    h: &H::Src,
+    i: &I::Src,
+) -> WriteResult<()>
+    ensures ok { let tuple = ⟦<(A, B, C, D, E, F, G, H, I) as SchemaWrite>⟧ in OnOk result
+        (Wrote tuple.writing (W.state writer.old) (W.state writer.new) (tuple.seen (a.now, b.now, c.now, d.now, e.now, f.now, g.now, h.now, i.now))) }
+    ensures value { OnOk result (⟦<(A, B, C, D, E, F, G, H, I) as SchemaWrite>⟧.proper (a.now, b.now, c.now, d.now, e.now, f.now, g.now, h.now, i.now)) }
+    ensures err { let tuple = ⟦<(A, B, C, D, E, F, G, H, I) as SchemaWrite>⟧ in IfErr result
+        (Unwritten tuple.writing (W.state writer.old) (W.state writer.new) (tuple.seen (a.now, b.now, c.now, d.now, e.now, f.now, g.now, h.now, i.now))) }
+    ensures piece { let tuple = ⟦<(A, B, C, D, E, F, G, H, I) as SchemaWrite>⟧ in IfErr result
+        (IsPieceRefused tuple.in_one_piece tuple.writing (W.state writer.old) (W.state writer.new) (tuple.seen (a.now, b.now, c.now, d.now, e.now, f.now, g.now, h.now, i.now))) }
+{
+    write_9::<
+        &Member<A>,
+        &Member<B>,
+        &Member<C>,
+        &Member<D>,
+        &Member<E>,
+        &Member<F>,
+        &Member<G>,
+        &Member<H>,
+        &Member<I>,
+        W,
+    >(writer, &(a, (b, (c, (d, (e, (f, (g, (h, i)))))))))
+}
+
+impl<
+    A: SchemaWrite,
+    B: SchemaWrite,
+    C: SchemaWrite,
+    D: SchemaWrite,
+    E: SchemaWrite,
+    F: SchemaWrite,
+    G: SchemaWrite,
+    H: SchemaWrite,
+    I: SchemaWrite,
+> SchemaWrite for (A, B, C, D, E, F, G, H, I) {
+    type Src = (
+        A::Src,
+        B::Src,
+        C::Src,
+        D::Src,
+        E::Src,
+        F::Src,
+        G::Src,
+        H::Src,
+        I::Src,
+    );
+
+    ghost Value = { ⟦<Members9<A, B, C, D, E, F, G, H, I> as SchemaWrite>⟧.Value };
+
+    ghost seen = { λ t. ⟦<Members9<A, B, C, D, E, F, G, H, I> as SchemaWrite>⟧.seen (t.0, (t.1, (t.2, (t.3, (t.4, (t.5, (t.6, (t.7, t.8)))))))) };
+
+    ghost proper = { λ t. ⟦<Members9<A, B, C, D, E, F, G, H, I> as SchemaWrite>⟧.proper (t.0, (t.1, (t.2, (t.3, (t.4, (t.5, (t.6, (t.7, t.8)))))))) };
+
+    ghost writing = { ⟦<Members9<A, B, C, D, E, F, G, H, I> as SchemaWrite>⟧.writing };
+
+    ghost in_one_piece = { is_static ⟦<Members9<A, B, C, D, E, F, G, H, I> as SchemaWrite>⟧.writing.meta };
+
+    fn type_meta() -> TypeMeta {
+        joined_meta(
+            A::type_meta(),
+            <(B, C, D, E, F, G, H, I) as SchemaWrite>::type_meta(),
+        )
+    }
+
+    fn size_of(src: &Self::Src) -> WriteResult<usize> {
+        size_of_members_9::<A, B, C, D, E, F, G, H, I>(
+            &src.0, &src.1, &src.2, &src.3, &src.4, &src.5, &src.6, &src.7, &src.8,
+        )
+    }
+
+    fn write<W: Writer>(writer: &mut W, src: &Self::Src) -> WriteResult<()> {
+        write_members_9::<A, B, C, D, E, F, G, H, I, W>(
+            writer, &src.0, &src.1, &src.2, &src.3, &src.4, &src.5, &src.6, &src.7, &src.8,
+        )
+    }
+
+    ghost write_laws = { write_laws_by (λ t. (t.0, (t.1, (t.2, (t.3, (t.4, (t.5, (t.6, (t.7, t.8)))))))))
+        (pair_write_laws A.write_laws (pair_write_laws B.write_laws (pair_write_laws C.write_laws (pair_write_laws
+        D.write_laws (pair_write_laws E.write_laws (pair_write_laws F.write_laws (pair_write_laws G.write_laws
+        (pair_write_laws H.write_laws I.write_laws)))))))) };
+}
+
+/// The size of 10 members, each seen by a schema of its own: that of a tuple of them.
+pub fn size_of_members_10<
+    A: SchemaWrite,
+    B: SchemaWrite,
+    C: SchemaWrite,
+    D: SchemaWrite,
+    E: SchemaWrite,
+    F: SchemaWrite,
+    G: SchemaWrite,
+    H: SchemaWrite,
+    I: SchemaWrite,
+    J: SchemaWrite,
+>(
+    a: &A::Src,
+    b: &B::Src,
+    c: &C::Src,
+    d: &D::Src,
+    e: &E::Src,
+    f: &F::Src,
+    g: &G::Src,
+    h: &H::Src,
+    i: &I::Src,
+    j: &J::Src,
+) -> WriteResult<usize>
+    ensures ok { let tuple = ⟦<(A, B, C, D, E, F, G, H, I, J) as SchemaWrite>⟧ in IfOk result
+        (IsSized tuple.writing (tuple.seen (a.now, b.now, c.now, d.now, e.now, f.now, g.now, h.now, i.now, j.now))) }
+    ensures err { let tuple = ⟦<(A, B, C, D, E, F, G, H, I, J) as SchemaWrite>⟧ in IfErr result
+        (IsSizeRefused tuple.writing (tuple.seen (a.now, b.now, c.now, d.now, e.now, f.now, g.now, h.now, i.now, j.now))) }
+{
+    add_size(
+        A::size_of(a)?,
+        size_of_members_9::<B, C, D, E, F, G, H, I, J>(b, c, d, e, f, g, h, i, j)?,
+    )
+}
+
+/// Writes 10 members through one window where all have one size.
+fn write_10<
+    A: SchemaWrite,
+    B: SchemaWrite,
+    C: SchemaWrite,
+    D: SchemaWrite,
+    E: SchemaWrite,
+    F: SchemaWrite,
+    G: SchemaWrite,
+    H: SchemaWrite,
+    I: SchemaWrite,
+    J: SchemaWrite,
+    W: Writer,
+>(
+    writer: &mut W,
+    src: &(
+        A::Src,
+        (
+            B::Src,
+            (
+                C::Src,
+                (
+                    D::Src,
+                    (E::Src, (F::Src, (G::Src, (H::Src, (I::Src, J::Src))))),
+                ),
+            ),
+        ),
+    ),
+) -> WriteResult<()>
+    ensures ok { let members = ⟦<Members10<A, B, C, D, E, F, G, H, I, J> as SchemaWrite>⟧ in OnOk result
+        (Wrote members.writing (W.state writer.old) (W.state writer.new) (members.seen src.now)) }
+    ensures value { OnOk result (⟦<Members10<A, B, C, D, E, F, G, H, I, J> as SchemaWrite>⟧.proper src.now) }
+    ensures err { let members = ⟦<Members10<A, B, C, D, E, F, G, H, I, J> as SchemaWrite>⟧ in IfErr result
+        (Unwritten members.writing (W.state writer.old) (W.state writer.new) (members.seen src.now)) }
+    ensures piece { let members = ⟦<Members10<A, B, C, D, E, F, G, H, I, J> as SchemaWrite>⟧ in IfErr result
+        (IsPieceRefused (is_static members.writing.meta) members.writing (W.state writer.old) (W.state writer.new) (members.seen src.now)) }
+{
+    write_in_window::<Members10<A, B, C, D, E, F, G, H, I, J>, W>(writer, src)
+}
+
+/// Writes 10 members, each by a schema of its own, as a tuple of them is written.
+pub fn write_members_10<
+    A: SchemaWrite,
+    B: SchemaWrite,
+    C: SchemaWrite,
+    D: SchemaWrite,
+    E: SchemaWrite,
+    F: SchemaWrite,
+    G: SchemaWrite,
+    H: SchemaWrite,
+    I: SchemaWrite,
+    J: SchemaWrite,
+    W: Writer,
+>(
+    writer: &mut W,
+    a: &A::Src,
+    b: &B::Src,
+    c: &C::Src,
+    d: &D::Src,
+    e: &E::Src,
+    f: &F::Src,
+    g: &G::Src,
+    h: &H::Src,
+    i: &I::Src,
+    j: &J::Src,
+) -> WriteResult<()>
+    ensures ok { let tuple = ⟦<(A, B, C, D, E, F, G, H, I, J) as SchemaWrite>⟧ in OnOk result
+        (Wrote tuple.writing (W.state writer.old) (W.state writer.new) (tuple.seen (a.now, b.now, c.now, d.now, e.now, f.now, g.now, h.now, i.now, j.now))) }
+    ensures value { OnOk result (⟦<(A, B, C, D, E, F, G, H, I, J) as SchemaWrite>⟧.proper (a.now, b.now, c.now, d.now, e.now, f.now, g.now, h.now, i.now, j.now)) }
+    ensures err { let tuple = ⟦<(A, B, C, D, E, F, G, H, I, J) as SchemaWrite>⟧ in IfErr result
+        (Unwritten tuple.writing (W.state writer.old) (W.state writer.new) (tuple.seen (a.now, b.now, c.now, d.now, e.now, f.now, g.now, h.now, i.now, j.now))) }
+    ensures piece { let tuple = ⟦<(A, B, C, D, E, F, G, H, I, J) as SchemaWrite>⟧ in IfErr result
+        (IsPieceRefused tuple.in_one_piece tuple.writing (W.state writer.old) (W.state writer.new) (tuple.seen (a.now, b.now, c.now, d.now, e.now, f.now, g.now, h.now, i.now, j.now))) }
+{
+    write_10::<
+        &Member<A>,
+        &Member<B>,
+        &Member<C>,
+        &Member<D>,
+        &Member<E>,
+        &Member<F>,
+        &Member<G>,
+        &Member<H>,
+        &Member<I>,
+        &Member<J>,
+        W,
+    >(writer, &(a, (b, (c, (d, (e, (f, (g, (h, (i, j))))))))))
+}
+
+impl<
+    A: SchemaWrite,
+    B: SchemaWrite,
+    C: SchemaWrite,
+    D: SchemaWrite,
+    E: SchemaWrite,
+    F: SchemaWrite,
+    G: SchemaWrite,
+    H: SchemaWrite,
+    I: SchemaWrite,
+    J: SchemaWrite,
+> SchemaWrite for (A, B, C, D, E, F, G, H, I, J) {
+    type Src = (
+        A::Src,
+        B::Src,
+        C::Src,
+        D::Src,
+        E::Src,
+        F::Src,
+        G::Src,
+        H::Src,
+        I::Src,
+        J::Src,
+    );
+
+    ghost Value = { ⟦<Members10<A, B, C, D, E, F, G, H, I, J> as SchemaWrite>⟧.Value };
+
+    ghost seen = { λ t. ⟦<Members10<A, B, C, D, E, F, G, H, I, J> as SchemaWrite>⟧.seen (t.0, (t.1, (t.2, (t.3, (t.4, (t.5, (t.6, (t.7, (t.8, t.9))))))))) };
+
+    ghost proper = { λ t. ⟦<Members10<A, B, C, D, E, F, G, H, I, J> as SchemaWrite>⟧.proper (t.0, (t.1, (t.2, (t.3, (t.4, (t.5, (t.6, (t.7, (t.8, t.9))))))))) };
+
+    ghost writing = { ⟦<Members10<A, B, C, D, E, F, G, H, I, J> as SchemaWrite>⟧.writing };
+
+    ghost in_one_piece = { is_static ⟦<Members10<A, B, C, D, E, F, G, H, I, J> as SchemaWrite>⟧.writing.meta };
+
+    fn type_meta() -> TypeMeta {
+        joined_meta(
+            A::type_meta(),
+            <(B, C, D, E, F, G, H, I, J) as SchemaWrite>::type_meta(),
+        )
+    }
+
+    fn size_of(src: &Self::Src) -> WriteResult<usize> {
+        size_of_members_10::<A, B, C, D, E, F, G, H, I, J>(
+            &src.0, &src.1, &src.2, &src.3, &src.4, &src.5, &src.6, &src.7, &src.8, &src.9,
+        )
+    }
+
+    fn write<W: Writer>(writer: &mut W, src: &Self::Src) -> WriteResult<()> {
+        write_members_10::<A, B, C, D, E, F, G, H, I, J, W>(
+            writer, &src.0, &src.1, &src.2, &src.3, &src.4, &src.5, &src.6, &src.7, &src.8, &src.9,
+        )
+    }
+
+    ghost write_laws = { write_laws_by (λ t. (t.0, (t.1, (t.2, (t.3, (t.4, (t.5, (t.6, (t.7, (t.8, t.9))))))))))
+        (pair_write_laws A.write_laws (pair_write_laws B.write_laws (pair_write_laws C.write_laws (pair_write_laws
+        D.write_laws (pair_write_laws E.write_laws (pair_write_laws F.write_laws (pair_write_laws G.write_laws
+        (pair_write_laws H.write_laws (pair_write_laws I.write_laws J.write_laws))))))))) };
+}
+
+/// The size of 11 members, each seen by a schema of its own: that of a tuple of them.
+pub fn size_of_members_11<
+    A: SchemaWrite,
+    B: SchemaWrite,
+    C: SchemaWrite,
+    D: SchemaWrite,
+    E: SchemaWrite,
+    F: SchemaWrite,
+    G: SchemaWrite,
+    H: SchemaWrite,
+    I: SchemaWrite,
+    J: SchemaWrite,
+    K: SchemaWrite,
+>(
+    a: &A::Src,
+    b: &B::Src,
+    c: &C::Src,
+    d: &D::Src,
+    e: &E::Src,
+    f: &F::Src,
+    g: &G::Src,
+    h: &H::Src,
+    i: &I::Src,
+    j: &J::Src,
+    k: &K::Src,
+) -> WriteResult<usize>
+    ensures ok { let tuple = ⟦<(A, B, C, D, E, F, G, H, I, J, K) as SchemaWrite>⟧ in IfOk result
+        (IsSized tuple.writing (tuple.seen (a.now, b.now, c.now, d.now, e.now, f.now, g.now, h.now, i.now, j.now, k.now))) }
+    ensures err { let tuple = ⟦<(A, B, C, D, E, F, G, H, I, J, K) as SchemaWrite>⟧ in IfErr result
+        (IsSizeRefused tuple.writing (tuple.seen (a.now, b.now, c.now, d.now, e.now, f.now, g.now, h.now, i.now, j.now, k.now))) }
+{
+    add_size(
+        A::size_of(a)?,
+        size_of_members_10::<B, C, D, E, F, G, H, I, J, K>(b, c, d, e, f, g, h, i, j, k)?,
+    )
+}
+
+/// Writes 11 members through one window where all have one size.
+fn write_11<
+    A: SchemaWrite,
+    B: SchemaWrite,
+    C: SchemaWrite,
+    D: SchemaWrite,
+    E: SchemaWrite,
+    F: SchemaWrite,
+    G: SchemaWrite,
+    H: SchemaWrite,
+    I: SchemaWrite,
+    J: SchemaWrite,
+    K: SchemaWrite,
+    W: Writer,
+>(
+    writer: &mut W,
+    src: &(
+        A::Src,
+        (
+            B::Src,
+            (
+                C::Src,
+                (
+                    D::Src,
+                    (
+                        E::Src,
+                        (F::Src, (G::Src, (H::Src, (I::Src, (J::Src, K::Src))))),
+                    ),
+                ),
+            ),
+        ),
+    ),
+) -> WriteResult<()>
+    ensures ok { let members = ⟦<Members11<A, B, C, D, E, F, G, H, I, J, K> as SchemaWrite>⟧ in OnOk result
+        (Wrote members.writing (W.state writer.old) (W.state writer.new) (members.seen src.now)) }
+    ensures value { OnOk result (⟦<Members11<A, B, C, D, E, F, G, H, I, J, K> as SchemaWrite>⟧.proper src.now) }
+    ensures err { let members = ⟦<Members11<A, B, C, D, E, F, G, H, I, J, K> as SchemaWrite>⟧ in IfErr result
+        (Unwritten members.writing (W.state writer.old) (W.state writer.new) (members.seen src.now)) }
+    ensures piece { let members = ⟦<Members11<A, B, C, D, E, F, G, H, I, J, K> as SchemaWrite>⟧ in IfErr result
+        (IsPieceRefused (is_static members.writing.meta) members.writing (W.state writer.old) (W.state writer.new) (members.seen src.now)) }
+{
+    write_in_window::<Members11<A, B, C, D, E, F, G, H, I, J, K>, W>(writer, src)
+}
+
+/// Writes 11 members, each by a schema of its own, as a tuple of them is written.
+pub fn write_members_11<
+    A: SchemaWrite,
+    B: SchemaWrite,
+    C: SchemaWrite,
+    D: SchemaWrite,
+    E: SchemaWrite,
+    F: SchemaWrite,
+    G: SchemaWrite,
+    H: SchemaWrite,
+    I: SchemaWrite,
+    J: SchemaWrite,
+    K: SchemaWrite,
+    W: Writer,
+>(
+    writer: &mut W,
+    a: &A::Src,
+    b: &B::Src,
+    c: &C::Src,
+    d: &D::Src,
+    e: &E::Src,
+    f: &F::Src,
+    g: &G::Src,
+    h: &H::Src,
+    i: &I::Src,
+    j: &J::Src,
+    k: &K::Src,
+) -> WriteResult<()>
+    ensures ok { let tuple = ⟦<(A, B, C, D, E, F, G, H, I, J, K) as SchemaWrite>⟧ in OnOk result
+        (Wrote tuple.writing (W.state writer.old) (W.state writer.new) (tuple.seen (a.now, b.now, c.now, d.now, e.now, f.now, g.now, h.now, i.now, j.now, k.now))) }
+    ensures value { OnOk result (⟦<(A, B, C, D, E, F, G, H, I, J, K) as SchemaWrite>⟧.proper (a.now, b.now, c.now, d.now, e.now, f.now, g.now, h.now, i.now, j.now, k.now)) }
+    ensures err { let tuple = ⟦<(A, B, C, D, E, F, G, H, I, J, K) as SchemaWrite>⟧ in IfErr result
+        (Unwritten tuple.writing (W.state writer.old) (W.state writer.new) (tuple.seen (a.now, b.now, c.now, d.now, e.now, f.now, g.now, h.now, i.now, j.now, k.now))) }
+    ensures piece { let tuple = ⟦<(A, B, C, D, E, F, G, H, I, J, K) as SchemaWrite>⟧ in IfErr result
+        (IsPieceRefused tuple.in_one_piece tuple.writing (W.state writer.old) (W.state writer.new) (tuple.seen (a.now, b.now, c.now, d.now, e.now, f.now, g.now, h.now, i.now, j.now, k.now))) }
+{
+    write_11::<
+        &Member<A>,
+        &Member<B>,
+        &Member<C>,
+        &Member<D>,
+        &Member<E>,
+        &Member<F>,
+        &Member<G>,
+        &Member<H>,
+        &Member<I>,
+        &Member<J>,
+        &Member<K>,
+        W,
+    >(writer, &(a, (b, (c, (d, (e, (f, (g, (h, (i, (j, k)))))))))))
+}
+
+impl<
+    A: SchemaWrite,
+    B: SchemaWrite,
+    C: SchemaWrite,
+    D: SchemaWrite,
+    E: SchemaWrite,
+    F: SchemaWrite,
+    G: SchemaWrite,
+    H: SchemaWrite,
+    I: SchemaWrite,
+    J: SchemaWrite,
+    K: SchemaWrite,
+> SchemaWrite for (A, B, C, D, E, F, G, H, I, J, K) {
+    type Src = (
+        A::Src,
+        B::Src,
+        C::Src,
+        D::Src,
+        E::Src,
+        F::Src,
+        G::Src,
+        H::Src,
+        I::Src,
+        J::Src,
+        K::Src,
+    );
+
+    ghost Value = { ⟦<Members11<A, B, C, D, E, F, G, H, I, J, K> as SchemaWrite>⟧.Value };
+
+    ghost seen = { λ t. ⟦<Members11<A, B, C, D, E, F, G, H, I, J, K> as SchemaWrite>⟧.seen (t.0, (t.1, (t.2, (t.3, (t.4, (t.5, (t.6, (t.7, (t.8, (t.9, t.10)))))))))) };
+
+    ghost proper = { λ t. ⟦<Members11<A, B, C, D, E, F, G, H, I, J, K> as SchemaWrite>⟧.proper (t.0, (t.1, (t.2, (t.3, (t.4, (t.5, (t.6, (t.7, (t.8, (t.9, t.10)))))))))) };
+
+    ghost writing = { ⟦<Members11<A, B, C, D, E, F, G, H, I, J, K> as SchemaWrite>⟧.writing };
+
+    ghost in_one_piece = { is_static ⟦<Members11<A, B, C, D, E, F, G, H, I, J, K> as SchemaWrite>⟧.writing.meta };
+
+    fn type_meta() -> TypeMeta {
+        joined_meta(
+            A::type_meta(),
+            <(B, C, D, E, F, G, H, I, J, K) as SchemaWrite>::type_meta(),
+        )
+    }
+
+    fn size_of(src: &Self::Src) -> WriteResult<usize> {
+        size_of_members_11::<A, B, C, D, E, F, G, H, I, J, K>(
+            &src.0, &src.1, &src.2, &src.3, &src.4, &src.5, &src.6, &src.7, &src.8, &src.9, &src.10,
+        )
+    }
+
+    fn write<W: Writer>(writer: &mut W, src: &Self::Src) -> WriteResult<()> {
+        write_members_11::<A, B, C, D, E, F, G, H, I, J, K, W>(
+            writer, &src.0, &src.1, &src.2, &src.3, &src.4, &src.5, &src.6, &src.7, &src.8, &src.9,
+            &src.10,
+        )
+    }
+
+    ghost write_laws = { write_laws_by (λ t. (
+      t.0,
+      (
+        t.1,
+        (
+          t.2,
+          (
+            t.3,
+            (
+              t.4,
+              (
+                t.5,
+                (
+                  t.6,
+                  (
+                    t.7,
+                    (
+                      t.8,
+                      (
+                        t.9,
+                        t.10,
+                      ),
+                    ),
+                  ),
+                ),
+              ),
+            ),
+          ),
+        ),
+      ),
+    )) (pair_write_laws A.write_laws (pair_write_laws B.write_laws (pair_write_laws C.write_laws
+        (pair_write_laws D.write_laws (pair_write_laws E.write_laws (pair_write_laws F.write_laws (pair_write_laws
+        G.write_laws (pair_write_laws H.write_laws (pair_write_laws I.write_laws (pair_write_laws J.write_laws
+        K.write_laws)))))))))) };
+}
+
+/// The size of 12 members, each seen by a schema of its own: that of a tuple of them.
+pub fn size_of_members_12<
+    A: SchemaWrite,
+    B: SchemaWrite,
+    C: SchemaWrite,
+    D: SchemaWrite,
+    E: SchemaWrite,
+    F: SchemaWrite,
+    G: SchemaWrite,
+    H: SchemaWrite,
+    I: SchemaWrite,
+    J: SchemaWrite,
+    K: SchemaWrite,
+    M: SchemaWrite,
+>(
+    a: &A::Src,
+    b: &B::Src,
+    c: &C::Src,
+    d: &D::Src,
+    e: &E::Src,
+    f: &F::Src,
+    g: &G::Src,
+    h: &H::Src,
+    i: &I::Src,
+    j: &J::Src,
+    k: &K::Src,
+    m: &M::Src,
+) -> WriteResult<usize>
+    ensures ok { let tuple = ⟦<(A, B, C, D, E, F, G, H, I, J, K, M) as SchemaWrite>⟧ in IfOk result
+        (IsSized tuple.writing (tuple.seen (a.now, b.now, c.now, d.now, e.now, f.now, g.now, h.now, i.now, j.now, k.now, m.now))) }
+    ensures err { let tuple = ⟦<(A, B, C, D, E, F, G, H, I, J, K, M) as SchemaWrite>⟧ in IfErr result
+        (IsSizeRefused tuple.writing (tuple.seen (a.now, b.now, c.now, d.now, e.now, f.now, g.now, h.now, i.now, j.now, k.now, m.now))) }
+{
+    add_size(
+        A::size_of(a)?,
+        size_of_members_11::<B, C, D, E, F, G, H, I, J, K, M>(b, c, d, e, f, g, h, i, j, k, m)?,
+    )
+}
+
+/// Writes 12 members through one window where all have one size.
+fn write_12<
+    A: SchemaWrite,
+    B: SchemaWrite,
+    C: SchemaWrite,
+    D: SchemaWrite,
+    E: SchemaWrite,
+    F: SchemaWrite,
+    G: SchemaWrite,
+    H: SchemaWrite,
+    I: SchemaWrite,
+    J: SchemaWrite,
+    K: SchemaWrite,
+    M: SchemaWrite,
+    W: Writer,
+>(
+    writer: &mut W,
+    src: &(
+        A::Src,
+        (
+            B::Src,
+            (
+                C::Src,
+                (
+                    D::Src,
+                    (
+                        E::Src,
+                        (
+                            F::Src,
+                            (G::Src, (H::Src, (I::Src, (J::Src, (K::Src, M::Src))))),
+                        ),
+                    ),
+                ),
+            ),
+        ),
+    ),
+) -> WriteResult<()>
+    ensures ok { let members = ⟦<Members12<A, B, C, D, E, F, G, H, I, J, K, M> as SchemaWrite>⟧ in OnOk result
+        (Wrote members.writing (W.state writer.old) (W.state writer.new) (members.seen src.now)) }
+    ensures value { OnOk result (⟦<Members12<A, B, C, D, E, F, G, H, I, J, K, M> as SchemaWrite>⟧.proper src.now) }
+    ensures err { let members = ⟦<Members12<A, B, C, D, E, F, G, H, I, J, K, M> as SchemaWrite>⟧ in IfErr result
+        (Unwritten members.writing (W.state writer.old) (W.state writer.new) (members.seen src.now)) }
+    ensures piece { let members = ⟦<Members12<A, B, C, D, E, F, G, H, I, J, K, M> as SchemaWrite>⟧ in IfErr result
+        (IsPieceRefused (is_static members.writing.meta) members.writing (W.state writer.old) (W.state writer.new) (members.seen src.now)) }
+{
+    write_in_window::<Members12<A, B, C, D, E, F, G, H, I, J, K, M>, W>(writer, src)
+}
+
+/// Writes 12 members, each by a schema of its own, as a tuple of them is written.
+pub fn write_members_12<
+    A: SchemaWrite,
+    B: SchemaWrite,
+    C: SchemaWrite,
+    D: SchemaWrite,
+    E: SchemaWrite,
+    F: SchemaWrite,
+    G: SchemaWrite,
+    H: SchemaWrite,
+    I: SchemaWrite,
+    J: SchemaWrite,
+    K: SchemaWrite,
+    M: SchemaWrite,
+    W: Writer,
+>(
+    writer: &mut W,
+    a: &A::Src,
+    b: &B::Src,
+    c: &C::Src,
+    d: &D::Src,
+    e: &E::Src,
+    f: &F::Src,
+    g: &G::Src,
+    h: &H::Src,
+    i: &I::Src,
+    j: &J::Src,
+    k: &K::Src,
+    m: &M::Src,
+) -> WriteResult<()>
+    ensures ok { let tuple = ⟦<(A, B, C, D, E, F, G, H, I, J, K, M) as SchemaWrite>⟧ in OnOk result
+        (Wrote tuple.writing (W.state writer.old) (W.state writer.new) (tuple.seen (a.now, b.now, c.now, d.now, e.now, f.now, g.now, h.now, i.now, j.now, k.now, m.now))) }
+    ensures value { OnOk result (⟦<(A, B, C, D, E, F, G, H, I, J, K, M) as SchemaWrite>⟧.proper (a.now, b.now, c.now, d.now, e.now, f.now, g.now, h.now, i.now, j.now, k.now, m.now)) }
+    ensures err { let tuple = ⟦<(A, B, C, D, E, F, G, H, I, J, K, M) as SchemaWrite>⟧ in IfErr result
+        (Unwritten tuple.writing (W.state writer.old) (W.state writer.new) (tuple.seen (a.now, b.now, c.now, d.now, e.now, f.now, g.now, h.now, i.now, j.now, k.now, m.now))) }
+    ensures piece { let tuple = ⟦<(A, B, C, D, E, F, G, H, I, J, K, M) as SchemaWrite>⟧ in IfErr result
+        (IsPieceRefused tuple.in_one_piece tuple.writing (W.state writer.old) (W.state writer.new) (tuple.seen (a.now, b.now, c.now, d.now, e.now, f.now, g.now, h.now, i.now, j.now, k.now, m.now))) }
+{
+    write_12::<
+        &Member<A>,
+        &Member<B>,
+        &Member<C>,
+        &Member<D>,
+        &Member<E>,
+        &Member<F>,
+        &Member<G>,
+        &Member<H>,
+        &Member<I>,
+        &Member<J>,
+        &Member<K>,
+        &Member<M>,
+        W,
+    >(
+        writer,
+        &(a, (b, (c, (d, (e, (f, (g, (h, (i, (j, (k, m))))))))))),
+    )
+}
+
+impl<
+    A: SchemaWrite,
+    B: SchemaWrite,
+    C: SchemaWrite,
+    D: SchemaWrite,
+    E: SchemaWrite,
+    F: SchemaWrite,
+    G: SchemaWrite,
+    H: SchemaWrite,
+    I: SchemaWrite,
+    J: SchemaWrite,
+    K: SchemaWrite,
+    M: SchemaWrite,
+> SchemaWrite for (A, B, C, D, E, F, G, H, I, J, K, M) {
+    type Src = (
+        A::Src,
+        B::Src,
+        C::Src,
+        D::Src,
+        E::Src,
+        F::Src,
+        G::Src,
+        H::Src,
+        I::Src,
+        J::Src,
+        K::Src,
+        M::Src,
+    );
+
+    ghost Value = { ⟦<Members12<A, B, C, D, E, F, G, H, I, J, K, M> as SchemaWrite>⟧.Value };
+
+    ghost seen = { λ t. ⟦<Members12<A, B, C, D, E, F, G, H, I, J, K, M> as SchemaWrite>⟧.seen (t.0, (t.1, (t.2, (t.3, (t.4, (t.5, (t.6, (t.7, (t.8, (t.9, (t.10, t.11))))))))))) };
+
+    ghost proper = { λ t. ⟦<Members12<A, B, C, D, E, F, G, H, I, J, K, M> as SchemaWrite>⟧.proper (t.0, (t.1, (t.2, (t.3, (t.4, (t.5, (t.6, (t.7, (t.8, (t.9, (t.10, t.11))))))))))) };
+
+    ghost writing = { ⟦<Members12<A, B, C, D, E, F, G, H, I, J, K, M> as SchemaWrite>⟧.writing };
+
+    ghost in_one_piece = { is_static ⟦<Members12<A, B, C, D, E, F, G, H, I, J, K, M> as SchemaWrite>⟧.writing.meta };
+
+    fn type_meta() -> TypeMeta {
+        joined_meta(
+            A::type_meta(),
+            <(B, C, D, E, F, G, H, I, J, K, M) as SchemaWrite>::type_meta(),
+        )
+    }
+
+    fn size_of(src: &Self::Src) -> WriteResult<usize> {
+        size_of_members_12::<A, B, C, D, E, F, G, H, I, J, K, M>(
+            &src.0, &src.1, &src.2, &src.3, &src.4, &src.5, &src.6, &src.7, &src.8, &src.9,
+            &src.10, &src.11,
+        )
+    }
+
+    fn write<W: Writer>(writer: &mut W, src: &Self::Src) -> WriteResult<()> {
+        write_members_12::<A, B, C, D, E, F, G, H, I, J, K, M, W>(
+            writer, &src.0, &src.1, &src.2, &src.3, &src.4, &src.5, &src.6, &src.7, &src.8, &src.9,
+            &src.10, &src.11,
+        )
+    }
+
+    ghost write_laws = { write_laws_by (λ t. (
+      t.0,
+      (
+        t.1,
+        (
+          t.2,
+          (
+            t.3,
+            (
+              t.4,
+              (
+                t.5,
+                (
+                  t.6,
+                  (
+                    t.7,
+                    (
+                      t.8,
+                      (
+                        t.9,
+                        (
+                          t.10,
+                          t.11,
+                        ),
+                      ),
+                    ),
+                  ),
+                ),
+              ),
+            ),
+          ),
+        ),
+      ),
+    )) (pair_write_laws A.write_laws (pair_write_laws B.write_laws (pair_write_laws C.write_laws
+        (pair_write_laws D.write_laws (pair_write_laws E.write_laws (pair_write_laws F.write_laws (pair_write_laws
+        G.write_laws (pair_write_laws H.write_laws (pair_write_laws I.write_laws (pair_write_laws J.write_laws
+        (pair_write_laws K.write_laws M.write_laws))))))))))) };
+}

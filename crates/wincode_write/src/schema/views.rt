@@ -1,0 +1,112 @@
+//! Schemas of views, and of bytes that the reader lends.
+//!
+//! One form is viewed by `Ref` and `RefMut`. Forms behind their number, which is eight bytes, are viewed by
+//! `SliceRef` and `SliceRefMut`, and bytes behind theirs are lent as `&[u8]` and `&mut [u8]`. Reading
+//! copies nothing and takes no memory, so that no limit stands against the number. The reader has to lend
+//! its bytes, shared, or for writing where the view writes. Where the bytes behind the number are too few
+//! it is `ReadSizeLimit` of their size, where they aren't lent `UnsupportedZeroCopy`, where their size is
+//! past `usize::MAX` `LengthEncodingOverflow`; then the reader stands behind the number. What is lent
+//! shared is written too, forms behind their number through one window of the whole.
+ghost use Rattle.std.specs.Prelude.{◌<◌, List, false, true, max};
+ghost use Rattle.wincode_io.specs.Joins.{Each};
+ghost use Rattle.wincode_io.specs.Viewed.{value_seen, values_seen};
+ghost use Rattle.wincode_base.specs.InWindow.{is_static};
+ghost use Rattle.wincode_base.specs.ViewLaws.{form_write_laws, lent_write_laws};
+ghost use Rattle.wincode_base.specs.Views.{counted_write, form_meta, form_write, forms_write};
+ghost use Rattle.wincode_base.specs.declared.meta.TypeMeta.TheVariants.{Dynamic};
+
+use crate::schema::SchemaWrite;
+use crate::schema::to_items::{ToItems, size_of_list, write_list};
+use wincode_base::error::{WriteResult, write_length_encoding_overflow};
+use wincode_base::len::BincodeLen;
+use wincode_base::meta::TypeMeta;
+use wincode_base::parts::Pod;
+use wincode_base::sizes::meta_of_form;
+use wincode_io::{Held, SharedBytes, SliceView, View, Writer, ZeroCopy, see_bytes};
+
+/// A `Ref` is written as the form that it views.
+impl<B: SharedBytes, T: ZeroCopy> SchemaWrite for View<B, T> {
+    type Src = View<B, T>;
+
+    ghost Value = { T };
+
+    ghost seen = { λ v. value_seen v };
+
+    ghost proper = { λ v. T.proper (value_seen v) };
+
+    ghost writing = { form_write T.proper T.size T.form false 8 };
+
+    ghost in_one_piece = { true };
+
+    fn type_meta() -> TypeMeta {
+        meta_of_form::<T>(false)
+    }
+
+    fn size_of(src: &View<B, T>) -> WriteResult<usize> {
+        Ok(src.as_bytes().len())
+    }
+
+    fn write<W: Writer>(writer: &mut W, src: &View<B, T>) -> WriteResult<()> {
+        let bytes = src.as_bytes();
+        see_bytes(bytes);
+        writer.write(bytes)?;
+        Ok(())
+    }
+
+    ghost write_laws = { form_write_laws T.byte_form (λ v. value_seen v) false 8 };
+}
+
+/// The forms that it views, all at once.
+impl<B: Held, T: ZeroCopy> ToItems<Pod<T>> for SliceView<B, T> {
+    ghost listed = { λ v. values_seen v };
+
+    ghost sound = { λ v. Unit {0} };
+
+    fn count(&self) -> usize {
+        self.len()
+    }
+
+    fn add_sizes(&self, before: usize) -> WriteResult<usize> {
+        match before.checked_add(self.as_bytes().len()) {
+            Some(sum) => Ok(sum),
+            None => Err(write_length_encoding_overflow("usize::MAX")),
+        }
+    }
+
+    fn write_to<W: Writer>(&self, writer: &mut W) -> WriteResult<()> {
+        let bytes = self.as_bytes();
+        see_bytes(bytes);
+        writer.write(bytes)?;
+        Ok(())
+    }
+}
+
+/// A `SliceRef` is written as the list of the forms that it views.
+impl<B: SharedBytes, T: ZeroCopy> SchemaWrite for SliceView<B, T> {
+    type Src = SliceView<B, T>;
+
+    ghost Value = { List T };
+
+    ghost seen = { λ v. values_seen v };
+
+    ghost proper = { λ v. Each T.proper (values_seen v) };
+
+    ghost writing = { forms_write T.proper T.size T.form };
+
+    ghost in_one_piece = { is_static (form_meta T.size true) };
+
+    fn type_meta() -> TypeMeta {
+        TypeMeta::Dynamic
+    }
+
+    fn size_of(src: &SliceView<B, T>) -> WriteResult<usize> {
+        size_of_list::<BincodeLen<18446744073709551615>, Pod<T>, SliceView<B, T>, 16>(src)
+    }
+
+    fn write<W: Writer>(writer: &mut W, src: &SliceView<B, T>) -> WriteResult<()> {
+        write_list::<BincodeLen<18446744073709551615>, Pod<T>, SliceView<B, T>, W, 16>(writer, src)
+    }
+
+    ghost write_laws = { lent_write_laws (λ v. values_seen v) T.proper
+        (counted_write T.proper T.size T.form) (form_write_laws T.byte_form (λ v. v) true (max T.size 1)) };
+}
