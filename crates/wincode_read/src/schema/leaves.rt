@@ -1,4 +1,5 @@
 //! Schemas without parts.
+ghost use Rattle.std.proofs.Common.{lit≤};
 ghost use Rattle.std.specs.Int.{w8, w16, w32, w64, w128};
 ghost use Rattle.std.specs.Prelude.{ℕ, ℤ, ◌<◌, ◌≤◌, ◌^◌, FitsSigned, Bool, true, false, refl};
 ghost use Rattle.wincode_base.specs.LeafLaws.{bool_read_laws, unit_read_laws, number_read_laws, signed_read_laws};

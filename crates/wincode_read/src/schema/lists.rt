@@ -5,6 +5,7 @@
 //! the length; where an item is refused, behind all items. Such a list is written through one window of
 //! the whole: where the room is less, nothing is written. A size past `usize::MAX` is
 //! `LengthEncodingOverflow`. Other items are read and written one after another.
+ghost use Rattle.std.proofs.Common.{lit≤};
 ghost use Rattle.std.specs.Prelude.{List, map};
 ghost use Rattle.wincode_io.specs.Joins.{Each};
 ghost use Rattle.wincode_base.specs.LengthLaws.{bincode_laws};

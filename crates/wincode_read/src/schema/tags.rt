@@ -1,4 +1,5 @@
 //! Schemas of a tag and then what it names.
+ghost use Rattle.std.proofs.Common.{lit≤};
 ghost use Rattle.std.specs.Option.{option_map};
 ghost use Rattle.std.specs.Prelude.{Option, Result, IfOk, IfErr};
 ghost use Rattle.std.specs.Result.{result_map_both};

@@ -1,6 +1,7 @@
 //! Schemas of characters, of texts and of references.
+ghost use Rattle.std.proofs.Common.{lit≤};
 ghost use Rattle.std.specs.Char.{IsScalar};
-ghost use Rattle.std.specs.Prelude.{◌≡◌, ℕ, ◌<◌, true, false, List, IsUtf8, string_bytes, IfOk, IfErr, OnOk, OnErr};
+ghost use Rattle.std.specs.Prelude.{⊤, ◌≡◌, ℕ, ◌<◌, true, false, List, IsUtf8, string_bytes, IfOk, IfErr, OnOk, OnErr};
 ghost use Rattle.wincode_io.specs.Readers.{Stays, Arrays, IsPeeked};
 ghost use Rattle.wincode_base.specs.Outcomes.{Gives, Puts, Refuses, IsDenied};
 ghost use Rattle.wincode_base.specs.Text.{char_read, announced, IsCharRefused, text_read, IsTextBody, IsTextBodyRefused, IsTextRefused, IsUnlending};

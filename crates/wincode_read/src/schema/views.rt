@@ -7,6 +7,7 @@
 //! it is `ReadSizeLimit` of their size, where they aren't lent `UnsupportedZeroCopy`, where their size is
 //! past `usize::MAX` `LengthEncodingOverflow`; then the reader stands behind the number. What is lent
 //! shared is written too, forms behind their number through one window of the whole.
+ghost use Rattle.std.proofs.Common.{lit≤};
 ghost use Rattle.std.specs.Prelude.{◌≡◌, ℕ, ◌<◌, ◌^◌, List, false, true, IfOk, IfErr, OnOk, OnErr, max};
 ghost use Rattle.wincode_io.specs.Joins.{Each};
 ghost use Rattle.wincode_io.specs.Readers.{shared, for_writing};
