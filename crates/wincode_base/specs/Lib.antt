@@ -33,3 +33,4 @@ pub mod KeyLaws
 pub mod Views
 pub mod ViewLaws
 pub mod AsForms
+pub mod JoinedSizes

@@ -1,6 +1,7 @@
 //! The size of a whole, from what is known of its parts.
 ghost use Rattle.std.specs.Prelude.{◌≡◌, ◌+◌, ◌^◌, ◌≤◌, false, IfOk, IfErr, true, ◌<◌};
 ghost use Rattle.wincode_base.specs.Arrays.{times_meta};
+ghost use Rattle.wincode_base.specs.JoinedSizes.{IsSum, IsSumRefused};
 ghost use Rattle.wincode_base.specs.Outcomes.{IsOverflow};
 ghost use Rattle.wincode_base.specs.Pairs.{pair_meta};
 ghost use Rattle.wincode_base.specs.Sizes.{item_size, pair_size, run_size, behind_size};
@@ -124,6 +125,15 @@ pub fn add_size(first: usize, second: usize) -> WriteResult<usize>
         Some(size) => Ok(size),
         None => Err(write_length_encoding_overflow("usize::MAX")),
     }
+}
+
+/// The size of two parts, one after the other, of whose sizes either may be refused: the refusal of the first
+/// that is. A caller without a branch of its own is checked in less than half of the time.
+pub fn joined_size(first: WriteResult<usize>, second: WriteResult<usize>) -> WriteResult<usize>
+    ensures ok { IfOk result (IsSum first second) }
+    ensures err { IfErr result (IsSumRefused first second) }
+{
+    add_size(first?, second?)
 }
 
 /// The size of a result with such a tag, whose sides have these sizes.

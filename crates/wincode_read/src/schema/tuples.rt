@@ -4,13 +4,15 @@
 //! Reading: fewer bytes are `Io(ReadSizeLimit)` of the sum, and stay; where a member is refused, the bytes of
 //! the whole tuple are gone. Writing: less room is `Io(WriteSizeLimit)` of the sum, and nothing is written.
 //! Other tuples go member by member, and a refusal leaves what the members before it took or wrote.
+ghost use Rattle.std.specs.Prelude.{◌≡◌, IfErr, OnErr, OnOk};
 ghost use Rattle.wincode_base.specs.InWindow.{IsStaticRefused};
+ghost use Rattle.wincode_base.specs.Outcomes.{Puts, Refuses};
 ghost use Rattle.wincode_base.specs.PairLaws.{pair_read_laws};
 ghost use Rattle.wincode_base.specs.Pairs.{pair_read, IsPairRefused};
 
 mod longer;
 
-use crate::schema::in_window::get_in_window;
+use crate::schema::in_window::{get_in_window, read_in_window};
 use crate::schema::{SchemaGet, SchemaRead};
 use std::alloc::Global;
 use wincode_base::error::ReadResult;
@@ -18,6 +20,30 @@ use wincode_base::meta::TypeMeta;
 use wincode_base::parts::{Members2, Members3, Members4, Members5, Members6, Members7, Members8};
 use wincode_base::sizes::joined_meta;
 use wincode_io::{Lending, Reader};
+
+/// What is made of its members, given as pairs in pairs.
+trait FromPairs<P> {
+    // The pairs.
+    ghost pairs: { Self → P };
+
+    fn from_pairs(from: P) -> Self
+        ensures { pairs result ≡ from };
+}
+
+/// As `read_in_window`, for what is made of what `T` reads.
+fn read_pairs<L: Lending, T: SchemaRead<L>, D: FromPairs<T::Dst> + Drop, R: Reader<L>>(
+    alloc: Global,
+    reader: &mut R,
+    dst: &mut Option<D>,
+) -> ReadResult<()>
+    ensures ok { OnOk result (Puts T.reading.reads (λ d. T.seen (D.pairs d)) (R.state reader.old) (R.state reader.new) dst.new) }
+    ensures err { IfErr result (Refuses T.reading.reads T.reading.asks T.reading.sparing (R.state reader.old) (R.state reader.new)) }
+    ensures placed { IfErr result (IsStaticRefused T.reading.meta T.refusal (R.state reader.old) (R.state reader.new)) }
+    ensures same { OnErr result (dst.new ≡ dst.old) }
+{
+    *dst = Some(D::from_pairs(get_in_window::<L, T, R>(alloc, reader)?));
+    Ok(())
+}
 
 impl<L: Lending, A: SchemaRead<L>, B: SchemaRead<L>> SchemaRead<L> for Members2<A, B> {
     type Dst = (A::Dst, B::Dst);
@@ -80,12 +106,19 @@ impl<L: Lending, A: SchemaRead<L>, B: SchemaRead<L>> SchemaRead<L> for (A, B) {
         reader: &mut R,
         dst: &mut Option<Self::Dst>,
     ) -> ReadResult<()> {
-        let (a, b) = get_in_window::<L, Members2<A, B>, R>(alloc, reader)?;
-        *dst = Some((a, b));
-        Ok(())
+        read_in_window::<L, Members2<A, B>, R>(alloc, reader, dst)
     }
 
     ghost read_laws = { pair_read_laws A.read_laws B.read_laws };
+}
+
+impl<A, B, C> FromPairs<(A, (B, C))> for (A, B, C) {
+    ghost pairs = { λ t. (t.0, (t.1, t.2)) };
+
+    fn from_pairs(from: (A, (B, C))) -> (A, B, C) {
+        let (a, (b, c)) = from;
+        (a, b, c)
+    }
 }
 
 impl<L: Lending, A: SchemaRead<L>, B: SchemaRead<L>, C: SchemaRead<L>> SchemaRead<L> for (A, B, C) {
@@ -114,12 +147,19 @@ impl<L: Lending, A: SchemaRead<L>, B: SchemaRead<L>, C: SchemaRead<L>> SchemaRea
         reader: &mut R,
         dst: &mut Option<Self::Dst>,
     ) -> ReadResult<()> {
-        let (a, (b, c)) = get_in_window::<L, Members3<A, B, C>, R>(alloc, reader)?;
-        *dst = Some((a, b, c));
-        Ok(())
+        read_pairs::<L, Members3<A, B, C>, Self::Dst, R>(alloc, reader, dst)
     }
 
     ghost read_laws = { pair_read_laws A.read_laws (pair_read_laws B.read_laws C.read_laws) };
+}
+
+impl<A, B, C, D> FromPairs<(A, (B, (C, D)))> for (A, B, C, D) {
+    ghost pairs = { λ t. (t.0, (t.1, (t.2, t.3))) };
+
+    fn from_pairs(from: (A, (B, (C, D)))) -> (A, B, C, D) {
+        let (a, (b, (c, d))) = from;
+        (a, b, c, d)
+    }
 }
 
 impl<L: Lending, A: SchemaRead<L>, B: SchemaRead<L>, C: SchemaRead<L>, D: SchemaRead<L>> SchemaRead<
@@ -150,13 +190,20 @@ impl<L: Lending, A: SchemaRead<L>, B: SchemaRead<L>, C: SchemaRead<L>, D: Schema
         reader: &mut R,
         dst: &mut Option<Self::Dst>,
     ) -> ReadResult<()> {
-        let (a, (b, (c, d))) = get_in_window::<L, Members4<A, B, C, D>, R>(alloc, reader)?;
-        *dst = Some((a, b, c, d));
-        Ok(())
+        read_pairs::<L, Members4<A, B, C, D>, Self::Dst, R>(alloc, reader, dst)
     }
 
     ghost read_laws = { pair_read_laws A.read_laws (pair_read_laws B.read_laws (pair_read_laws C.read_laws
         D.read_laws)) };
+}
+
+impl<A, B, C, D, E> FromPairs<(A, (B, (C, (D, E))))> for (A, B, C, D, E) {
+    ghost pairs = { λ t. (t.0, (t.1, (t.2, (t.3, t.4)))) };
+
+    fn from_pairs(from: (A, (B, (C, (D, E))))) -> (A, B, C, D, E) {
+        let (a, (b, (c, (d, e)))) = from;
+        (a, b, c, d, e)
+    }
 }
 
 impl<
@@ -192,13 +239,20 @@ impl<
         reader: &mut R,
         dst: &mut Option<Self::Dst>,
     ) -> ReadResult<()> {
-        let (a, (b, (c, (d, e)))) = get_in_window::<L, Members5<A, B, C, D, E>, R>(alloc, reader)?;
-        *dst = Some((a, b, c, d, e));
-        Ok(())
+        read_pairs::<L, Members5<A, B, C, D, E>, Self::Dst, R>(alloc, reader, dst)
     }
 
     ghost read_laws = { pair_read_laws A.read_laws (pair_read_laws B.read_laws (pair_read_laws C.read_laws
         (pair_read_laws D.read_laws E.read_laws))) };
+}
+
+impl<A, B, C, D, E, F> FromPairs<(A, (B, (C, (D, (E, F)))))> for (A, B, C, D, E, F) {
+    ghost pairs = { λ t. (t.0, (t.1, (t.2, (t.3, (t.4, t.5))))) };
+
+    fn from_pairs(from: (A, (B, (C, (D, (E, F)))))) -> (A, B, C, D, E, F) {
+        let (a, (b, (c, (d, (e, f))))) = from;
+        (a, b, c, d, e, f)
+    }
 }
 
 impl<
@@ -238,15 +292,20 @@ impl<
         reader: &mut R,
         dst: &mut Option<Self::Dst>,
     ) -> ReadResult<()> {
-        let (a, (b, (c, (d, (e, f))))) = get_in_window::<L, Members6<A, B, C, D, E, F>, R>(
-            alloc, reader,
-        )?;
-        *dst = Some((a, b, c, d, e, f));
-        Ok(())
+        read_pairs::<L, Members6<A, B, C, D, E, F>, Self::Dst, R>(alloc, reader, dst)
     }
 
     ghost read_laws = { pair_read_laws A.read_laws (pair_read_laws B.read_laws (pair_read_laws C.read_laws
         (pair_read_laws D.read_laws (pair_read_laws E.read_laws F.read_laws)))) };
+}
+
+impl<A, B, C, D, E, F, G> FromPairs<(A, (B, (C, (D, (E, (F, G))))))> for (A, B, C, D, E, F, G) {
+    ghost pairs = { λ t. (t.0, (t.1, (t.2, (t.3, (t.4, (t.5, t.6)))))) };
+
+    fn from_pairs(from: (A, (B, (C, (D, (E, (F, G))))))) -> (A, B, C, D, E, F, G) {
+        let (a, (b, (c, (d, (e, (f, g)))))) = from;
+        (a, b, c, d, e, f, g)
+    }
 }
 
 impl<
@@ -287,15 +346,21 @@ impl<
         reader: &mut R,
         dst: &mut Option<Self::Dst>,
     ) -> ReadResult<()> {
-        let (a, (b, (c, (d, (e, (f, g)))))) = get_in_window::<L, Members7<A, B, C, D, E, F, G>, R>(
-            alloc, reader,
-        )?;
-        *dst = Some((a, b, c, d, e, f, g));
-        Ok(())
+        read_pairs::<L, Members7<A, B, C, D, E, F, G>, Self::Dst, R>(alloc, reader, dst)
     }
 
     ghost read_laws = { pair_read_laws A.read_laws (pair_read_laws B.read_laws (pair_read_laws C.read_laws
         (pair_read_laws D.read_laws (pair_read_laws E.read_laws (pair_read_laws F.read_laws G.read_laws))))) };
+}
+
+impl<A, B, C, D, E, F, G, H> FromPairs<(A, (B, (C, (D, (E, (F, (G, H)))))))>
+    for (A, B, C, D, E, F, G, H) {
+    ghost pairs = { λ t. (t.0, (t.1, (t.2, (t.3, (t.4, (t.5, (t.6, t.7))))))) };
+
+    fn from_pairs(from: (A, (B, (C, (D, (E, (F, (G, H)))))))) -> (A, B, C, D, E, F, G, H) {
+        let (a, (b, (c, (d, (e, (f, (g, h))))))) = from;
+        (a, b, c, d, e, f, g, h)
+    }
 }
 
 impl<
@@ -346,13 +411,7 @@ impl<
         reader: &mut R,
         dst: &mut Option<Self::Dst>,
     ) -> ReadResult<()> {
-        let (a, (b, (c, (d, (e, (f, (g, h))))))) = get_in_window::<
-            L,
-            Members8<A, B, C, D, E, F, G, H>,
-            R,
-        >(alloc, reader)?;
-        *dst = Some((a, b, c, d, e, f, g, h));
-        Ok(())
+        read_pairs::<L, Members8<A, B, C, D, E, F, G, H>, Self::Dst, R>(alloc, reader, dst)
     }
 
     ghost read_laws = { pair_read_laws A.read_laws (pair_read_laws B.read_laws (pair_read_laws C.read_laws

@@ -23,7 +23,7 @@ use wincode_base::meta::TypeMeta;
 use wincode_base::parts::{
     Member, Members2, Members3, Members4, Members5, Members6, Members7, Members8,
 };
-use wincode_base::sizes::{add_size, joined_meta};
+use wincode_base::sizes::{joined_meta, joined_size};
 use wincode_io::Writer;
 
 impl<A: SchemaWrite, B: SchemaWrite> SchemaWrite for Members2<A, B> {
@@ -44,7 +44,7 @@ impl<A: SchemaWrite, B: SchemaWrite> SchemaWrite for Members2<A, B> {
     }
 
     fn size_of(src: &(A::Src, B::Src)) -> WriteResult<usize> {
-        add_size(A::size_of(&src.0)?, B::size_of(&src.1)?)
+        joined_size(A::size_of(&src.0), B::size_of(&src.1))
     }
 
     fn write<W: Writer>(writer: &mut W, src: &(A::Src, B::Src)) -> WriteResult<()> {
@@ -102,7 +102,7 @@ pub fn size_of_members_2<A: SchemaWrite, B: SchemaWrite>(
     ensures err { let tuple = ⟦<(A, B) as SchemaWrite>⟧ in IfErr result
         (IsSizeRefused tuple.writing (tuple.seen (a.now, b.now))) }
 {
-    add_size(A::size_of(a)?, B::size_of(b)?)
+    joined_size(A::size_of(a), B::size_of(b))
 }
 
 /// Writes 2 members through one window where all have one size.
@@ -177,7 +177,7 @@ pub fn size_of_members_3<A: SchemaWrite, B: SchemaWrite, C: SchemaWrite>(
     ensures err { let tuple = ⟦<(A, B, C) as SchemaWrite>⟧ in IfErr result
         (IsSizeRefused tuple.writing (tuple.seen (a.now, b.now, c.now))) }
 {
-    add_size(A::size_of(a)?, size_of_members_2::<B, C>(b, c)?)
+    joined_size(A::size_of(a), size_of_members_2::<B, C>(b, c))
 }
 
 /// Writes 3 members through one window where all have one size.
@@ -255,7 +255,7 @@ pub fn size_of_members_4<A: SchemaWrite, B: SchemaWrite, C: SchemaWrite, D: Sche
     ensures err { let tuple = ⟦<(A, B, C, D) as SchemaWrite>⟧ in IfErr result
         (IsSizeRefused tuple.writing (tuple.seen (a.now, b.now, c.now, d.now))) }
 {
-    add_size(A::size_of(a)?, size_of_members_3::<B, C, D>(b, c, d)?)
+    joined_size(A::size_of(a), size_of_members_3::<B, C, D>(b, c, d))
 }
 
 /// Writes 4 members through one window where all have one size.
@@ -335,7 +335,7 @@ pub fn size_of_members_5<
     ensures err { let tuple = ⟦<(A, B, C, D, E) as SchemaWrite>⟧ in IfErr result
         (IsSizeRefused tuple.writing (tuple.seen (a.now, b.now, c.now, d.now, e.now))) }
 {
-    add_size(A::size_of(a)?, size_of_members_4::<B, C, D, E>(b, c, d, e)?)
+    joined_size(A::size_of(a), size_of_members_4::<B, C, D, E>(b, c, d, e))
 }
 
 /// Writes 5 members through one window where all have one size.
@@ -425,9 +425,9 @@ pub fn size_of_members_6<
     ensures err { let tuple = ⟦<(A, B, C, D, E, F) as SchemaWrite>⟧ in IfErr result
         (IsSizeRefused tuple.writing (tuple.seen (a.now, b.now, c.now, d.now, e.now, f.now))) }
 {
-    add_size(
-        A::size_of(a)?,
-        size_of_members_5::<B, C, D, E, F>(b, c, d, e, f)?,
+    joined_size(
+        A::size_of(a),
+        size_of_members_5::<B, C, D, E, F>(b, c, d, e, f),
     )
 }
 
@@ -549,9 +549,9 @@ pub fn size_of_members_7<
     ensures err { let tuple = ⟦<(A, B, C, D, E, F, G) as SchemaWrite>⟧ in IfErr result
         (IsSizeRefused tuple.writing (tuple.seen (a.now, b.now, c.now, d.now, e.now, f.now, g.now))) }
 {
-    add_size(
-        A::size_of(a)?,
-        size_of_members_6::<B, C, D, E, F, G>(b, c, d, e, f, g)?,
+    joined_size(
+        A::size_of(a),
+        size_of_members_6::<B, C, D, E, F, G>(b, c, d, e, f, g),
     )
 }
 
@@ -693,9 +693,9 @@ pub fn size_of_members_8<
     ensures err { let tuple = ⟦<(A, B, C, D, E, F, G, H) as SchemaWrite>⟧ in IfErr result
         (IsSizeRefused tuple.writing (tuple.seen (a.now, b.now, c.now, d.now, e.now, f.now, g.now, h.now))) }
 {
-    add_size(
-        A::size_of(a)?,
-        size_of_members_7::<B, C, D, E, F, G, H>(b, c, d, e, f, g, h)?,
+    joined_size(
+        A::size_of(a),
+        size_of_members_7::<B, C, D, E, F, G, H>(b, c, d, e, f, g, h),
     )
 }
 

@@ -3,13 +3,23 @@ ghost use Rattle.wincode_base.specs.InWindow.{IsStaticRefused};
 ghost use Rattle.wincode_base.specs.PairLaws.{pair_read_laws};
 
 use crate::schema::SchemaRead;
-use crate::schema::in_window::get_in_window;
+use crate::schema::tuples::{FromPairs, read_pairs};
 use std::alloc::Global;
 use wincode_base::error::ReadResult;
 use wincode_base::meta::TypeMeta;
 use wincode_base::parts::{Members9, Members10, Members11, Members12};
 use wincode_base::sizes::joined_meta;
 use wincode_io::{Lending, Reader};
+
+impl<A, B, C, D, E, F, G, H, I> FromPairs<(A, (B, (C, (D, (E, (F, (G, (H, I))))))))>
+    for (A, B, C, D, E, F, G, H, I) {
+    ghost pairs = { λ t. (t.0, (t.1, (t.2, (t.3, (t.4, (t.5, (t.6, (t.7, t.8)))))))) };
+
+    fn from_pairs(from: (A, (B, (C, (D, (E, (F, (G, (H, I))))))))) -> (A, B, C, D, E, F, G, H, I) {
+        let (a, (b, (c, (d, (e, (f, (g, (h, i)))))))) = from;
+        (a, b, c, d, e, f, g, h, i)
+    }
+}
 
 impl<
     L: Lending,
@@ -63,18 +73,24 @@ impl<
         reader: &mut R,
         dst: &mut Option<Self::Dst>,
     ) -> ReadResult<()> {
-        let (a, (b, (c, (d, (e, (f, (g, (h, i)))))))) = get_in_window::<
-            L,
-            Members9<A, B, C, D, E, F, G, H, I>,
-            R,
-        >(alloc, reader)?;
-        *dst = Some((a, b, c, d, e, f, g, h, i));
-        Ok(())
+        read_pairs::<L, Members9<A, B, C, D, E, F, G, H, I>, Self::Dst, R>(alloc, reader, dst)
     }
 
     ghost read_laws = { pair_read_laws A.read_laws (pair_read_laws B.read_laws (pair_read_laws C.read_laws
         (pair_read_laws D.read_laws (pair_read_laws E.read_laws (pair_read_laws F.read_laws (pair_read_laws
         G.read_laws (pair_read_laws H.read_laws I.read_laws))))))) };
+}
+
+impl<A, B, C, D, E, F, G, H, I, J> FromPairs<(A, (B, (C, (D, (E, (F, (G, (H, (I, J)))))))))>
+    for (A, B, C, D, E, F, G, H, I, J) {
+    ghost pairs = { λ t. (t.0, (t.1, (t.2, (t.3, (t.4, (t.5, (t.6, (t.7, (t.8, t.9))))))))) };
+
+    fn from_pairs(
+        from: (A, (B, (C, (D, (E, (F, (G, (H, (I, J))))))))),
+    ) -> (A, B, C, D, E, F, G, H, I, J) {
+        let (a, (b, (c, (d, (e, (f, (g, (h, (i, j))))))))) = from;
+        (a, b, c, d, e, f, g, h, i, j)
+    }
 }
 
 impl<
@@ -131,18 +147,24 @@ impl<
         reader: &mut R,
         dst: &mut Option<Self::Dst>,
     ) -> ReadResult<()> {
-        let (a, (b, (c, (d, (e, (f, (g, (h, (i, j))))))))) = get_in_window::<
-            L,
-            Members10<A, B, C, D, E, F, G, H, I, J>,
-            R,
-        >(alloc, reader)?;
-        *dst = Some((a, b, c, d, e, f, g, h, i, j));
-        Ok(())
+        read_pairs::<L, Members10<A, B, C, D, E, F, G, H, I, J>, Self::Dst, R>(alloc, reader, dst)
     }
 
     ghost read_laws = { pair_read_laws A.read_laws (pair_read_laws B.read_laws (pair_read_laws C.read_laws
         (pair_read_laws D.read_laws (pair_read_laws E.read_laws (pair_read_laws F.read_laws (pair_read_laws
         G.read_laws (pair_read_laws H.read_laws (pair_read_laws I.read_laws J.read_laws)))))))) };
+}
+
+impl<A, B, C, D, E, F, G, H, I, J, K> FromPairs<(A, (B, (C, (D, (E, (F, (G, (H, (I, (J, K))))))))))>
+    for (A, B, C, D, E, F, G, H, I, J, K) {
+    ghost pairs = { λ t. (t.0, (t.1, (t.2, (t.3, (t.4, (t.5, (t.6, (t.7, (t.8, (t.9, t.10)))))))))) };
+
+    fn from_pairs(
+        from: (A, (B, (C, (D, (E, (F, (G, (H, (I, (J, K)))))))))),
+    ) -> (A, B, C, D, E, F, G, H, I, J, K) {
+        let (a, (b, (c, (d, (e, (f, (g, (h, (i, (j, k)))))))))) = from;
+        (a, b, c, d, e, f, g, h, i, j, k)
+    }
 }
 
 impl<
@@ -201,19 +223,28 @@ impl<
         reader: &mut R,
         dst: &mut Option<Self::Dst>,
     ) -> ReadResult<()> {
-        let (a, (b, (c, (d, (e, (f, (g, (h, (i, (j, k)))))))))) = get_in_window::<
-            L,
-            Members11<A, B, C, D, E, F, G, H, I, J, K>,
-            R,
-        >(alloc, reader)?;
-        *dst = Some((a, b, c, d, e, f, g, h, i, j, k));
-        Ok(())
+        read_pairs::<L, Members11<A, B, C, D, E, F, G, H, I, J, K>, Self::Dst, R>(
+            alloc, reader, dst,
+        )
     }
 
     ghost read_laws = { pair_read_laws A.read_laws (pair_read_laws B.read_laws (pair_read_laws C.read_laws
         (pair_read_laws D.read_laws (pair_read_laws E.read_laws (pair_read_laws F.read_laws (pair_read_laws
         G.read_laws (pair_read_laws H.read_laws (pair_read_laws I.read_laws (pair_read_laws J.read_laws
         K.read_laws))))))))) };
+}
+
+impl<A, B, C, D, E, F, G, H, I, J, K, M> FromPairs<
+    (A, (B, (C, (D, (E, (F, (G, (H, (I, (J, (K, M))))))))))),
+> for (A, B, C, D, E, F, G, H, I, J, K, M) {
+    ghost pairs = { λ t. (t.0, (t.1, (t.2, (t.3, (t.4, (t.5, (t.6, (t.7, (t.8, (t.9, (t.10, t.11))))))))))) };
+
+    fn from_pairs(
+        from: (A, (B, (C, (D, (E, (F, (G, (H, (I, (J, (K, M))))))))))),
+    ) -> (A, B, C, D, E, F, G, H, I, J, K, M) {
+        let (a, (b, (c, (d, (e, (f, (g, (h, (i, (j, (k, m))))))))))) = from;
+        (a, b, c, d, e, f, g, h, i, j, k, m)
+    }
 }
 
 impl<
@@ -274,13 +305,9 @@ impl<
         reader: &mut R,
         dst: &mut Option<Self::Dst>,
     ) -> ReadResult<()> {
-        let (a, (b, (c, (d, (e, (f, (g, (h, (i, (j, (k, m))))))))))) = get_in_window::<
-            L,
-            Members12<A, B, C, D, E, F, G, H, I, J, K, M>,
-            R,
-        >(alloc, reader)?;
-        *dst = Some((a, b, c, d, e, f, g, h, i, j, k, m));
-        Ok(())
+        read_pairs::<L, Members12<A, B, C, D, E, F, G, H, I, J, K, M>, Self::Dst, R>(
+            alloc, reader, dst,
+        )
     }
 
     ghost read_laws = { pair_read_laws A.read_laws (pair_read_laws B.read_laws (pair_read_laws C.read_laws

@@ -10,7 +10,7 @@ use crate::schema::in_window::write_in_window;
 use wincode_base::error::WriteResult;
 use wincode_base::meta::TypeMeta;
 use wincode_base::parts::{Member, Members9, Members10, Members11, Members12};
-use wincode_base::sizes::{add_size, joined_meta};
+use wincode_base::sizes::{joined_meta, joined_size};
 use wincode_io::Writer;
 
 /// The size of 9 members, each seen by a schema of its own: that of a tuple of them.
@@ -40,9 +40,9 @@ pub fn size_of_members_9<
     ensures err { let tuple = ⟦<(A, B, C, D, E, F, G, H, I) as SchemaWrite>⟧ in IfErr result
         (IsSizeRefused tuple.writing (tuple.seen (a.now, b.now, c.now, d.now, e.now, f.now, g.now, h.now, i.now))) }
 {
-    add_size(
-        A::size_of(a)?,
-        size_of_members_8::<B, C, D, E, F, G, H, I>(b, c, d, e, f, g, h, i)?,
+    joined_size(
+        A::size_of(a),
+        size_of_members_8::<B, C, D, E, F, G, H, I>(b, c, d, e, f, g, h, i),
     )
 }
 
@@ -215,9 +215,9 @@ pub fn size_of_members_10<
     ensures err { let tuple = ⟦<(A, B, C, D, E, F, G, H, I, J) as SchemaWrite>⟧ in IfErr result
         (IsSizeRefused tuple.writing (tuple.seen (a.now, b.now, c.now, d.now, e.now, f.now, g.now, h.now, i.now, j.now))) }
 {
-    add_size(
-        A::size_of(a)?,
-        size_of_members_9::<B, C, D, E, F, G, H, I, J>(b, c, d, e, f, g, h, i, j)?,
+    joined_size(
+        A::size_of(a),
+        size_of_members_9::<B, C, D, E, F, G, H, I, J>(b, c, d, e, f, g, h, i, j),
     )
 }
 
@@ -401,9 +401,9 @@ pub fn size_of_members_11<
     ensures err { let tuple = ⟦<(A, B, C, D, E, F, G, H, I, J, K) as SchemaWrite>⟧ in IfErr result
         (IsSizeRefused tuple.writing (tuple.seen (a.now, b.now, c.now, d.now, e.now, f.now, g.now, h.now, i.now, j.now, k.now))) }
 {
-    add_size(
-        A::size_of(a)?,
-        size_of_members_10::<B, C, D, E, F, G, H, I, J, K>(b, c, d, e, f, g, h, i, j, k)?,
+    joined_size(
+        A::size_of(a),
+        size_of_members_10::<B, C, D, E, F, G, H, I, J, K>(b, c, d, e, f, g, h, i, j, k),
     )
 }
 
@@ -629,9 +629,9 @@ pub fn size_of_members_12<
     ensures err { let tuple = ⟦<(A, B, C, D, E, F, G, H, I, J, K, M) as SchemaWrite>⟧ in IfErr result
         (IsSizeRefused tuple.writing (tuple.seen (a.now, b.now, c.now, d.now, e.now, f.now, g.now, h.now, i.now, j.now, k.now, m.now))) }
 {
-    add_size(
-        A::size_of(a)?,
-        size_of_members_11::<B, C, D, E, F, G, H, I, J, K, M>(b, c, d, e, f, g, h, i, j, k, m)?,
+    joined_size(
+        A::size_of(a),
+        size_of_members_11::<B, C, D, E, F, G, H, I, J, K, M>(b, c, d, e, f, g, h, i, j, k, m),
     )
 }
 
