@@ -1,8 +1,7 @@
 //! Schemas of arrays. An array is its items, one after another, with no length before them.
 //!
-//! Where the items have one size, the array is read and written through one window of its size, in bytes:
-//! fewer bytes are `Io(ReadSizeLimit)` of that size, and stay; where an item is refused, the bytes of the
-//! whole array are gone; less room is `Io(WriteSizeLimit)` of that size, and nothing is written.
+//! Where the items have one size, the array is read through one window of its size, in bytes: fewer bytes are
+//! `Io(ReadSizeLimit)` of that size, and stay; where an item is refused, the bytes of the whole array are gone.
 ghost use Rattle.std.specs.Prelude.{◌≡◌, List, map, IfErr, OnOk, OnErr, MatchResult};
 ghost use Rattle.wincode_base.specs.ArrayLaws.{array_read_laws};
 ghost use Rattle.wincode_base.specs.Arrays.{times_meta, IsArray, array_read};

@@ -1,4 +1,4 @@
-//! What is held in memory of its own.
+//! What is held in memory of its own, which is asked for once its value is read.
 ghost use Rattle.wincode_base.specs.Held.{held_read, IsHeldRefused};
 ghost use Rattle.wincode_base.specs.HeldLaws.{held_read_laws};
 

@@ -1,4 +1,4 @@
-//! Numbers below 2 to the 16 in one to three bytes.
+//! Numbers below 2 to the 16 in one to three bytes, as values.
 ghost use Rattle.std.specs.Prelude.{ℕ, ◌<◌, ◌^◌};
 ghost use Rattle.wincode_base.specs.Short.{short_read, IsShortRefused};
 ghost use Rattle.wincode_base.specs.ShortLaws.{short_read_laws};

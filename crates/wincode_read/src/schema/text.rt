@@ -1,4 +1,4 @@
-//! Schemas of characters, of texts and of references.
+//! Schemas of characters and of texts.
 ghost use Rattle.std.proofs.Common.{lit≤};
 ghost use Rattle.std.specs.Char.{IsScalar};
 ghost use Rattle.std.specs.Prelude.{⊤, ◌≡◌, ℕ, ◌<◌, true, false, List, IsUtf8, string_bytes, IfOk, IfErr, OnOk, OnErr};

@@ -1,9 +1,8 @@
 //! Schemas of tuples. A tuple is its members, one after another, with nothing between them.
 //!
-//! Where all members have one size, the tuple is read and written through one window of the sum, in bytes.
-//! Reading: fewer bytes are `Io(ReadSizeLimit)` of the sum, and stay; where a member is refused, the bytes of
-//! the whole tuple are gone. Writing: less room is `Io(WriteSizeLimit)` of the sum, and nothing is written.
-//! Other tuples go member by member, and a refusal leaves what the members before it took or wrote.
+//! Where all members have one size, the tuple is read through one window of the sum, in bytes: fewer bytes are
+//! `Io(ReadSizeLimit)` of the sum, and stay; where a member is refused, the bytes of the whole tuple are gone.
+//! Other tuples go member by member, and a refusal leaves what is behind the members before it.
 ghost use Rattle.std.specs.Prelude.{◌≡◌, IfErr, OnErr, OnOk};
 ghost use Rattle.wincode_base.specs.InWindow.{IsStaticRefused};
 ghost use Rattle.wincode_base.specs.Outcomes.{Puts, Refuses};

@@ -5,8 +5,7 @@
 //! copies nothing and takes no memory, so that no limit stands against the number. The reader has to lend
 //! its bytes, shared, or for writing where the view writes. Where the bytes behind the number are too few
 //! it is `ReadSizeLimit` of their size, where they aren't lent `UnsupportedZeroCopy`, where their size is
-//! past `usize::MAX` `LengthEncodingOverflow`; then the reader stands behind the number. What is lent
-//! shared is written too, forms behind their number through one window of the whole.
+//! past `usize::MAX` `LengthEncodingOverflow`; then the reader stands behind the number.
 ghost use Rattle.std.proofs.Common.{lit≤};
 ghost use Rattle.std.specs.Prelude.{◌≡◌, ℕ, ◌<◌, ◌^◌, List, false, true, IfOk, IfErr, OnOk, OnErr, max};
 ghost use Rattle.wincode_io.specs.Joins.{Each};

@@ -1,4 +1,4 @@
-//! What is held in memory of its own.
+//! What is held in memory of its own: the text of what is held.
 ghost use Rattle.wincode_base.specs.Held.{held_write};
 ghost use Rattle.wincode_base.specs.HeldLaws.{held_write_laws};
 

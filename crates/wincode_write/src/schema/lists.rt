@@ -1,10 +1,7 @@
 //! Schemas of lists, behind a length of eight bytes.
 //!
-//! Items of one size are read through one window of all of them, taken before memory is asked for: where
-//! fewer bytes are left it is `Io(ReadSizeLimit)` of the size of all items, and the reader stands behind
-//! the length; where an item is refused, behind all items. Such a list is written through one window of
-//! the whole: where the room is less, nothing is written. A size past `usize::MAX` is
-//! `LengthEncodingOverflow`. Other items are read and written one after another.
+//! Items of one size are written through one window of the whole: where the room is less, nothing is written.
+//! A size past `usize::MAX` is `LengthEncodingOverflow`. Other items are written one after another.
 ghost use Rattle.std.specs.Prelude.{List, map};
 ghost use Rattle.wincode_io.specs.Joins.{Each};
 ghost use Rattle.wincode_base.specs.InWindow.{is_static};

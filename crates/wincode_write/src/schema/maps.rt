@@ -1,13 +1,8 @@
 //! Schemas of maps, sets and heaps, behind a length of eight bytes.
 //!
-//! A map is read and written as the list of its pairs, a set or a heap as the list of its items, and what
-//! `schema::lists` says of windows, refusals and places holds here; a pair has one size where key and value
-//! have one. Where a value is refused, the reader stands as a list of pairs leaves it.
-//!
-//! Reading takes the pairs or items in any order, and as often as they come: of equal keys the first stays,
-//! with the last value. An insertion that gets no memory is `OutOfMemory`. `BTreeMap` and `BTreeSet` are
-//! written in the order of their keys, the others in the order in which they are gone over, which may be
-//! any. A pair counts as much as its key and its value together against the limit.
+//! A map is written as the list of its pairs, a set or a heap as the list of its items, and what `lists` says of
+//! windows and refusals holds here; a pair has one size where key and value have one. `BTreeMap` and `BTreeSet`
+//! are written in the order of their keys, the others in the order in which they are gone over, which may be any.
 ghost use Rattle.std.specs.BTreeMap.{IsOrdered};
 ghost use Rattle.std.specs.BinaryHeap.{heap_items};
 ghost use Rattle.std.specs.HashMap.{IsUnique};

@@ -1,4 +1,4 @@
-//! Numbers below 2 to the 16 in one to three bytes.
+//! Numbers below 2 to the 16 in one to three bytes, as values.
 ghost use Rattle.std.specs.Prelude.{ℕ, ◌<◌, ◌^◌, true};
 ghost use Rattle.wincode_base.specs.Short.{short_write};
 ghost use Rattle.wincode_base.specs.ShortLaws.{short_write_laws};

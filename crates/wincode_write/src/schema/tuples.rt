@@ -1,9 +1,8 @@
 //! Schemas of tuples. A tuple is its members, one after another, with nothing between them.
 //!
-//! Where all members have one size, the tuple is read and written through one window of the sum, in bytes.
-//! Reading: fewer bytes are `Io(ReadSizeLimit)` of the sum, and stay; where a member is refused, the bytes of
-//! the whole tuple are gone. Writing: less room is `Io(WriteSizeLimit)` of the sum, and nothing is written.
-//! Other tuples go member by member, and a refusal leaves what the members before it took or wrote.
+//! Where all members have one size, the tuple is written through one window of the sum, in bytes: less room is
+//! `Io(WriteSizeLimit)` of the sum, and nothing is written. Other tuples go member by member, and a refusal
+//! leaves what the members before it wrote.
 ghost use Rattle.std.specs.Prelude.{◌≡◌, false, IfOk, IfErr, OnOk};
 ghost use Rattle.wincode_base.specs.InWindow.{is_static};
 ghost use Rattle.wincode_base.specs.Outcomes.{IsSized, Wrote, Unwritten, IsPieceRefused, IsSizeRefused};

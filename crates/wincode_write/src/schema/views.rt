@@ -1,12 +1,5 @@
-//! Schemas of views, and of bytes that the reader lends.
-//!
-//! One form is viewed by `Ref` and `RefMut`. Forms behind their number, which is eight bytes, are viewed by
-//! `SliceRef` and `SliceRefMut`, and bytes behind theirs are lent as `&[u8]` and `&mut [u8]`. Reading
-//! copies nothing and takes no memory, so that no limit stands against the number. The reader has to lend
-//! its bytes, shared, or for writing where the view writes. Where the bytes behind the number are too few
-//! it is `ReadSizeLimit` of their size, where they aren't lent `UnsupportedZeroCopy`, where their size is
-//! past `usize::MAX` `LengthEncodingOverflow`; then the reader stands behind the number. What is lent
-//! shared is written too, forms behind their number through one window of the whole.
+//! Schemas of views that are shared: one form by itself, forms behind their number through one window of the
+//! whole.
 ghost use Rattle.std.specs.Prelude.{◌<◌, List, false, true, max};
 ghost use Rattle.wincode_io.specs.Joins.{Each};
 ghost use Rattle.wincode_io.specs.Viewed.{value_seen, values_seen};
