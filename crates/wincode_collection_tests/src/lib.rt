@@ -1,4 +1,4 @@
-//! Tests of lists, of maps, sets and heaps, and of short lengths: worked rows and vectors.
+//! Tests of lists, maps and heaps by their values in Rust, and of each short length: what rows as data can't say.
 #![tactic(auto)]
 
 #[cfg(test)]

@@ -1,5 +1,5 @@
 //! The calls as methods of schemas, and from a reader: each call once, and that a value takes its own bytes alone.
-use super::{NESTED, nested};
+use crate::values::{NESTED, nested};
 use std::alloc::Global;
 use std::test::Fail;
 use wincode::io::{self, Cursor, Lending, Lifetime, Reader};

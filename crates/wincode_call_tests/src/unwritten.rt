@@ -1,12 +1,13 @@
 //! What can't be written or read is refused by its schema's own error, through each call and what it stands in.
-use crate::refusing::Refusing;
 use std::alloc::Global;
+use std::collections::LinkedList;
 use std::rc::Rc;
 use std::test::Fail;
 use wincode::io::{Lifetime, SliceWriter};
 use wincode::{
     ReadError, SchemaRead, SchemaWrite, WriteError, serialize, serialize_into, serialized_size,
 };
+use wincode_tests::refusing::Refusing;
 
 #[test]
 fn refusals_of_a_schema_pass_through(rt: HostRuntime) -> Result<(), Fail> {
@@ -37,6 +38,7 @@ fn parts_that_refuse(rt: HostRuntime) {
     let alloc = rt.alloc();
     let one = [1u8, 0, 0, 0, 0, 0, 0, 0];
     assert!(rt; is_refused::<Vec<Refusing>>(alloc, one.as_slice()));
+    assert!(rt; is_refused::<LinkedList<Refusing>>(alloc, one.as_slice()));
     assert!(rt; is_refused::<[Refusing; 32]>(alloc, one.as_slice()));
     assert!(rt; is_refused::<Box<Refusing>>(alloc, one.as_slice()));
     assert!(rt; is_refused::<Rc<Refusing>>(alloc, one.as_slice()));

@@ -1,13 +1,12 @@
-//! The calls that most programs make: each kind of input, each length, and the end of a piece of writing.
+//! The calls that most programs make: each kind of input, and the end of a piece of writing.
 ghost use Rattle.std.specs.Prelude.{ℕ, ◌-◌, min, List, length, ◌++◌, true, vec_capacity};
 ghost use Rattle.wincode_io.specs.Writers.{in_memory, byte_limit};
 ghost use Rattle.wincode_io.specs.WriterLaws.{append_laws, min_right};
 
-use super::{NESTED, nested};
-use std::alloc::Global;
+use crate::values::{NESTED, nested};
 use std::test::Fail;
 use wincode::io::{self, WriteResult, Writer, ZeroCopy};
-use wincode::{WriteError, deserialize, serialize, serialize_into};
+use wincode::{WriteError, deserialize, serialize_into};
 
 #[test]
 fn inputs_of_each_kind(rt: HostRuntime) -> Result<(), Fail> {
@@ -23,37 +22,6 @@ fn inputs_of_each_kind(rt: HostRuntime) -> Result<(), Fail> {
     assert!(rt; array == lists);
     let lent: Vec<Vec<u64>> = deserialize(alloc, bytes.as_mut_slice())?;
     assert!(rt; lent == lists);
-    Ok(())
-}
-
-/// The bytes below `n`, as a list.
-fn bytes_below(alloc: Global, n: usize) -> Result<Vec<u8>, Fail> {
-    let mut bytes = Vec::new(alloc);
-    for i in 0..n {
-        bytes.push((i % 256) as u8)?;
-    }
-    Ok(bytes)
-}
-
-#[test]
-fn lists_of_each_length(rt: HostRuntime) -> Result<(), Fail> {
-    let alloc = rt.alloc();
-    for n in 0usize..101 {
-        let list = bytes_below(alloc, n)?;
-        let mut expected = Vec::from_slice(alloc, (n as u64).to_le_bytes().as_slice())?;
-        expected.extend_from_slice(list.as_slice())?;
-        let text = serialize(alloc, &list)?;
-        assert!(rt; text == expected, "{n}");
-        let mut out = vec![in alloc; 7u8]?;
-        serialize_into(&mut out, &list)?;
-        assert_eq!(rt; out.split_first(), Some((&7, expected.as_slice())), "{n}");
-        let back: Vec<u8> = deserialize(alloc, &expected)?;
-        assert!(rt; back == list, "{n}");
-        let ascii = String::from_utf8(list).map_err(|_| Fail::from("ascii"))?;
-        assert!(rt; serialize(alloc, &ascii)? == expected, "{n}");
-        let again: String = deserialize(alloc, &expected)?;
-        assert!(rt; again == ascii, "{n}");
-    }
     Ok(())
 }
 
