@@ -1,4 +1,4 @@
-//! Uses of the readers and writers of `wincode_io`, with what they leave, and tests on fixed bytes.
+//! Uses of the readers and writers of `wincode_io`, with what they leave.
 #![tactic(auto)]
 
 pub mod counted;

@@ -11,15 +11,32 @@ mod shapes;
 
 use super::entry::Entry;
 use super::relaying::relay;
+use std::alloc::Global;
 use std::test::Fail;
 use wincode::io::Lifetime;
-use wincode::serialize;
+use wincode::{OneText, RoundTrip, serialize};
+use wincode_tests::copying::copy_front;
 use wincode_tests::rewriting::rewrite;
+use wincode_tests::rows::outcome;
 
 /// The list of the list of 1 and the empty list.
 const NESTED: [u8; 32] = [
     2, 0, 0, 0, 0, 0, 0, 0, 1, 0, 0, 0, 0, 0, 0, 0, 1, 0, 0, 0, 0, 0, 0, 0, 0, 0, 0, 0, 0, 0, 0, 0,
 ];
+
+/// What copying the value of a schema from the front of the bytes answers, and how many are left.
+fn copied_as<'a, T: RoundTrip<Lifetime<'a>> + OneText<Lifetime<'a>>>(
+    alloc: Global,
+    bytes: &'a [u8],
+) -> Result<String, Fail>
+where
+    T::Src: Drop,
+{
+    let mut reader = bytes;
+    let text = copy_front::<Lifetime<'a>, &'a [u8], T>(alloc, &mut reader);
+    let left = reader.len();
+    outcome(alloc, text, left)
+}
 
 #[test]
 fn relays(rt: HostRuntime) -> Result<(), Fail> {

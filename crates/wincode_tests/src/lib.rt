@@ -1,5 +1,5 @@
 //! Uses of `wincode` by its trait contracts alone: a call for every schema, schemas and a length scheme of
-//! a caller's own; and its tests: worked rows and vectors.
+//! a caller's own, and what tests share.
 #![tactic(auto)]
 
 pub mod block;
@@ -10,5 +10,3 @@ pub mod rewriting;
 pub mod rows;
 pub mod single;
 pub mod square;
-#[cfg(test)]
-mod tests;

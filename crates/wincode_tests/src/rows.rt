@@ -64,27 +64,6 @@ where
     outcome(alloc, text, left)
 }
 
-/// The first row of the table that is not answered as it says, if there is one. A row is a type's name, bytes
-/// as digits, and the outcome of reading them as that type.
-pub fn first_unlike<F: Fn(Global, &str, &[u8]) -> Result<Option<String>, Fail>>(
-    alloc: Global,
-    table: &str,
-    answer: F,
-) -> Result<Option<String>, Fail>
-    requires { F.IsAlwaysCallable answer }
-{
-    for row in table.lines() {
-        let (name, rest) = row.split_once('|').ok_or("a name")?;
-        let (digits, outcome) = rest.split_once('|').ok_or("an outcome")?;
-        let bytes = bytes_of(alloc, digits)?;
-        let found = answer(alloc, name, bytes.as_slice())?.ok_or("a type")?;
-        if found.as_str() != outcome {
-            return Ok(Some(format!(in alloc; "{row}: {found}")?));
-        }
-    }
-    Ok(None)
-}
-
 /// The error as text.
 pub fn printed<E: std::error::Error>(alloc: Global, error: E) -> Result<String, Fail> {
     Ok(format!(in alloc; "{error}")?)

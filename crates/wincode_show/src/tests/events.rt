@@ -1,12 +1,12 @@
 //! Events by two tag schemes, and marks: what they are written as, and how they are read and refused.
+use super::copied_as;
 use crate::event::{Event, EventU8, EventU32, Mark, MarkU8};
 use std::alloc::Global;
 use std::test::Fail;
 use wincode::io::Lifetime;
 use wincode::serde::Serialize;
 use wincode::{SchemaRead, SchemaWrite, TypeMeta};
-use wincode_tests::copying::copy_front;
-use wincode_tests::rows::{bytes_of, outcome};
+use wincode_tests::rows::bytes_of;
 
 /// An event, and its text by one byte and by four.
 fn events(alloc: Global) -> Result<[(Event, &'static str, &'static str); 3], Fail> {
@@ -96,24 +96,21 @@ const ROWS: [(&str, &str, &str); 16] = [
 ];
 
 /// What copying the front of the bytes answers.
-fn copied(alloc: Global, name: &str, digits: &str) -> Result<String, Fail> {
-    let bytes = bytes_of(alloc, digits)?;
-    let mut reader = bytes.as_slice();
-    let text = match name {
-        "EventU8" => copy_front::<Lifetime, &[u8], EventU8>(alloc, &mut reader),
-        "EventU32" => copy_front::<Lifetime, &[u8], EventU32>(alloc, &mut reader),
-        "Vec<MarkU8>" => copy_front::<Lifetime, &[u8], Vec<MarkU8>>(alloc, &mut reader),
-        _ => copy_front::<Lifetime, &[u8], Vec<EventU8>>(alloc, &mut reader),
-    };
-    let left = reader.len();
-    outcome(alloc, text, left)
+fn copied(alloc: Global, name: &str, bytes: &[u8]) -> Result<String, Fail> {
+    match name {
+        "EventU8" => copied_as::<EventU8>(alloc, bytes),
+        "EventU32" => copied_as::<EventU32>(alloc, bytes),
+        "Vec<MarkU8>" => copied_as::<Vec<MarkU8>>(alloc, bytes),
+        _ => copied_as::<Vec<EventU8>>(alloc, bytes),
+    }
 }
 
 #[test]
 fn events_and_marks_copied(rt: HostRuntime) -> Result<(), Fail> {
     let alloc = rt.alloc();
     for (name, digits, wanted) in &ROWS {
-        let found = copied(alloc, *name, *digits)?;
+        let bytes = bytes_of(alloc, *digits)?;
+        let found = copied(alloc, *name, bytes.as_slice())?;
         assert_eq!(rt; found.as_str(), *wanted);
     }
     Ok(())

@@ -1,10 +1,10 @@
 //! Messages, and what marks schemas whose values have one text.
+use super::copied_as;
 use crate::message::Message;
 use std::test::Fail;
 use wincode::io::Lifetime;
 use wincode::{SchemaRead, serialize, serialized_size};
-use wincode_tests::copying::copy_front;
-use wincode_tests::rows::{bytes_of, outcome};
+use wincode_tests::rows::bytes_of;
 
 /// The text of number 1 with the tags 2 and 3 and the note `a`.
 const TEXT: [u8; 21] = [
@@ -50,10 +50,7 @@ fn messages_read_and_written(rt: HostRuntime) -> Result<(), Fail> {
     let alloc = rt.alloc();
     for (digits, wanted) in &ROWS {
         let bytes = bytes_of(alloc, *digits)?;
-        let mut reader = bytes.as_slice();
-        let text = copy_front::<Lifetime, &[u8], Message>(alloc, &mut reader);
-        let left = reader.len();
-        let found = outcome(alloc, text, left)?;
+        let found = copied_as::<Message>(alloc, bytes.as_slice())?;
         assert_eq!(rt; found.as_str(), *wanted);
     }
     Ok(())

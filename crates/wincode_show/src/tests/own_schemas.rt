@@ -1,4 +1,5 @@
 //! Structs and an enum by their shape: what they are written as, and that it is copied from a reader as it was read.
+use super::copied_as;
 use crate::change::Change;
 use crate::transfer::{Account, Day, Payment, Transfer};
 use std::alloc::Global;
@@ -60,14 +61,18 @@ fn shapes_written_as_their_parts(rt: HostRuntime) -> Result<(), Fail> {
 }
 
 /// The text of the value of this name in front of the bytes, and how many bytes are left.
-fn copied(alloc: Global, name: &str, digits: &str) -> Result<String, Fail> {
-    let bytes = bytes_of(alloc, digits)?;
-    let mut reader = bytes.as_slice();
-    let text = match name {
-        "Transfer" => copy_shape(alloc, &mut reader),
-        "Day" => copy_front::<wincode::io::Lifetime, &[u8], By<Day>>(alloc, &mut reader),
-        _ => copy_front::<wincode::io::Lifetime, &[u8], By<Change>>(alloc, &mut reader),
-    };
+fn copied(alloc: Global, name: &str, bytes: &[u8]) -> Result<String, Fail> {
+    match name {
+        "Transfer" => transfer_copied(alloc, bytes),
+        "Day" => copied_as::<By<Day>>(alloc, bytes),
+        _ => copied_as::<By<Change>>(alloc, bytes),
+    }
+}
+
+/// So of a transfer.
+fn transfer_copied(alloc: Global, bytes: &[u8]) -> Result<String, Fail> {
+    let mut reader = bytes;
+    let text = copy_shape(alloc, &mut reader);
     let left = reader.len();
     outcome(alloc, text, left)
 }
@@ -87,7 +92,8 @@ fn shapes_copied(rt: HostRuntime) -> Result<(), Fail> {
         ("Change", "01000000010000000000000061"),
     ] {
         let wanted = format!(in alloc; "ok 0 {digits}")?;
-        assert!(rt; copied(alloc, name, digits)? == wanted, "{name}");
+        let bytes = bytes_of(alloc, digits)?;
+        assert!(rt; copied(alloc, name, bytes.as_slice())? == wanted, "{name}");
     }
     for (name, digits, wanted) in [
         ("Change", "0200000009", "err InvalidTagEncoding(2) 1"),
@@ -99,7 +105,8 @@ fn shapes_copied(rt: HostRuntime) -> Result<(), Fail> {
         ),
         ("Transfer", "01", "err Io(ReadSizeLimit(32)) 1"),
     ] {
-        let found = copied(alloc, name, digits)?;
+        let bytes = bytes_of(alloc, digits)?;
+        let found = copied(alloc, name, bytes.as_slice())?;
         assert_eq!(rt; found.as_str(), wanted);
     }
     Ok(())

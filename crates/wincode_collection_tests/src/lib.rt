@@ -1,0 +1,11 @@
+//! Tests of lists, maps and heaps by their values in Rust, and of each short length: what rows as data can't say.
+#![tactic(auto)]
+
+#[cfg(test)]
+mod hostile;
+#[cfg(test)]
+mod lists;
+#[cfg(test)]
+mod maps;
+#[cfg(test)]
+mod short_lengths;

@@ -1,0 +1,99 @@
+//! Lists that rows as data can't say: how they are made, and lengths past their schemes.
+
+use std::collections::{LinkedList, VecDeque};
+use std::test::Fail;
+use wincode::io::Lifetime;
+use wincode::len::{BincodeLen, ShortU16Len};
+use wincode::{SchemaGet, SchemaWrite, WriteError, containers, serialize};
+use wincode_tests::byte_len::ByteLen;
+
+#[test]
+fn lists_past_their_limit_are_written(rt: HostRuntime) -> Result<(), Fail> {
+    let alloc = rt.alloc();
+    type Bytes = containers::Vec<u8, BincodeLen<3>>;
+    let items = Vec::from_slice(alloc, &[1u8, 2, 3, 4])?;
+    let mut text = Vec::new(alloc);
+    <Bytes as SchemaWrite>::write(&mut text, &items)?;
+    assert_eq!(rt;
+        text.as_slice(),
+        [4u8, 0, 0, 0, 0, 0, 0, 0, 1, 2, 3, 4].as_slice()
+    );
+    Ok(())
+}
+
+#[test]
+fn lists_past_u16(rt: HostRuntime) -> Result<(), Fail> {
+    let alloc = rt.alloc();
+    let many = vec![in alloc; 0u8; 65536]?;
+    type Short = containers::Vec<u8, ShortU16Len>;
+    let size = <Short as SchemaWrite>::size_of(&many);
+    assert!(rt; matches!(&size, Err(WriteError::LengthEncodingOverflow("u16::MAX"))));
+    let mut text = Vec::new(alloc);
+    let long = <Short as SchemaWrite>::write(&mut text, &many);
+    assert!(rt; matches!(&long, Err(WriteError::LengthEncodingOverflow("u16::MAX"))));
+    assert!(rt; text.is_empty());
+    Ok(())
+}
+
+#[test]
+fn lists_behind_lengths_of_a_byte(rt: HostRuntime) -> Result<(), Fail> {
+    let alloc = rt.alloc();
+    type Numbers = containers::Vec<u16, ByteLen>;
+    let many = vec![in alloc; 0u16; 256]?;
+    let size = <Numbers as SchemaWrite>::size_of(&many);
+    assert!(rt; matches!(&size, Err(WriteError::Custom("a length past 255"))));
+    let mut text = Vec::new(alloc);
+    let long = <Numbers as SchemaWrite>::write(&mut text, &many);
+    assert!(rt; matches!(&long, Err(WriteError::Custom("a length past 255"))));
+    assert!(rt; text.is_empty());
+    Ok(())
+}
+
+#[test]
+fn lists_written_from_front_to_back(rt: HostRuntime) -> Result<(), Fail> {
+    let alloc = rt.alloc();
+    let mut queue = VecDeque::new(alloc);
+    for item in [1u8, 2, 3] {
+        queue.push_back(item)?;
+    }
+    let first = queue.pop_front();
+    queue.push_back(4)?;
+    assert!(rt; first == Some(1));
+    let due = [3u8, 0, 0, 0, 0, 0, 0, 0, 2, 3, 4];
+    let text = serialize(alloc, &queue)?;
+    assert_eq!(rt; text.as_slice(), due.as_slice());
+    let mut linked = LinkedList::new(alloc);
+    for item in [2u8, 3, 4] {
+        linked.push_back(item)?;
+    }
+    let text = serialize(alloc, &linked)?;
+    assert_eq!(rt; text.as_slice(), due.as_slice());
+    let mut reader = due.as_slice();
+    let back = <LinkedList<u8> as SchemaGet<Lifetime>>::get(alloc, &mut reader)?;
+    assert!(rt; back == linked);
+    let mut sliced = Vec::new(alloc);
+    <&[u8] as SchemaWrite>::write(&mut sliced, &[2u8, 3, 4].as_slice())?;
+    assert_eq!(rt; sliced.as_slice(), due.as_slice());
+    Ok(())
+}
+
+#[test]
+fn a_queue_that_wraps_round(rt: HostRuntime) -> Result<(), Fail> {
+    let alloc = rt.alloc();
+    let mut queue = VecDeque::new(alloc);
+    for item in 0u64..20 {
+        queue.push_back(item)?;
+    }
+    for turn in 0u64..50 {
+        let front = queue.pop_front();
+        assert!(rt; front == Some(turn));
+        queue.push_back(turn + 20)?;
+        let text = serialize(alloc, &queue)?;
+        let mut due = Vec::from_slice(alloc, &20u64.to_le_bytes())?;
+        for item in turn + 1..turn + 21 {
+            due.extend_from_slice(&item.to_le_bytes())?;
+        }
+        assert_eq!(rt; text.as_slice(), due.as_slice());
+    }
+    Ok(())
+}

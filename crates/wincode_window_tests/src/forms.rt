@@ -1,0 +1,259 @@
+//! Byte forms through readers, writers and views, on fixed bytes.
+use std::alloc::Global;
+use std::test::Fail;
+use wincode_io::{
+    Cursor, Lending, Lifetime, ReadError, ReadResult, Reader, SliceRef, SliceRefMut, SliceWriter,
+    TrustedSliceReader, TrustedSliceWriter, WriteError, WriteResult, WriteWindow, Writer, ZeroCopy,
+};
+use wincode_io_tests::counted::{Counted, Finishing};
+use wincode_io_tests::forms::{Address, replace_at, replace_first, replace_whole};
+
+// The forms of 258, 1 and 515 as `u64`, and a byte more.
+const NUMBERS: [u8; 25] = [
+    2, 1, 0, 0, 0, 0, 0, 0, 1, 0, 0, 0, 0, 0, 0, 0, 3, 2, 0, 0, 0, 0, 0, 0, 9,
+];
+
+// What is read from these bytes, where they are what is written for the value.
+fn back<T: ZeroCopy>(alloc: Global, value: T, bytes: &[u8]) -> Result<Option<T>, Fail> {
+    let mut written = Vec::new(alloc);
+    written.write_t(&value)?;
+    let mut read = None;
+    if written.as_slice() == bytes {
+        let mut reader = bytes;
+        Reader::<Lifetime>::copy_into_t(&mut reader, &mut read)?;
+    }
+    Ok(read)
+}
+
+// Whether the reader, over NUMBERS, gives its three numbers, and then refuses a form of two bytes, twice.
+fn gives_numbers<L: Lending, R: Reader<L>>(reader: &mut R) -> ReadResult<bool> {
+    let mut first = None;
+    reader.copy_into_t::<u64>(&mut first)?;
+    let mut others = [0u64; 2];
+    reader.copy_into_slice_t(&mut others)?;
+    let mut one = Some(7u16);
+    let short = matches!(
+        &reader.copy_into_t(&mut one),
+        Err(ReadError::ReadSizeLimit(2))
+    );
+    let mut two = [7u16; 2];
+    let shorter = matches!(
+        &reader.copy_into_slice_t(&mut two),
+        Err(ReadError::ReadSizeLimit(4))
+    );
+    reader.copy_into_slice_t::<u64>(&mut [])?;
+    Ok(
+        first == Some(258)
+            && others == [1, 515]
+            && short
+            && one == Some(7)
+            && shorter
+            && two == [7, 7]
+            && reader.fill_buf(2)? == [9u8].as_slice(),
+    )
+}
+
+// Writes the three numbers, and then nothing.
+fn write_numbers<W: Writer>(writer: &mut W) -> WriteResult<()> {
+    writer.write_t(&258u64)?;
+    writer.write_slice_t(&[1u64, 515])?;
+    writer.write_slice_t::<u64>(&[])
+}
+
+fn refused_size(answer: WriteResult<()>) -> Option<usize> {
+    match answer {
+        Err(WriteError::WriteSizeLimit(n)) => Some(n),
+        _ => None,
+    }
+}
+
+#[test]
+fn numbers_and_arrays_have_forms(rt: HostRuntime) -> Result<(), Fail> {
+    assert_eq!(rt; back(rt.alloc(), 7u8, &[7])?, Some(7));
+    assert_eq!(rt; back(rt.alloc(), -2i8, &[254])?, Some(-2));
+    assert_eq!(rt; back(rt.alloc(), 515u16, &[3, 2])?, Some(515));
+    assert_eq!(rt; back(rt.alloc(), -2i16, &[254, 255])?, Some(-2));
+    assert_eq!(rt; back(rt.alloc(), 515u32, &[3, 2, 0, 0])?, Some(515));
+    assert_eq!(rt; back(rt.alloc(), -2i32, &[254, 255, 255, 255])?, Some(-2));
+    assert_eq!(rt;
+        back(rt.alloc(), 515u64, &[3, 2, 0, 0, 0, 0, 0, 0])?,
+        Some(515)
+    );
+    assert_eq!(rt;
+        back(rt.alloc(), -2i64, &[254, 255, 255, 255, 255, 255, 255, 255])?,
+        Some(-2)
+    );
+    assert_eq!(rt;
+        back(
+            rt.alloc(),
+            1u128 << 64,
+            &[0, 0, 0, 0, 0, 0, 0, 0, 1, 0, 0, 0, 0, 0, 0, 0]
+        )?,
+        Some(1 << 64)
+    );
+    assert_eq!(rt; back(rt.alloc(), -1i128, &[255; 16])?, Some(-1));
+    assert_eq!(rt;
+        back(rt.alloc(), [1u16, 515], &[1, 0, 3, 2])?,
+        Some([1, 515])
+    );
+    assert_eq!(rt;
+        back(rt.alloc(), [[1u8, 2], [3, 4], [5, 6]], &[1, 2, 3, 4, 5, 6])?,
+        Some([[1, 2], [3, 4], [5, 6]])
+    );
+    assert_eq!(rt; back(rt.alloc(), [0u64; 0], &[])?, Some([]));
+    let address = back(rt.alloc(), Address([7; 32]), &[7; 32])?;
+    assert_eq!(rt; address.map(|it| it.0), Some([7; 32]));
+    Ok(())
+}
+
+#[test]
+fn readers_give_forms(rt: HostRuntime) -> Result<(), Fail> {
+    let mut held = NUMBERS;
+    let bytes = NUMBERS;
+    assert!(rt; gives_numbers(&mut bytes.as_slice())?);
+    assert!(rt; gives_numbers(&mut Cursor::new(bytes.as_slice()))?);
+    assert!(rt; gives_numbers(&mut TrustedSliceReader::<Lifetime>::new(bytes.as_slice()))?);
+    let mut reader = bytes.as_slice();
+    assert!(rt; gives_numbers(&mut reader.as_trusted_for(25)?)?);
+    assert!(rt; gives_numbers(&mut held.as_mut_slice())?);
+    Ok(())
+}
+
+#[test]
+fn forms_by_row(rt: HostRuntime) -> Result<(), Fail> {
+    let mut short = [1u8, 2].as_slice();
+    let mut number = Some(7u32);
+    assert!(rt;
+        matches!(
+            &Reader::<Lifetime>::copy_into_t(&mut short, &mut number),
+            Err(ReadError::ReadSizeLimit(4))
+        )
+    );
+    assert_eq!(rt; (short, number), ([1u8, 2].as_slice(), Some(7)));
+    let mut reader = [1u8, 0, 2, 0, 9].as_slice();
+    let mut numbers = [0u16; 2];
+    Reader::<Lifetime>::copy_into_slice_t(&mut reader, &mut numbers)?;
+    assert_eq!(rt; (numbers, reader), ([1, 2], [9u8].as_slice()));
+    let mut vector = Vec::new(rt.alloc());
+    vector.write_slice_t(&[1u16, 515])?;
+    assert_eq!(rt; vector.as_slice(), [1u8, 0, 3, 2].as_slice());
+    Ok(())
+}
+
+#[test]
+fn writers_take_forms(rt: HostRuntime) -> Result<(), Fail> {
+    let want = &NUMBERS[..24];
+    for zeros in [0, 5] {
+        let mut vector = Vec::new(rt.alloc());
+        vector.resize(zeros, 0)?;
+        let mut all = Vec::new(rt.alloc());
+        all.resize(zeros, 0)?;
+        all.extend_from_slice(want)?;
+        write_numbers(&mut vector)?;
+        assert_eq!(rt; vector.as_slice(), all.as_slice());
+        let mut grown = Vec::new(rt.alloc());
+        write_numbers(&mut Cursor::new_at(&mut grown, zeros))?;
+        assert_eq!(rt; grown.as_slice(), all.as_slice());
+    }
+    let mut cursor = Cursor::new(Vec::new(rt.alloc()));
+    write_numbers(&mut cursor)?;
+    assert_eq!(rt; cursor.position(), 24);
+    assert_eq!(rt; cursor.into_inner().as_slice(), want);
+    let mut slice = [0u8; 30];
+    let mut writer = SliceWriter::new(&mut slice);
+    writer.make_room(25)?;
+    let mut window = WriteWindow::new(&mut writer, 25);
+    write_numbers(&mut window)?;
+    assert_eq!(rt; refused_size(window.write_t(&1u16)), Some(2));
+    assert_eq!(rt; refused_size(window.write_slice_t(&[1u16, 2])), Some(4));
+    assert_eq!(rt; writer.written(), want);
+    writer.write_t(&[1u8, 2])?;
+    assert_eq!(rt; (writer.written().len(), writer.room()), (26, 4));
+    let mut slice = [0u8; 25];
+    let mut cursor = Cursor::new_at(slice.as_mut_slice(), 1);
+    write_numbers(&mut cursor)?;
+    assert_eq!(rt; refused_size(cursor.write_t(&1u8)), Some(1));
+    assert_eq!(rt; &slice[1..], want);
+    let mut array = [0u8; 24];
+    write_numbers(&mut Cursor::new(&mut array))?;
+    assert_eq!(rt; array.as_slice(), want);
+    Ok(())
+}
+
+#[test]
+fn other_writers_take_forms(rt: HostRuntime) -> Result<(), Fail> {
+    let want = &NUMBERS[..24];
+    let mut slice = [0u8; 25];
+    let mut place = 1;
+    let mut window = TrustedSliceWriter::new(&mut slice, &mut place, 24);
+    write_numbers(&mut window)?;
+    assert_eq!(rt; refused_size(window.write_t(&1u8)), Some(1));
+    assert_eq!(rt; place, 25);
+    assert_eq!(rt; &slice[1..], want);
+    let mut counted = Counted::new(Vec::new(rt.alloc()), 2);
+    counted.write_t(&258u64)?;
+    counted.write_slice_t(&[1u64, 515])?;
+    assert!(rt; matches!(&counted.write_t(&1u8), Err(WriteError::Io(_))));
+    assert_eq!(rt; (counted.bytes(), counted.failures()), (want, 1));
+    let mut finishing = Finishing::new(Vec::new(rt.alloc()));
+    write_numbers(&mut finishing)?;
+    assert_eq!(rt; finishing.bytes(), want);
+    Ok(())
+}
+
+#[test]
+fn views_give_and_set(rt: HostRuntime) -> Result<(), Fail> {
+    let mut bytes = [1u8, 0, 0, 0, 9];
+    let mut view = u32::from_bytes_mut(&mut bytes)?;
+    assert_eq!(rt; view.get(), 1);
+    view.set(258);
+    assert_eq!(rt; view.get(), 258);
+    assert_eq!(rt; bytes, [2u8, 1, 0, 0, 9]);
+    assert_eq!(rt; u32::from_bytes(&bytes)?.get(), 258);
+    assert!(rt;
+        matches!(
+            &u32::from_bytes(&bytes[..3]),
+            Err(ReadError::ReadSizeLimit(4))
+        )
+    );
+    assert!(rt;
+        matches!(
+            &u64::from_bytes_mut(&mut bytes),
+            Err(ReadError::ReadSizeLimit(8))
+        )
+    );
+    let mut forms = [1u8, 0, 2, 0, 3, 0];
+    let mut view = SliceRefMut::<'_, u16>::new(&mut forms, 3);
+    assert_eq!(rt; (view.len(), view.get(1)), (3, 2));
+    view.set(1, 772);
+    assert_eq!(rt; (view.get(0), view.get(1), view.get(2)), (1, 772, 3));
+    assert_eq!(rt; forms, [1u8, 0, 4, 3, 3, 0]);
+    let view = SliceRef::<'_, [u8; 2]>::new(&forms, 3);
+    assert_eq!(rt; (view.len(), view.get(1)), (3, [4u8, 3]));
+    Ok(())
+}
+
+#[test]
+fn forms_are_replaced(rt: HostRuntime) -> Result<(), Fail> {
+    let mut bytes = [1u8; 34];
+    replace_first(&mut bytes, Address([7; 32]))?;
+    let mut want = [7u8; 34];
+    want[32] = 1;
+    want[33] = 1;
+    assert_eq!(rt; bytes, want);
+    let mut short = [1u8; 31];
+    assert!(rt;
+        matches!(
+            &replace_first(&mut short, Address([9; 32])),
+            Err(ReadError::ReadSizeLimit(32))
+        )
+    );
+    assert_eq!(rt; short, [1u8; 31]);
+    let mut forms = [1u8, 0, 2, 0, 3, 0];
+    replace_at(&mut forms, 3, 2, 515u16);
+    assert_eq!(rt; forms, [1u8, 0, 2, 0, 3, 2]);
+    let mut form = [1u8, 0];
+    replace_whole(&mut form, 772u16);
+    assert_eq!(rt; form, [4u8, 3]);
+    Ok(())
+}
