@@ -1,5 +1,5 @@
 -- The sum of two sizes, each of which may be refused.
-use Rattle.std.proofs.Common.{◌≡◌, ◌⊎◌, inl, inr, ℕ, ◌+◌, ◌^◌, ◌≤◌, Result, Ok, Err, subst, sym}
+use Rattle.std.proofs.Common.{◌≡◌, ◌⊎◌, inl, inr, ℕ, ◌+◌, ◌^◌, ◌≤◌, Result, Ok, Err, subst}
 use Rattle.std.specs.Prelude.{IfOk, IfErr}
 use Rattle.wincode_base.specs.Grammar.{WriteGrammar}
 use Rattle.wincode_base.specs.Pairs.{pair_write}
@@ -23,13 +23,13 @@ module _ {V W : Type 0} (g : WriteGrammar V) (h : WriteGrammar W) (v : V) (w : W
   pair_sized first second (Ok n) f s r =
       size_both g h v w r.0 r.1 (subst (λ t. IfOk t (IsSized g v)) r.2 f) (subst (λ t. IfOk t (IsSized h w)) r.3 s) n r.4
 
-  -- and a refusal of the sum is one of both
   refused : (first second : Result ℕ WriteError) (e : WriteError) → IfOk first (IsSized g v) → IfErr first (IsSizeRefused g v) → IfOk second (IsSized h w) → IfErr second (IsSizeRefused h w) → IsSumRefused first second e → IsSizeRefused (pair_write g h) (v, w) e
   refused first second e f f' s s' (inl p) = size_first g h v w e (subst (λ t. IfErr t (IsSizeRefused g v)) p f')
   refused first second e f f' s s' (inr (inl p)) = size_second g h v w e (subst (λ t. IfErr t (IsSizeRefused h w)) p.2 s')
   refused first second e f f' s s' (inr (inr p)) =
       size_over g h v w p.0 p.1 (subst (λ t. IfOk t (IsSized g v)) p.2 f) (subst (λ t. IfOk t (IsSized h w)) p.3 s) e (p.4, p.5)
 
+  -- and a refusal of the sum is one of both
   pub pair_unsized : (first second result : Result ℕ WriteError) → IfOk first (IsSized g v) → IfErr first (IsSizeRefused g v) → IfOk second (IsSized h w) → IfErr second (IsSizeRefused h w) → IfErr result (IsSumRefused first second) → IfErr result (IsSizeRefused (pair_write g h) (v, w))
   pair_unsized first second (Ok n) f f' s s' r = tt
   pair_unsized first second (Err e) f f' s s' r = refused first second e f f' s s' r

@@ -1,6 +1,7 @@
 //! What keys of maps and items of heaps keep beyond their schemas.
 ghost use Rattle.std.specs.Prelude.{refl, string_bytes};
-ghost use Rattle.wincode_base.specs.KeyLaws.{nat_alike, int_alike, bool_alike, text_alike, pair_alike, option_alike, items_alike, nat_told, int_told, bool_told, unit_told, items_told, pair_told, option_told};
+ghost use Rattle.wincode_base.specs.KeyLaws.{nat_alike, int_alike, bool_alike, text_alike, pair_alike, option_alike, items_alike};
+ghost use Rattle.wincode_base.specs.KeyLaws.{nat_told, int_told, bool_told, unit_told, items_told, pair_told, option_told};
 ghost use Rattle.wincode_base.specs.Keys.{IsAlike, IsTold};
 
 use crate::schema::SchemaRead;

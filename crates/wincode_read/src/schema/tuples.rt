@@ -25,6 +25,7 @@ trait FromPairs<P> {
     // The pairs.
     ghost pairs: { Self → P };
 
+    /// The same members, without the pairs.
     fn from_pairs(from: P) -> Self
         ensures { pairs result ≡ from };
 }
