@@ -50,7 +50,7 @@ mod schemas {
         write_members_3, write_members_4, write_members_5, write_members_6, write_members_7,
         write_members_8, write_members_9, write_members_10, write_members_11, write_members_12,
     };
-    pub use wincode::schema::{arrays, boxes, leaves, lists, maps, tags, text, tuples, views};
+    pub use wincode::schema::tuples;
 }
 
 /// Readers and writers, as `wincode` passes them on.
