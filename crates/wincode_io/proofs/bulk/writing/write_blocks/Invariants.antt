@@ -1,4 +1,4 @@
-use Rattle.std.proofs.Common.{◌≡◌, ◌+◌, ◌-◌, ◌*◌, ◌≤◌, take, drop, length}
+use Rattle.std.proofs.Common.{◌≡◌, ◌-◌, ◌*◌, ◌≤◌, take, drop, length}
 use Rattle.std.specs.List.{All, flat_map}
 use Rattle.wincode_io.specs.Writers.{Took}
 use Rattle.wincode_io.proofs.bulk.writing.write_blocks.Given as goal

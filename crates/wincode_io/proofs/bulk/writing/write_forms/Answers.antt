@@ -1,4 +1,4 @@
-use Rattle.std.proofs.Common.{rules, ◌≡◌, ◌∙◌, ap, length, arith}
+use Rattle.std.proofs.Common.{◌∙◌, ap, arith}
 use Rattle.std.specs.List.{flat_map}
 use Rattle.wincode_io.specs.JoinedForms.{length-joined}
 use Rattle.wincode_io.proofs.bulk.writing.write_forms.Goals as goal
