@@ -42,6 +42,7 @@ mod errors {
 
 /// The modules of schemas, and the members of structs.
 mod schemas {
+    pub use wincode::schema::tuples;
     pub use wincode::schema::tuples::{
         Member, Members2, Members3, Members4, Members5, Members6, Members7, Members8,
         size_of_members_2, size_of_members_3, size_of_members_4, size_of_members_5,
@@ -50,7 +51,6 @@ mod schemas {
         write_members_3, write_members_4, write_members_5, write_members_6, write_members_7,
         write_members_8, write_members_9, write_members_10, write_members_11, write_members_12,
     };
-    pub use wincode::schema::tuples;
 }
 
 /// Readers and writers, as `wincode` passes them on.
