@@ -42,13 +42,13 @@ module _ (b : List ℕ) (all : IsBytes b) (long : 8 ≤ length b) (n : ℕ) (is 
     }
 
     -- `k` is t, as the length of a part of the bytes is counted
-    pub edited_in_place : {X : Type 0} {proper : X → Type 0} {form : X → List ℕ} {value : List ℕ → X} → IsByteForm proper s form value
-        → (es : List (ℕ × X)) → All (λ e. e.0 < n) es → All (λ e. proper e.1) es
+    pub edited_in_place : {X : Type 0} {is_valid : X → Type 0} {form : X → List ℕ} {value : List ℕ → X} → IsByteForm is_valid s form value
+        → (es : List (ℕ × X)) → All (λ e. e.0 < n) es → All (λ e. is_valid e.1) es
         → (k : ℕ) → k ≡ t → (forms : List ℕ) → forms ≡ all_edited s (take k (drop 8 b)) (in_places form es) → EditedInPlace s form value b es (put_mid 8 k b forms)
-    edited_in_place {form = form} law es within proper k same forms e = record {
+    edited_in_place {form = form} law es within is_valid k same forms e = record {
       has = has_forms;
       within = within;
       is = ap (λ x. x ++ (forms ++ drop k (drop 8 b))) number_is ∙ ap (λ x. le 8 n ++ (x ++ drop k (drop 8 b))) e
           ∙ ap (λ m. le 8 n ++ (all_edited s (take m (drop 8 b)) (in_places form es) ++ drop m (drop 8 b))) same;
-      values_are = values_all_edited law n (take t (drop 8 b)) es within proper has_forms.size;
+      values_are = values_all_edited law n (take t (drop 8 b)) es within is_valid has_forms.size;
     }

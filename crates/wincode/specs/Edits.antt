@@ -35,12 +35,12 @@ pub record HasCount (bytes : List ℕ) : Type 0 where
 
 -- Why edits behind a number are refused: there are too few bytes for the number, or for the forms; the forms have more
 -- bytes than there can be; or an edit names a place that there isn't.
-abbrev pub IsEditRefused : {X : Type 0} → ℕ → List ℕ → List (ℕ × X) → ReadError → Type 0
-IsEditRefused s old edits (reading.Io (reader.ReadSizeLimit n)) = ((length old < 8) × (n ≡ 8))
+abbrev pub EditRefused : {X : Type 0} → ℕ → List ℕ → List (ℕ × X) → ReadError → Type 0
+EditRefused s old edits (reading.Io (reader.ReadSizeLimit n)) = ((length old < 8) × (n ≡ 8))
     ⊎ ((has : HasCount old) × (length has.more < has.count * s) × (has.count * s < 2 ^ 64) × (n ≡ has.count * s))
-IsEditRefused s old edits (reading.LengthEncodingOverflow t) = (has : HasCount old) × (2 ^ 64 ≤ has.count * s) × (t.now ≡ codes "usize::MAX")
-IsEditRefused s old edits (reading.Custom t) = (has : HasForms s old) × (All (λ e. e.0 < has.count) edits → ⊥) × (t.now ≡ codes "index")
-IsEditRefused s old edits _ = ⊥
+EditRefused s old edits (reading.LengthEncodingOverflow t) = (has : HasCount old) × (2 ^ 64 ≤ has.count * s) × (t.now ≡ codes "usize::MAX")
+EditRefused s old edits (reading.Custom t) = (has : HasForms s old) × (All (λ e. e.0 < has.count) edits → ⊥) × (t.now ≡ codes "index")
+EditRefused s old edits _ = ⊥
 
 -- Each value's form was put over the first s bytes in turn; those behind them are as they were.
 pub record EditedFirst {X : Type 0} (s : ℕ) (form : X → List ℕ) (old : List ℕ) (news : List X) (new : List ℕ) : Type 0 where
@@ -51,5 +51,5 @@ pub record EditedFirst {X : Type 0} (s : ℕ) (form : X → List ℕ) (old : Lis
   pub is : new ≡ all_edited s first (in_first form news) ++ more
 
 -- there are fewer than s bytes, named as at most `usize::MAX`
-abbrev pub IsFirstRefused : ℕ → List ℕ → ReadError → Type 0
-IsFirstRefused s old e = (length old < s) × (e ≡ reading.Io (reader.ReadSizeLimit (min s byte_limit)))
+abbrev pub FirstEditRefused : ℕ → List ℕ → ReadError → Type 0
+FirstEditRefused s old e = (length old < s) × (e ≡ reading.Io (reader.ReadSizeLimit (min s byte_limit)))

@@ -1,12 +1,13 @@
--- The laws of schemas whose values have one text each, and of those that ask for no borrow, from those of their parts.
+-- The laws of schemas whose values have one encoding each, and of those that ask for no borrow, from those of their parts.
 use Rattle.std.proofs.Common.{◌≡◌, ◌∙◌, sym, ap, ℕ, Bool, List, [], ◌∷◌, ◌++◌, length, max, arith, Option, Some, None, Result, Ok, Err}
 use Rattle.std.specs.Int.{Width}
 use Rattle.wincode_io.specs.Joins.{Joined}
 use Rattle.wincode_io.specs.Numbers.{le}
 use Rattle.wincode_io.specs.Writers.{byte_limit}
 use Rattle.wincode_base.specs.Arrays.{array_read}
-use Rattle.wincode_base.specs.Grammar.{ReadGrammar}
-use Rattle.wincode_base.specs.Held.{held_read}
+use Rattle.wincode_base.specs.Grammar.{ReadGrammar, ReadRefusal}
+use Rattle.wincode_base.specs.Boxed.{boxed_read}
+use Rattle.wincode_base.specs.InWindow.{windowed_read}
 use Rattle.wincode_base.specs.Leaves.{number_read, signed_read, bool_read, unit_read}
 use Rattle.wincode_base.specs.Lengths.{Scheme, bincode}
 use Rattle.wincode_base.specs.Lists.{list_read}
@@ -14,10 +15,10 @@ use Rattle.wincode.specs.OneText.{IsOneText}
 use Rattle.wincode_base.specs.Pairs.{pair_read}
 use Rattle.wincode_base.specs.Short.{short_read}
 use Rattle.wincode_base.specs.Tags.{tagged_read, option_tag, OptionReads, option_part_read, option_read, result_tag, SidesRead, sides_read, result_read}
-use Rattle.wincode_base.specs.Text.{char_read, text_read}
+use Rattle.wincode_base.specs.Strings.{char_read, str_read}
 use Rattle.wincode_base.specs.Views.{form_read, lent_read}
 
--- ---- leaves, whose text is a function of the value
+-- ---- leaves, whose encoding is a function of the value
 
 pub number_one_text : (k : ℕ) (any : Bool) → IsOneText (number_read k any)
 number_one_text k any = record { same = λ a b v p q. p.1 ∙ sym q.1 }
@@ -34,8 +35,8 @@ unit_one_text = record { same = λ a b v p q. p ∙ sym q }
 pub char_one_text : IsOneText char_read
 char_one_text = record { same = λ a b v p q. p.1 ∙ sym q.1 }
 
-pub text_one_text : (prealloc asks : ℕ) (sparing : Bool) → IsOneText (text_read prealloc asks sparing)
-text_one_text prealloc asks sparing = record { same = λ a b v p q. p.2 ∙ sym q.2 }
+pub str_one_text : (prealloc borrow : ℕ) (takes_no_memory : Bool) → IsOneText (str_read prealloc borrow takes_no_memory)
+str_one_text prealloc borrow takes_no_memory = record { same = λ a b v p q. p.2 ∙ sym q.2 }
 
 pub short_one_text : IsOneText short_read
 short_one_text = record { same = λ a b v p q. p.1 ∙ sym q.1 }
@@ -48,6 +49,10 @@ joined_same a b x y u w p q e f = p ∙ ap (λ t. t ++ y) e ∙ ap (λ t. u ++ t
 pub pair_one_text : {V W : Type 0} {g : ReadGrammar V} {h : ReadGrammar W} → IsOneText g → IsOneText h → IsOneText (pair_read g h)
 pair_one_text one two = record { same = λ a b v p q. joined_same a b p.0 p.1 q.0 q.1 p.4 q.4 (one.same p.0 q.0 v.0 p.2 q.2) (two.same p.1 q.1 v.1 p.3 q.3) }
 
+-- through a window the encodings are the same
+pub windowed_one_text : {V : Type 0} {g : ReadGrammar V} → IsOneText g → IsOneText (windowed_read g)
+windowed_one_text one = record { same = one.same }
+
 items_same : {V : Type 0} (g : ReadGrammar V) → IsOneText g → (vs : List V) (a b : List ℕ) → Joined (λ v t. g.reads t v) vs a → Joined (λ v t. g.reads t v) vs b → a ≡ b
 items_same g one [] a b p q = p ∙ sym q
 items_same g one (v ∷ vs) a b p q = joined_same a b p.0 p.1 q.0 q.1 p.4 q.4 (one.same p.0 q.0 v p.2 q.2) (items_same g one vs p.1 q.1 p.3 q.3)
@@ -58,25 +63,25 @@ array_one_text n {g = g} one = record { same = λ a b vs p q. items_same g one v
 some_same : {A : Type 0} (o : Option A) (x y : A) → o ≡ Some x → o ≡ Some y → x ≡ y
 some_same o x y p q = let e : Some x ≡ Some y = sym p ∙ q in cc
 
--- a scheme gives each length one text
+-- a scheme gives each length one encoding
 pub list_one_text : {V : Type 0} (s : Scheme) (count : ℕ) {g : ReadGrammar V} → IsOneText g → IsOneText (list_read s count g)
 list_one_text s count {g = g} one = record {
   same = λ a b vs p q.
       let t = p.1 in
       let u = q.1 in
-      joined_same a b t.0 t.1 u.0 u.1 t.4 u.4 (some_same (s.text (length vs)) t.0 u.0 t.2 u.2) (items_same g one vs t.1 u.1 t.3 u.3);
+      joined_same a b t.0 t.1 u.0 u.1 t.4 u.4 (some_same (s.encoding (length vs)) t.0 u.0 t.2 u.2) (items_same g one vs t.1 u.1 t.3 u.3);
 }
 
 -- ---- a tag, and then what it names
 
-pub form_one_text : {X : Type 0} (proper : X → Type 0) (s : ℕ) (form : X → List ℕ) (any : Bool) (prealloc asks : ℕ) → IsOneText (form_read proper s form any prealloc asks)
-form_one_text proper s form any prealloc asks = record { same = λ a b v p q. p.1 ∙ sym q.1 }
+pub form_one_text : {X : Type 0} (is_valid : X → Type 0) (s : ℕ) (form : X → List ℕ) (any : Bool) (prealloc borrow : ℕ) (refusal : ReadRefusal) → IsOneText (form_read is_valid s form any prealloc borrow refusal)
+form_one_text is_valid s form any prealloc borrow refusal = record { same = λ a b v p q. p.1 ∙ sym q.1 }
 
--- a list that is lent has the texts of one that isn't
-pub lent_one_text : {V : Type 0} (asks : ℕ) {g : ReadGrammar V} → IsOneText g → IsOneText (lent_read asks g)
-lent_one_text asks {g = g} one = record { same = (list_one_text (bincode byte_limit) 16 one).same }
+-- a list that is lent has the encodings of one that isn't
+pub lent_one_text : {V : Type 0} (borrow s : ℕ) {g : ReadGrammar V} → IsOneText g → IsOneText (lent_read borrow s g)
+lent_one_text borrow s {g = g} one = record { same = (list_one_text (bincode byte_limit) 16 one).same }
 
-pub tagged_one_text : {V : Type 0} (k : ℕ) (tag : V → ℕ) {part : ReadGrammar V} → IsOneText part → IsOneText (tagged_read k tag part)
+pub tagged_one_text : {V : Type 0} {refusal : ReadRefusal} (k : ℕ) (tag : V → ℕ) {part : ReadGrammar V} → IsOneText part → IsOneText (tagged_read k tag refusal part)
 tagged_one_text k tag one = record { same = λ a b v p q. p.2 ∙ ap (λ t. le k (tag v) ++ t) (one.same p.0 q.0 v p.1 q.1) ∙ sym q.2 }
 
 option_same : {V : Type 0} (g : ReadGrammar V) → IsOneText g → (a b : List ℕ) (o : Option V) → OptionReads g.reads a o → OptionReads g.reads b o → a ≡ b
@@ -100,8 +105,8 @@ result_one_text k {g = g} {h = h} one two = tagged_one_text k result_tag {part =
 
 -- ---- what is held
 
-pub held_one_text : {V : Type 0} {g : ReadGrammar V} → IsOneText g → IsOneText (held_read g)
-held_one_text one = record { same = one.same }
+pub boxed_one_text : {V : Type 0} {g : ReadGrammar V} → IsOneText g → IsOneText (boxed_read g)
+boxed_one_text one = record { same = one.same }
 
 -- ---- no borrow
 

@@ -1,7 +1,7 @@
 //! Schemas of lists behind a length by a scheme of choice, of options and results behind a tag by one, and
 //! of items by themselves.
 //!
-//! What `schema::lists` says of its lists holds here, with the length's text, its limit and its refusals
+//! What `schema::lists` says of its lists holds here, with the length's encoding, its limit and its refusals
 //! those of the scheme. All arguments are written.
 ghost use Rattle.std.specs.Prelude.{◌≡◌, ℕ, Bool, List, map};
 ghost use Rattle.std.specs.BinaryHeap.{heap_items};
@@ -14,11 +14,10 @@ ghost use Rattle.wincode_io.specs.Joins.{Each};
 ghost use Rattle.wincode_base.specs.BackLaws.{heap_reads_back};
 ghost use Rattle.wincode_base.specs.Gathered.{gathered_read, scattered_write};
 ghost use Rattle.wincode_base.specs.GatheredLaws.{bag_read_laws};
-ghost use Rattle.wincode_base.specs.InWindow.{is_static};
-ghost use Rattle.wincode_base.specs.Lists.{list_read, list_write, IsListRefused};
+ghost use Rattle.wincode_base.specs.Lists.{list_read, list_write};
 ghost use Rattle.wincode_base.specs.ListLaws.{list_read_laws, list_write_laws, list_reads_back};
 ghost use Rattle.wincode_base.specs.ScatteredLaws.{scattered_write_laws};
-ghost use Rattle.wincode_base.specs.Sizes.{item_size};
+ghost use Rattle.wincode_base.specs.ItemSizes.{item_size};
 
 mod tagged;
 
@@ -44,13 +43,11 @@ impl<T: SchemaWrite, Len: SeqLen> SchemaWrite for Vec<T, Len> {
 
     ghost Value = { List T.Value };
 
-    ghost seen = { λ v. map T.seen v.items };
+    ghost model = { λ v. map T.model v.items };
 
-    ghost proper = { λ v. Each T.proper v.items };
+    ghost is_valid = { λ v. Each T.is_valid v.items };
 
     ghost writing = { list_write Len.scheme 24 T.writing };
-
-    ghost in_one_piece = { is_static T.writing.meta };
 
     fn type_meta() -> TypeMeta {
         TypeMeta::Dynamic
@@ -64,7 +61,7 @@ impl<T: SchemaWrite, Len: SeqLen> SchemaWrite for Vec<T, Len> {
         write_list::<Len, T, &[T::Src], W, 24>(writer, &src.as_slice())
     }
 
-    ghost write_laws = { list_write_laws Len.scheme 24 (λ v. v.items) T.proper T.seen T.writing T.write_laws };
+    ghost write_laws = { list_write_laws Len.scheme 24 (λ v. v.items) T.is_valid T.model T.writing T.write_laws };
 }
 
 impl<L: Lending, T: SchemaRead<L>, Len: SeqLen> SchemaRead<L> for Vec<T, Len> {
@@ -72,13 +69,11 @@ impl<L: Lending, T: SchemaRead<L>, Len: SeqLen> SchemaRead<L> for Vec<T, Len> {
 
     ghost Value = { List T.Value };
 
-    ghost seen = { λ v. map T.seen v.items };
+    ghost model = { λ v. map T.model v.items };
 
-    ghost proper = { Each T.proper };
+    ghost is_valid = { Each T.is_valid };
 
     ghost reading = { list_read Len.scheme 24 T.reading };
-
-    ghost refusal = { IsListRefused Len.scheme Len.refusal (item_size T.reading.meta) T.reading T.refusal };
 
     fn type_meta() -> TypeMeta {
         TypeMeta::Dynamic
@@ -97,7 +92,7 @@ impl<L: Lending, T: SchemaRead<L>, Len: SeqLen> SchemaRead<L> for Vec<T, Len> {
         Ok(())
     }
 
-    ghost read_laws = { list_read_laws Len.scheme Len.scheme_laws 24 (lit≤ tt) T.proper T.reading T.read_laws };
+    ghost read_laws = { list_read_laws Len.scheme Len.scheme_laws 24 (lit≤ tt) T.is_valid T.reading T.read_laws };
 }
 
 impl<L: Lending, T: RoundTrip<L>, Len: SeqLen> RoundTrip<L> for Vec<T, Len>
@@ -105,7 +100,7 @@ where
     T::Src: Drop,
 {
     ghost reads_back = { list_reads_back Len.scheme Len.scheme_laws 24 (λ v. v.items)
-        T.SchemaWrite.proper T.SchemaWrite.seen T.SchemaWrite.writing T.SchemaRead.seen T.SchemaRead.reading
+        T.SchemaWrite.is_valid T.SchemaWrite.model T.SchemaWrite.writing T.SchemaRead.model T.SchemaRead.reading
         T.reads_back };
 }
 
@@ -117,13 +112,11 @@ impl<T: SchemaWrite, Len: SeqLen> SchemaWrite for VecDeque<T, Len> {
 
     ghost Value = { List T.Value };
 
-    ghost seen = { λ q. map T.seen q.items };
+    ghost model = { λ q. map T.model q.items };
 
-    ghost proper = { λ q. Each T.proper q.items };
+    ghost is_valid = { λ q. Each T.is_valid q.items };
 
     ghost writing = { list_write Len.scheme 24 T.writing };
-
-    ghost in_one_piece = { is_static T.writing.meta };
 
     fn type_meta() -> TypeMeta {
         TypeMeta::Dynamic
@@ -137,7 +130,7 @@ impl<T: SchemaWrite, Len: SeqLen> SchemaWrite for VecDeque<T, Len> {
         write_list::<Len, T, collections::VecDeque<T::Src>, W, 24>(writer, src)
     }
 
-    ghost write_laws = { list_write_laws Len.scheme 24 (λ q. q.items) T.proper T.seen T.writing T.write_laws };
+    ghost write_laws = { list_write_laws Len.scheme 24 (λ q. q.items) T.is_valid T.model T.writing T.write_laws };
 }
 
 impl<L: Lending, T: SchemaRead<L>, Len: SeqLen> SchemaRead<L> for VecDeque<T, Len> {
@@ -145,13 +138,11 @@ impl<L: Lending, T: SchemaRead<L>, Len: SeqLen> SchemaRead<L> for VecDeque<T, Le
 
     ghost Value = { List T.Value };
 
-    ghost seen = { λ q. map T.seen q.items };
+    ghost model = { λ q. map T.model q.items };
 
-    ghost proper = { Each T.proper };
+    ghost is_valid = { Each T.is_valid };
 
     ghost reading = { list_read Len.scheme 24 T.reading };
-
-    ghost refusal = { IsListRefused Len.scheme Len.refusal (item_size T.reading.meta) T.reading T.refusal };
 
     fn type_meta() -> TypeMeta {
         TypeMeta::Dynamic
@@ -170,7 +161,7 @@ impl<L: Lending, T: SchemaRead<L>, Len: SeqLen> SchemaRead<L> for VecDeque<T, Le
         Ok(())
     }
 
-    ghost read_laws = { list_read_laws Len.scheme Len.scheme_laws 24 (lit≤ tt) T.proper T.reading T.read_laws };
+    ghost read_laws = { list_read_laws Len.scheme Len.scheme_laws 24 (lit≤ tt) T.is_valid T.reading T.read_laws };
 }
 
 impl<L: Lending, T: RoundTrip<L>, Len: SeqLen> RoundTrip<L> for VecDeque<T, Len>
@@ -178,7 +169,7 @@ where
     T::Src: Drop,
 {
     ghost reads_back = { list_reads_back Len.scheme Len.scheme_laws 24 (λ q. q.items)
-        T.SchemaWrite.proper T.SchemaWrite.seen T.SchemaWrite.writing T.SchemaRead.seen T.SchemaRead.reading
+        T.SchemaWrite.is_valid T.SchemaWrite.model T.SchemaWrite.writing T.SchemaRead.model T.SchemaRead.reading
         T.reads_back };
 }
 
@@ -190,13 +181,11 @@ impl<T: SchemaWrite, Len: SeqLen> SchemaWrite for BoxedSlice<T, Len> {
 
     ghost Value = { List T.Value };
 
-    ghost seen = { λ b. map T.seen (boxed_slice_items b) };
+    ghost model = { λ b. map T.model (boxed_slice_items b) };
 
-    ghost proper = { λ b. Each T.proper (boxed_slice_items b) };
+    ghost is_valid = { λ b. Each T.is_valid (boxed_slice_items b) };
 
     ghost writing = { list_write Len.scheme 16 T.writing };
-
-    ghost in_one_piece = { is_static T.writing.meta };
 
     fn type_meta() -> TypeMeta {
         TypeMeta::Dynamic
@@ -210,7 +199,7 @@ impl<T: SchemaWrite, Len: SeqLen> SchemaWrite for BoxedSlice<T, Len> {
         write_list::<Len, T, &[T::Src], W, 16>(writer, &src.as_slice())
     }
 
-    ghost write_laws = { list_write_laws Len.scheme 16 (λ b. (boxed_slice_items b)) T.proper T.seen T.writing T.write_laws };
+    ghost write_laws = { list_write_laws Len.scheme 16 (λ b. (boxed_slice_items b)) T.is_valid T.model T.writing T.write_laws };
 }
 
 impl<L: Lending, T: SchemaRead<L>, Len: SeqLen> SchemaRead<L> for BoxedSlice<T, Len> {
@@ -218,13 +207,11 @@ impl<L: Lending, T: SchemaRead<L>, Len: SeqLen> SchemaRead<L> for BoxedSlice<T, 
 
     ghost Value = { List T.Value };
 
-    ghost seen = { λ b. map T.seen (boxed_slice_items b) };
+    ghost model = { λ b. map T.model (boxed_slice_items b) };
 
-    ghost proper = { Each T.proper };
+    ghost is_valid = { Each T.is_valid };
 
     ghost reading = { list_read Len.scheme 16 T.reading };
-
-    ghost refusal = { IsListRefused Len.scheme Len.refusal (item_size T.reading.meta) T.reading T.refusal };
 
     fn type_meta() -> TypeMeta {
         TypeMeta::Dynamic
@@ -243,7 +230,7 @@ impl<L: Lending, T: SchemaRead<L>, Len: SeqLen> SchemaRead<L> for BoxedSlice<T, 
         Ok(())
     }
 
-    ghost read_laws = { list_read_laws Len.scheme Len.scheme_laws 16 (lit≤ tt) T.proper T.reading T.read_laws };
+    ghost read_laws = { list_read_laws Len.scheme Len.scheme_laws 16 (lit≤ tt) T.is_valid T.reading T.read_laws };
 }
 
 impl<L: Lending, T: RoundTrip<L>, Len: SeqLen> RoundTrip<L> for BoxedSlice<T, Len>
@@ -251,7 +238,7 @@ where
     T::Src: Drop,
 {
     ghost reads_back = { list_reads_back Len.scheme Len.scheme_laws 16 (λ b. (boxed_slice_items b))
-        T.SchemaWrite.proper T.SchemaWrite.seen T.SchemaWrite.writing T.SchemaRead.seen T.SchemaRead.reading
+        T.SchemaWrite.is_valid T.SchemaWrite.model T.SchemaWrite.writing T.SchemaRead.model T.SchemaRead.reading
         T.reads_back };
 }
 
@@ -263,13 +250,11 @@ impl<T: SchemaWrite, Len: SeqLen> SchemaWrite for RcSlice<T, Len> {
 
     ghost Value = { List T.Value };
 
-    ghost seen = { λ r. map T.seen (rc_slice_items r) };
+    ghost model = { λ r. map T.model (rc_slice_items r) };
 
-    ghost proper = { λ r. Each T.proper (rc_slice_items r) };
+    ghost is_valid = { λ r. Each T.is_valid (rc_slice_items r) };
 
     ghost writing = { list_write Len.scheme 16 T.writing };
-
-    ghost in_one_piece = { is_static T.writing.meta };
 
     fn type_meta() -> TypeMeta {
         TypeMeta::Dynamic
@@ -283,7 +268,7 @@ impl<T: SchemaWrite, Len: SeqLen> SchemaWrite for RcSlice<T, Len> {
         write_list::<Len, T, &[T::Src], W, 16>(writer, &src.as_slice())
     }
 
-    ghost write_laws = { list_write_laws Len.scheme 16 (λ r. (rc_slice_items r)) T.proper T.seen T.writing T.write_laws };
+    ghost write_laws = { list_write_laws Len.scheme 16 (λ r. (rc_slice_items r)) T.is_valid T.model T.writing T.write_laws };
 }
 
 impl<L: Lending, T: SchemaRead<L>, Len: SeqLen> SchemaRead<L> for RcSlice<T, Len> {
@@ -291,13 +276,11 @@ impl<L: Lending, T: SchemaRead<L>, Len: SeqLen> SchemaRead<L> for RcSlice<T, Len
 
     ghost Value = { List T.Value };
 
-    ghost seen = { λ r. map T.seen (rc_slice_items r) };
+    ghost model = { λ r. map T.model (rc_slice_items r) };
 
-    ghost proper = { Each T.proper };
+    ghost is_valid = { Each T.is_valid };
 
     ghost reading = { list_read Len.scheme 16 T.reading };
-
-    ghost refusal = { IsListRefused Len.scheme Len.refusal (item_size T.reading.meta) T.reading T.refusal };
 
     fn type_meta() -> TypeMeta {
         TypeMeta::Dynamic
@@ -316,7 +299,7 @@ impl<L: Lending, T: SchemaRead<L>, Len: SeqLen> SchemaRead<L> for RcSlice<T, Len
         Ok(())
     }
 
-    ghost read_laws = { list_read_laws Len.scheme Len.scheme_laws 16 (lit≤ tt) T.proper T.reading T.read_laws };
+    ghost read_laws = { list_read_laws Len.scheme Len.scheme_laws 16 (lit≤ tt) T.is_valid T.reading T.read_laws };
 }
 
 impl<L: Lending, T: RoundTrip<L>, Len: SeqLen> RoundTrip<L> for RcSlice<T, Len>
@@ -324,7 +307,7 @@ where
     T::Src: Drop,
 {
     ghost reads_back = { list_reads_back Len.scheme Len.scheme_laws 16 (λ r. (rc_slice_items r))
-        T.SchemaWrite.proper T.SchemaWrite.seen T.SchemaWrite.writing T.SchemaRead.seen T.SchemaRead.reading
+        T.SchemaWrite.is_valid T.SchemaWrite.model T.SchemaWrite.writing T.SchemaRead.model T.SchemaRead.reading
         T.reads_back };
 }
 
@@ -339,13 +322,11 @@ where
 
     ghost Value = { List T.Value };
 
-    ghost seen = { λ h. map T.seen (heap_items h) };
+    ghost model = { λ h. map T.model (heap_items h) };
 
-    ghost proper = { λ h. Each T.proper (heap_items h) };
+    ghost is_valid = { λ h. Each T.is_valid (heap_items h) };
 
     ghost writing = { scattered_write Len.scheme T.writing };
-
-    ghost in_one_piece = { is_static T.writing.meta };
 
     fn type_meta() -> TypeMeta {
         TypeMeta::Dynamic
@@ -370,13 +351,11 @@ where
 
     ghost Value = { (T.Value → Bool) → ℕ };
 
-    ghost seen = { λ h. heap_sees T.seen (heap_items h) };
+    ghost model = { λ h. heap_sees T.model (heap_items h) };
 
-    ghost proper = { λ v. Unit {0} };
+    ghost is_valid = { λ v. Unit {0} };
 
-    ghost reading = { gathered_read T.seen (Made IsPermutation (heap_sees T.seen)) Len.scheme T.reading };
-
-    ghost refusal = { IsListRefused Len.scheme Len.refusal (item_size T.reading.meta) T.reading T.refusal };
+    ghost reading = { gathered_read T.model (Made IsPermutation (heap_sees T.model)) Len.scheme (item_size T.reading.meta) T.reading };
 
     fn type_meta() -> TypeMeta {
         TypeMeta::Dynamic
@@ -395,15 +374,15 @@ where
         Ok(())
     }
 
-    ghost read_laws = { bag_read_laws Len.scheme Len.scheme_laws T.seen T.read_laws };
+    ghost read_laws = { bag_read_laws Len.scheme Len.scheme_laws (item_size T.reading.meta) T.model T.read_laws };
 }
 
 impl<L: Lending, T: RoundTrip<L> + Told<L>, Len: SeqLen> RoundTrip<L> for BinaryHeap<T, Len>
 where
     T::Src: Ord + Drop,
 {
-    ghost reads_back = { heap_reads_back Len.scheme Len.scheme_laws heap_items T.told T.SchemaWrite.proper
-        T.SchemaWrite.seen T.SchemaWrite.writing T.SchemaRead.seen T.SchemaRead.reading T.reads_back };
+    ghost reads_back = { heap_reads_back (item_size T.SchemaRead.reading.meta) Len.scheme Len.scheme_laws heap_items T.told T.SchemaWrite.is_valid
+        T.SchemaWrite.model T.SchemaWrite.writing T.SchemaRead.model T.SchemaRead.reading T.reads_back };
 }
 
 /// An item by itself, which is read and written as `T`.
@@ -414,13 +393,11 @@ impl<T: SchemaWrite> SchemaWrite for Elem<T> {
 
     ghost Value = { T.Value };
 
-    ghost seen = { T.seen };
+    ghost model = { T.model };
 
-    ghost proper = { T.proper };
+    ghost is_valid = { T.is_valid };
 
     ghost writing = { T.writing };
-
-    ghost in_one_piece = { T.in_one_piece };
 
     fn type_meta() -> TypeMeta {
         T::type_meta()
@@ -446,13 +423,11 @@ impl<L: Lending, T: SchemaRead<L>> SchemaRead<L> for Elem<T> {
 
     ghost Value = { T.Value };
 
-    ghost seen = { T.seen };
+    ghost model = { T.model };
 
-    ghost proper = { T.proper };
+    ghost is_valid = { T.is_valid };
 
     ghost reading = { T.reading };
-
-    ghost refusal = { T.refusal };
 
     fn type_meta() -> TypeMeta {
         T::type_meta()

@@ -4,7 +4,7 @@
 ghost use Rattle.std.specs.Prelude.{◌≡◌, ℕ, ◌*◌, ◌<◌, length, IfErr, OnOk, OnErr, IsTrue, ◌↔◌};
 ghost use Rattle.std.specs.List.{All};
 ghost use Rattle.wincode_io.specs.Edits.{all_edited, in_places, in_first};
-ghost use Rattle.wincode.specs.Edits.{EditedInPlace, IsEditRefused, EditedFirst, IsFirstRefused};
+ghost use Rattle.wincode.specs.Edits.{EditedInPlace, EditRefused, EditedFirst, FirstEditRefused};
 
 use crate::io::{self, RefMut, SliceRefMut, ZeroCopy, see_bytes, size_of_form, total_size};
 use wincode_base::error::{ReadError, ReadResult, read_length_encoding_overflow};
@@ -21,7 +21,7 @@ fn edit_forms<T: ZeroCopy>(forms: &mut [u8], n: usize, edits: &[(usize, T)])
     requires sized { length forms.old ≡ n * T.size }
     requires within { All (λ e. e.0 < n) edits.now }
     ensures forms { forms.new ≡ all_edited T.size forms.old (in_places T.form edits.now) }
-    ensures proper { All (λ e. T.proper e.1) edits.now }
+    ensures is_valid { All (λ e. T.is_valid e.1) edits.now }
 {
     let mut view = SliceRefMut::<'_, T>::new(forms, n);
     for (i, value) in edits {
@@ -45,7 +45,7 @@ fn edit_form<T: ZeroCopy>(form: &mut [u8], values: &[T])
 /// isn't it is `Custom("index")`.
 pub fn edit_in_place<T: ZeroCopy>(bytes: &mut [u8], edits: &[(usize, T)]) -> ReadResult<()>
     ensures ok { OnOk result (EditedInPlace T.size T.form T.value bytes.old edits.now bytes.new) }
-    ensures err { IfErr result (IsEditRefused T.size bytes.old edits.now) }
+    ensures err { IfErr result (EditRefused T.size bytes.old edits.now) }
     ensures same { OnErr result (bytes.new ≡ bytes.old) }
 {
     see_bytes(bytes);
@@ -71,10 +71,11 @@ pub fn edit_in_place<T: ZeroCopy>(bytes: &mut [u8], edits: &[(usize, T)]) -> Rea
 /// bytes, or of `usize::MAX` where the size is more.
 pub fn edit_one<T: ZeroCopy>(bytes: &mut [u8], values: &[T]) -> ReadResult<()>
     ensures ok { OnOk result (EditedFirst T.size T.form bytes.old values.now bytes.new) }
-    ensures err { IfErr result (IsFirstRefused T.size bytes.old) }
+    ensures err { IfErr result (FirstEditRefused T.size bytes.old) }
     ensures same { OnErr result (bytes.new ≡ bytes.old) }
 {
     T::from_bytes(bytes)?;
+    // No effect at run time: the proof learns from it that the length fits `usize`.
     let _len = bytes.len();
     let size = size_of_form::<T>();
     edit_form(&mut bytes[..size], values);

@@ -6,6 +6,7 @@ pub mod containers;
 pub mod laws;
 pub mod len;
 pub mod markers;
+pub mod prelude;
 pub mod schema;
 pub mod serde;
 pub mod shape;

@@ -10,18 +10,18 @@ mod round_trip;
 use crate::io::Lending;
 use crate::schema::{SchemaRead, SchemaWrite};
 
-/// Each value has one text: two texts that read as one value are the same. So of two texts the values are
-/// equal exactly where the texts are.
+/// Each value has one encoding: two encodings that read as one value are the same. So of two encodings the values are
+/// equal exactly where the encodings are.
 pub trait OneText<L: Lending>: SchemaRead<L> {
     ghost one_text: { IsOneText Self.reading };
 }
 
 /// Reading asks for no borrow, so every reader serves it.
 pub trait SchemaReadOwned<L: Lending>: SchemaRead<L> {
-    ghost owned: { Self.reading.asks ≡ 0 };
+    ghost owned: { Self.reading.borrow ≡ 0 };
 }
 
-/// What is written reads back: a text of a value whose lengths are within their limits reads as it.
+/// What is written reads back: an encoding of a value whose lengths are within their limits reads as it.
 pub trait RoundTrip<L: Lending>: SchemaWrite + SchemaRead<L, Dst = Self::Src> {
-    ghost reads_back: { ReadsBack Self.SchemaWrite.proper Self.SchemaWrite.seen Self.SchemaWrite.writing Self.SchemaRead.seen Self.SchemaRead.reading };
+    ghost reads_back: { ReadsBack Self.SchemaWrite.is_valid Self.SchemaWrite.model Self.SchemaWrite.writing Self.SchemaRead.model Self.SchemaRead.reading };
 }

@@ -1,6 +1,6 @@
 //! The calls that most programs make, as methods of every schema.
 ghost use Rattle.std.specs.Prelude.{◌≡◌, IfOk, IfErr, OnOk, OnErr};
-ghost use Rattle.wincode_base.specs.Outcomes.{Gives, Puts, Refuses, IsUnread, IsSized, Wrote, IsSizeRefused, IsSerialized, IsUnserialized, IsUnended};
+ghost use Rattle.wincode_base.specs.Outcomes.{Gives, Puts, ReadRefused, FrontReadRefused, IsSized, Wrote, SizeRefused, IsSerialized, SerializeRefused, SerializeIntoRefused};
 ghost use Rattle.wincode.specs.Serde.{IsInFront, HoldsFront};
 
 use crate::io::{Input, Lending, Reader, WriteWindow, Writer};
@@ -11,24 +11,24 @@ use wincode_base::error::{ReadResult, WriteError, WriteResult};
 
 /// A value to bytes, for every schema that writes.
 pub trait Serialize: SchemaWrite {
-    /// The bytes of the value, exactly those of one of its texts. It is refused as `size_of` refuses, or
+    /// The bytes of the value, exactly those of one of its encodings. It is refused as `size_of` refuses, or
     /// as `OutOfMemory` where the one growth for them is refused.
     fn serialize(alloc: Global, src: &Self::Src) -> WriteResult<Vec<u8>>
-        ensures ok { IfOk result (λ v. IsSerialized Self.SchemaWrite.writing (Self.SchemaWrite.seen src.now) v.items) }
-        ensures value { OnOk result (Self.SchemaWrite.proper src.now) }
-        ensures err { IfErr result (IsUnserialized Self.SchemaWrite.writing (Self.SchemaWrite.seen src.now)) };
+        ensures ok { IfOk result (λ v. IsSerialized Self.SchemaWrite.writing (Self.SchemaWrite.model src.now) v.items) }
+        ensures value { OnOk result (Self.SchemaWrite.is_valid src.now) }
+        ensures err { IfErr result (SerializeRefused Self.SchemaWrite.writing (Self.SchemaWrite.model src.now)) };
 
-    /// Writes the value, and then ends the piece of writing by `finish`. Where the schema writes in one
-    /// piece, a refusal has added nothing.
+    /// Writes the value, and then ends the piece of writing by `finish`. A refused write has added what
+    /// the schema's grammar says.
     fn serialize_into<W: Writer>(writer: &mut W, src: &Self::Src) -> WriteResult<()>
-        ensures ok { OnOk result (Wrote Self.SchemaWrite.writing (W.state writer.old) (W.state writer.new) (Self.SchemaWrite.seen src.now)) }
-        ensures value { OnOk result (Self.SchemaWrite.proper src.now) }
-        ensures err { IfErr result (IsUnended W.buffers Self.SchemaWrite.writing Self.SchemaWrite.in_one_piece (W.state writer.old) (W.state writer.new) (Self.SchemaWrite.seen src.now)) };
+        ensures ok { OnOk result (Wrote Self.SchemaWrite.writing (W.state writer.old) (W.state writer.new) (Self.SchemaWrite.model src.now)) }
+        ensures value { OnOk result (Self.SchemaWrite.is_valid src.now) }
+        ensures err { IfErr result (SerializeIntoRefused W.buffers Self.SchemaWrite.writing (W.state writer.old) (W.state writer.new) (Self.SchemaWrite.model src.now)) };
 
-    /// The length, in bytes, of the value's texts.
+    /// The length, in bytes, of the value's encodings.
     fn serialized_size(src: &Self::Src) -> WriteResult<u64>
-        ensures ok { IfOk result (IsSized Self.SchemaWrite.writing (Self.SchemaWrite.seen src.now)) }
-        ensures err { IfErr result (IsSizeRefused Self.SchemaWrite.writing (Self.SchemaWrite.seen src.now)) };
+        ensures ok { IfOk result (IsSized Self.SchemaWrite.writing (Self.SchemaWrite.model src.now)) }
+        ensures err { IfErr result (SizeRefused Self.SchemaWrite.writing (Self.SchemaWrite.model src.now)) };
 }
 
 impl<T: SchemaWrite> Serialize for T {
@@ -58,8 +58,8 @@ impl<T: SchemaWrite> Serialize for T {
 pub trait Deserialize<L: Lending>: SchemaRead<L> {
     /// The value at the front of the bytes. It is refused as `read` of a reader of the bytes is.
     fn deserialize<I: Input<Lends = L>>(alloc: Global, bytes: I) -> ReadResult<Self::Dst>
-        ensures ok { IfOk result (λ v. IsInFront Self.SchemaRead.reading.reads (I.begins bytes) (Self.SchemaRead.seen v)) }
-        ensures err { IfErr result (IsUnread Self.SchemaRead.reading Self.SchemaRead.refusal (I.begins bytes)) };
+        ensures ok { IfOk result (λ v. IsInFront Self.SchemaRead.reading.reads (I.begins bytes) (Self.SchemaRead.model v)) }
+        ensures err { IfErr result (FrontReadRefused Self.SchemaRead.reading (I.begins bytes)) };
 
     /// As `deserialize`, and puts the value into the destination. Refused, the destination is as it was.
     fn deserialize_into<I: Input<Lends = L>>(
@@ -67,8 +67,8 @@ pub trait Deserialize<L: Lending>: SchemaRead<L> {
         bytes: I,
         dst: &mut Option<Self::Dst>,
     ) -> ReadResult<()>
-        ensures ok { OnOk result (HoldsFront Self.SchemaRead.reading.reads Self.SchemaRead.seen (I.begins bytes) dst.new) }
-        ensures err { IfErr result (IsUnread Self.SchemaRead.reading Self.SchemaRead.refusal (I.begins bytes)) }
+        ensures ok { OnOk result (HoldsFront Self.SchemaRead.reading.reads Self.SchemaRead.model (I.begins bytes) dst.new) }
+        ensures err { IfErr result (FrontReadRefused Self.SchemaRead.reading (I.begins bytes)) }
         ensures same { OnErr result (dst.new ≡ dst.old) };
 }
 
@@ -93,9 +93,9 @@ pub trait DeserializeOwned<L: Lending>: SchemaReadOwned<L> {
     /// The value in front of what the reader has, of which exactly the rest is left. It is refused as
     /// `get` is, and never for a borrow.
     fn deserialize_from<R: Reader<L>>(alloc: Global, reader: &mut R) -> ReadResult<Self::Dst>
-        ensures ok { IfOk result (λ v. Gives Self.SchemaRead.reading.reads (R.state reader.old) (R.state reader.new) (Self.SchemaRead.seen v)) }
-        ensures err { IfErr result (Refuses Self.SchemaRead.reading.reads 0 Self.SchemaRead.reading.sparing (R.state reader.old) (R.state reader.new)) }
-        ensures refused { IfErr result (Self.SchemaRead.refusal (R.state reader.old) (R.state reader.new)) };
+        ensures ok { IfOk result (λ v. Gives Self.SchemaRead.reading.reads (R.state reader.old) (R.state reader.new) (Self.SchemaRead.model v)) }
+        ensures err { IfErr result (ReadRefused Self.SchemaRead.reading.reads 0 Self.SchemaRead.reading.takes_no_memory (R.state reader.old) (R.state reader.new)) }
+        ensures refused { IfErr result (Self.SchemaRead.reading.refused (R.state reader.old) (R.state reader.new)) };
 
     /// As `deserialize_from`, and puts the value into the destination. Refused, the destination is as it
     /// was.
@@ -104,9 +104,9 @@ pub trait DeserializeOwned<L: Lending>: SchemaReadOwned<L> {
         reader: &mut R,
         dst: &mut Option<Self::Dst>,
     ) -> ReadResult<()>
-        ensures ok { OnOk result (Puts Self.SchemaRead.reading.reads Self.SchemaRead.seen (R.state reader.old) (R.state reader.new) dst.new) }
-        ensures err { IfErr result (Refuses Self.SchemaRead.reading.reads 0 Self.SchemaRead.reading.sparing (R.state reader.old) (R.state reader.new)) }
-        ensures refused { IfErr result (Self.SchemaRead.refusal (R.state reader.old) (R.state reader.new)) }
+        ensures ok { OnOk result (Puts Self.SchemaRead.reading.reads Self.SchemaRead.model (R.state reader.old) (R.state reader.new) dst.new) }
+        ensures err { IfErr result (ReadRefused Self.SchemaRead.reading.reads 0 Self.SchemaRead.reading.takes_no_memory (R.state reader.old) (R.state reader.new)) }
+        ensures refused { IfErr result (Self.SchemaRead.reading.refused (R.state reader.old) (R.state reader.new)) }
         ensures same { OnErr result (dst.new ≡ dst.old) };
 }
 

@@ -1,7 +1,7 @@
 //! Types of a user's own that are written and read as another, a tuple say, without a grammar or a law of
 //! their own.
-ghost use Rattle.std.specs.Prelude.{◌≡◌, IfOk, IfErr, OnOk};
-ghost use Rattle.wincode_base.specs.Outcomes.{IsSized, IsSizeRefused, Wrote, Unwritten, IsPieceRefused};
+ghost use Rattle.std.specs.Prelude.{◌≡◌, IfOk, IfErr};
+ghost use Rattle.wincode_base.specs.Outcomes.{IsSized, SizeRefused, WriteOutcome};
 ghost use Rattle.wincode_base.specs.PairLaws.{write_laws_by, reads_back_by};
 
 use crate::io::{Lending, Reader, Writer};
@@ -28,16 +28,12 @@ pub trait Shape: Drop {
 
     /// The size of its parts, as `As` has it.
     fn parts_size(&self) -> WriteResult<usize>
-        ensures ok { IfOk result (IsSized Self.As.SchemaWrite.writing (Self.As.SchemaWrite.seen (parts self.now))) }
-        ensures err { IfErr result (IsSizeRefused Self.As.SchemaWrite.writing (Self.As.SchemaWrite.seen (parts self.now))) };
+        ensures ok { IfOk result (IsSized Self.As.SchemaWrite.writing (Self.As.SchemaWrite.model (parts self.now))) }
+        ensures err { IfErr result (SizeRefused Self.As.SchemaWrite.writing (Self.As.SchemaWrite.model (parts self.now))) };
 
     /// Writes its parts, as `As` does.
     fn write_parts<W: Writer>(&self, writer: &mut W) -> WriteResult<()>
-        ensures ok { OnOk result (Wrote Self.As.SchemaWrite.writing (W.state writer.old) (W.state writer.new) (Self.As.SchemaWrite.seen (parts self.now))) }
-        ensures value { OnOk result (Self.As.SchemaWrite.proper (parts self.now)) }
-        ensures err { IfErr result (Unwritten Self.As.SchemaWrite.writing (W.state writer.old) (W.state writer.new) (Self.As.SchemaWrite.seen (parts self.now))) }
-        ensures piece { IfErr result
-            (IsPieceRefused Self.As.SchemaWrite.in_one_piece Self.As.SchemaWrite.writing (W.state writer.old) (W.state writer.new) (Self.As.SchemaWrite.seen (parts self.now))) };
+        ensures { WriteOutcome Self.As.SchemaWrite.writing (W.state writer.old) (W.state writer.new) (Self.As.SchemaWrite.model (parts self.now)) (Self.As.SchemaWrite.is_valid (parts self.now)) result };
 }
 
 /// The schema of a type that has a shape: that of its parts.
@@ -48,13 +44,11 @@ impl<T: Shape> SchemaWrite for By<T> {
 
     ghost Value = { T.As.SchemaWrite.Value };
 
-    ghost seen = { λ x. T.As.SchemaWrite.seen (T.parts x) };
+    ghost model = { λ x. T.As.SchemaWrite.model (T.parts x) };
 
-    ghost proper = { λ x. T.As.SchemaWrite.proper (T.parts x) };
+    ghost is_valid = { λ x. T.As.SchemaWrite.is_valid (T.parts x) };
 
     ghost writing = { T.As.SchemaWrite.writing };
-
-    ghost in_one_piece = { T.As.SchemaWrite.in_one_piece };
 
     fn type_meta() -> TypeMeta {
         <T::As as SchemaWrite>::type_meta()
@@ -79,13 +73,11 @@ where
 
     ghost Value = { T.As.SchemaRead.Value };
 
-    ghost seen = { λ x. T.As.SchemaRead.seen (T.parts x) };
+    ghost model = { λ x. T.As.SchemaRead.model (T.parts x) };
 
-    ghost proper = { T.As.SchemaRead.proper };
+    ghost is_valid = { T.As.SchemaRead.is_valid };
 
     ghost reading = { T.As.SchemaRead.reading };
-
-    ghost refusal = { T.As.SchemaRead.refusal };
 
     fn type_meta() -> TypeMeta {
         <T::As as SchemaRead<L>>::type_meta()

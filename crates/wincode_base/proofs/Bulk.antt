@@ -6,20 +6,20 @@ use Rattle.wincode_io.specs.Bytes.{IsBytes}
 use Rattle.wincode_io.specs.Joins.{Joined, Each, total, AreItems}
 use Rattle.wincode_io.specs.Numbers.{le}
 use Rattle.wincode_io.specs.Places.{onward}
-use Rattle.wincode_io.specs.PlaceLaws.{kept_trans, told_kept, stays_onward}
-use Rattle.wincode_io.specs.Readers.{ReaderState, IsRefusal, Stays, Loses, Takes, IsShown, IsShort}
-use Rattle.wincode_io.specs.Writers.{WriterState, WriterLaws, Added, IsWriteRefused}
+use Rattle.wincode_io.specs.PlaceLaws.{kept_trans, known_kept, stays_onward}
+use Rattle.wincode_io.specs.Readers.{ReaderState, ReadRefusedFor, Stays, Loses, Takes, IsShown, IsShort}
+use Rattle.wincode_io.specs.Writers.{WriterState, WriterLaws, Added, BytesWriteRefused}
 use Rattle.wincode_base.specs.Grammar.{WriteGrammar}
 use Rattle.wincode_base.specs.Leaves.{number_read, number_write}
 use Rattle.wincode_base.specs.Lists.{items_write}
-use Rattle.wincode_base.specs.Outcomes.{Gives, Adds, Refuses, Wrote, Unwritten}
-use Rattle.wincode_base.specs.WriteSequences.{text_wrote, text_unwritten}
+use Rattle.wincode_base.specs.Outcomes.{Gives, Adds, ReadRefused, Wrote, WriteRefused, Stopped}
+use Rattle.wincode_base.specs.WriteSequences.{encoding_wrote, encoding_unwritten, nothing_stopped}
 use Rattle.wincode_base.specs.declared.error.ReadError.TheVariants as reading
 use Rattle.wincode_base.specs.declared.error.WriteError.TheVariants as writing
 use Rattle.wincode_io.specs.declared.error.ReadError.{ReadError as IoReadError}
 use Rattle.wincode_io.specs.declared.error.WriteError.{WriteError as IoWriteError}
 use Rattle.wincode_base.proofs.Integers.{AreSmall, are_bytes}
-use Rattle.wincode_base.specs.SizedLaws.{denied_refuses, takes_gives}
+use Rattle.wincode_base.specs.FixedSizeLaws.{denied_refuses, takes_gives}
 
 -- what holds of an answer that is Ok
 pub went_well : {A E Q : Type 0} (r : Result A E) → is_ok r ≡ true → OnOk r Q → Q
@@ -33,7 +33,7 @@ pub shown_takes : (n : ℕ) (old mid new : ReaderState) (bytes : List ℕ) → l
 shown_takes n old mid new bytes size shown stays loses = record {
   loses = record {
     kept = kept_trans stays.kept loses.kept;
-    rest = λ t. subst (λ b. (n ≤ length b) × (b ≡ take n b ++ new.rest)) (stays.rest t) (loses.rest (told_kept stays.kept t));
+    rest = λ t. subst (λ b. (n ≤ length b) × (b ≡ take n b ++ new.rest)) (stays.rest t) (loses.rest (known_kept stays.kept t));
     ready = let a = stays.ready in let b = loses.ready in omega arith;
     place = loses.place ∙ ap (onward n) stays.place;
   };
@@ -42,22 +42,22 @@ shown_takes n old mid new bytes size shown stays loses = record {
 }
 
 -- memory was refused before anything was taken
-pub wanted_refuses : {V : Type 0} (reads : List ℕ → V → Type 0) (asks : ℕ) (old new : ReaderState) → Stays old new → Refuses reads asks false old new reading.OutOfMemory
-wanted_refuses reads asks old new s = record { kept = s.kept; left = λ t. record { front = []; joins = sym (s.rest t) }; place = stays_onward old new s; due = none_spared new.steady } where
+pub wanted_refuses : {V : Type 0} (reads : List ℕ → V → Type 0) (borrow : ℕ) (old new : ReaderState) → Stays old new → ReadRefused reads borrow false old new reading.OutOfMemory
+wanted_refuses reads borrow old new s = record { kept = s.kept; left = λ t. record { front = []; joins = sym (s.rest t) }; place = stays_onward old new s; due = none_spared new.never_fails } where
   none_spared : (a : Bool) → (a && false) ≡ false
   none_spared false = refl
   none_spared true = refl
 
-byte_text : (v : ℕ) → v < 256 → le 1 v ≡ v ∷ []
+byte_encoding : (v : ℕ) → v < 256 → le 1 v ≡ v ∷ []
 unfolding le
-byte_text v small = ap (λ b. b ∷ []) (omega arith)
+byte_encoding v small = ap (λ b. b ∷ []) (omega arith)
 
--- bytes are the texts of as many numbers of one byte
+-- bytes are the encodings of as many numbers of one byte
 bytes_read : (bytes : List ℕ) → IsBytes bytes → Joined (λ v t. (number_read 1 true).reads t v) bytes bytes
 bytes_read [] all = refl
 bytes_read (b ∷ bytes) all =
     let small : b < 256 = All-head (λ x. x < 256) b bytes all in
-    (b ∷ [], bytes, (small, sym (byte_text b small)), bytes_read bytes (All-tail (λ x. x < 256) b bytes all), refl)
+    (b ∷ [], bytes, (small, sym (byte_encoding b small)), bytes_read bytes (All-tail (λ x. x < 256) b bytes all), refl)
 
 bytes_sized : (n : ℕ) (b vs : List ℕ) → AreItems n (number_read 1 true).reads b vs → length b ≡ n
 unfolding le
@@ -79,7 +79,7 @@ bytes_added n old mid new bytes before after small size shown stays loses e = re
       (takes_gives (AreItems n (number_read 1 true).reads) n old new bytes bytes (shown_takes n old mid new bytes size shown stays loses) (size, bytes_read bytes (are_bytes bytes small)));
 }
 
-pub bytes_refused : (n : ℕ) (old new : ReaderState) (e : IoReadError) → Stays old new → IsRefusal (IsShort n old) ⊥ n new e → Refuses (AreItems n (number_read 1 true).reads) 0 false old new (reading.Io e)
+pub bytes_refused : (n : ℕ) (old new : ReaderState) (e : IoReadError) → Stays old new → ReadRefusedFor (IsShort n old) ⊥ n new e → ReadRefused (AreItems n (number_read 1 true).reads) 0 false old new (reading.Io e)
 bytes_refused n old new e s d = denied_refuses (AreItems n (number_read 1 true).reads) n (bytes_sized n) 0 false old new (reading.Io e) (s, d)
 
 -- ---- writing
@@ -99,7 +99,7 @@ bytes_written : (bytes : List ℕ) → IsBytes bytes → Joined (number_write 1 
 bytes_written [] all = refl
 bytes_written (b ∷ bytes) all =
     let small : b < 256 = All-head (λ x. x < 256) b bytes all in
-    (b ∷ [], bytes, sym (byte_text b small), bytes_written bytes (All-tail (λ x. x < 256) b bytes all), refl)
+    (b ∷ [], bytes, sym (byte_encoding b small), bytes_written bytes (All-tail (λ x. x < 256) b bytes all), refl)
 
 pub each_small : (vs : List ℕ) → AreSmall vs → Each (λ v. v < 256 ^ 1) vs
 each_small [] h = tt
@@ -107,9 +107,12 @@ each_small (v ∷ vs) h = (h 0, each_small vs (λ i. h (suc i)))
 
 module _ {S K : Type 0} {put : S → List ℕ → S} {room : S → ℕ} {old new : WriterState put room K} (vs : List ℕ) (small : AreSmall vs) where
   pub bytes_wrote : Added vs old new → Wrote bytes_write old new (map (λ v. v) vs)
-  bytes_wrote a = subst (Wrote bytes_write old new) (sym (mapped vs)) (text_wrote bytes_write vs vs (bytes_written vs (are_bytes vs small)) (ones vs) old new (each_can vs) a)
+  bytes_wrote a = subst (Wrote bytes_write old new) (sym (mapped vs)) (encoding_wrote bytes_write vs vs (bytes_written vs (are_bytes vs small)) (ones vs) old new (each_can vs) a)
 
-  pub bytes_unwritten : WriterLaws put room → (e : IoWriteError) → IsWriteRefused (length vs) old new e → Unwritten bytes_write old new (map (λ v. v) vs) (writing.Io e)
+  pub bytes_unwritten : WriterLaws put room → (e : IoWriteError) → BytesWriteRefused (length vs) old new e → WriteRefused bytes_write old new (map (λ v. v) vs) (writing.Io e)
   bytes_unwritten laws e d =
-      let P : List ℕ → Type 0 = λ ws. Unwritten bytes_write old new ws (writing.Io e) in
-      subst P (sym (mapped vs)) (text_unwritten bytes_write vs vs (bytes_written vs (are_bytes vs small)) (ones vs) laws old new e d)
+      let P : List ℕ → Type 0 = λ ws. WriteRefused bytes_write old new ws (writing.Io e) in
+      subst P (sym (mapped vs)) (encoding_unwritten bytes_write vs vs (bytes_written vs (are_bytes vs small)) (ones vs) laws old new e d)
+
+  pub bytes_halted : WriterLaws put room → (e : IoWriteError) → BytesWriteRefused (length vs) old new e → Stopped bytes_write old new (map (λ v. v) vs) (writing.Io e)
+  bytes_halted laws e d = nothing_stopped laws old new (writing.Io e) d.0.content (λ dynamic. absurd (cc dynamic))

@@ -1,5 +1,5 @@
 -- Many forms read or written at once.
-use Rattle.std.proofs.Common.{◌≡◌, ◌∙◌, sym, ap, subst, ℕ, ◌*◌, ◌<◌, ◌≤◌, Bool, false, List, [], ◌∷◌, ◌++◌, length, map, refl, inl, inr, arith, append-nil, length-append}
+use Rattle.std.proofs.Common.{◌≡◌, ◌⊎◌, ◌∙◌, sym, ap, subst, ℕ, ◌*◌, ◌-◌, ◌<◌, ◌≤◌, Bool, false, List, [], ◌∷◌, ◌++◌, length, map, refl, inl, inr, arith, append-nil, length-append}
 use Rattle.std.proofs.lemmas.Bool.{cases_lt}
 use Rattle.std.proofs.lemmas.List.Elements.{All-head, All-tail}
 use Rattle.std.specs.List.{All, flat_map}
@@ -8,38 +8,39 @@ use Rattle.wincode_io.specs.Forms.{IsByteForm, values}
 use Rattle.wincode_io.specs.JoinedForms.{length-joined, length-values, All-values, joined-values}
 use Rattle.wincode_io.specs.Joins.{Joined, Each, total, AreItems}
 use Rattle.wincode_io.specs.PlaceLaws.{still}
-use Rattle.wincode_io.specs.Readers.{ReaderState, IsRefusal, Stays, Loses, IsShown, IsShort}
-use Rattle.wincode_io.specs.Writers.{WriterState, WriterLaws, Added, IsUnmoved, IsWriteRefusal, IsWriteRefused, byte_limit}
+use Rattle.wincode_io.specs.Readers.{ReaderState, ReadRefusedFor, Stays, Loses, IsShown, IsShort}
+use Rattle.wincode_io.specs.Writers.{WriterState, WriterLaws, Added, IsUnmoved, WriteRefusedFor, BytesWriteRefused, byte_limit}
 use Rattle.wincode_base.specs.AsForms.{reads_form, writes_form}
 use Rattle.wincode_base.specs.Grammar.{WriteGrammar}
-use Rattle.wincode_base.specs.Lists.{items_write}
+use Rattle.wincode_base.specs.Lists.{items_write, ItemsWriteRefused}
 use Rattle.wincode_base.specs.ListLaws.{items_none}
-use Rattle.wincode_base.specs.Outcomes.{Gives, Adds, Refuses, Wrote, Unwritten, IsAble, WriterDue}
-use Rattle.wincode_base.specs.SizedLaws.{denied_refuses, takes_gives}
+use Rattle.wincode_base.specs.Outcomes.{Gives, Adds, ReadRefused, Wrote, WriteRefused, Stopped, PieceWriteRefused, IsAble, WriterDue}
+use Rattle.wincode_base.specs.FixedSizeLaws.{denied_refuses, takes_gives}
 use Rattle.wincode_base.specs.ViewLaws.{form_write_laws}
 use Rattle.wincode_base.specs.Views.{form_write}
-use Rattle.wincode_base.specs.WriteSequences.{text_wrote}
+use Rattle.wincode_base.specs.WriteSequences.{encoding_wrote, nothing_stopped, piece_denied}
 use Rattle.wincode_base.specs.declared.error.ReadError.TheVariants as reading
 use Rattle.wincode_base.specs.declared.error.WriteError.TheVariants as writing
 use Rattle.wincode_io.specs.declared.error.ReadError.{ReadError as IoReadError}
 use Rattle.wincode_io.specs.declared.error.WriteError.{WriteError as IoWriteError}
 use Rattle.wincode_io.specs.declared.error.WriteError.TheVariants as writer
 use Rattle.wincode_base.proofs.Bulk.{shown_takes, mapped}
+use Rattle.wincode_base.proofs.Views.{vast_form}
 
 -- ---- reading
 
-module _ {X : Type 0} {proper : X → Type 0} {s : ℕ} {form : X → List ℕ} {value : List ℕ → X} (law : IsByteForm proper s form value) where
+module _ {X : Type 0} {is_valid : X → Type 0} {s : ℕ} {form : X → List ℕ} {value : List ℕ → X} (law : IsByteForm is_valid s form value) where
   abbrev reads : List ℕ → X → Type 0
-  reads = reads_form proper form
+  reads = reads_form is_valid form
 
-  are_joined : (vs : List X) → All proper vs → Joined (λ v t. reads t v) vs (flat_map form vs)
+  are_joined : (vs : List X) → All is_valid vs → Joined (λ v t. reads t v) vs (flat_map form vs)
   are_joined [] all = refl
-  are_joined (v ∷ vs) all = (form v, flat_map form vs, (All-head proper v vs all, refl), are_joined vs (All-tail proper v vs all), refl)
+  are_joined (v ∷ vs) all = (form v, flat_map form vs, (All-head is_valid v vs all, refl), are_joined vs (All-tail is_valid v vs all), refl)
 
   forms_read : (n : ℕ) (bytes : List ℕ) → IsBytes bytes → length bytes ≡ n * s → AreItems n reads bytes (values value s n bytes)
   forms_read n bytes all size =
       let vs = values value s n bytes in
-      let joined = are_joined vs (All-values value s proper law.proper_value n bytes all size) in
+      let joined = are_joined vs (All-values value s is_valid law.valid_value n bytes all size) in
       (length-values value s n bytes, subst (λ b. Joined (λ v t. reads t v) vs b) (joined-values value s form law.form_value n bytes all size) joined)
 
   pub forms_sized : (n : ℕ) (b : List ℕ) (vs : List X) → AreItems n reads b vs → length b ≡ n * s
@@ -59,15 +60,15 @@ module _ {X : Type 0} {proper : X → Type 0} {s : ℕ} {form : X → List ℕ} 
         (takes_gives (AreItems n reads) (n * s) old new bytes vs (shown_takes (n * s) old mid new bytes size shown stays loses) (forms_read n bytes all size));
   }
 
-  pub forms_refused : (n : ℕ) (old new : ReaderState) (e : IoReadError) → Stays old new → IsRefusal (IsShort (n * s) old) ⊥ (n * s) new e → Refuses (AreItems n reads) 0 false old new (reading.Io e)
+  pub forms_refused : (n : ℕ) (old new : ReaderState) (e : IoReadError) → Stays old new → ReadRefusedFor (IsShort (n * s) old) ⊥ (n * s) new e → ReadRefused (AreItems n reads) 0 false old new (reading.Io e)
   forms_refused n old new e stays d = denied_refuses (AreItems n reads) (n * s) (forms_sized n) 0 false old new (reading.Io e) (stays, d)
 
-  pub forms_vast : (n : ℕ) (old : ReaderState) (t : _) → byte_limit < n * s → Refuses (AreItems n reads) 0 false old old (reading.LengthEncodingOverflow t)
+  pub forms_vast : (n : ℕ) (old : ReaderState) (t : _) → byte_limit < n * s → ReadRefused (AreItems n reads) 0 false old old (reading.LengthEncodingOverflow t)
   forms_vast n old t vast = record {
-    kept = record { lends = refl; steady = refl; told = refl };
+    kept = record { lends = refl; never_fails = refl; is_known = refl };
     left = λ told. record { front = []; joins = refl };
     place = λ told. still old;
-    due = λ a. let f = a.front.found in absurd (omega (arith, vast, a.fits, forms_sized n f.text a.front.value f.is_read, ap length f.joins, length-append f.text a.front.rest));
+    due = λ a. let f = a.front.found in absurd (omega (arith, vast, a.fits, forms_sized n f.encoding a.front.value f.is_read, ap length f.joins, length-append f.encoding a.front.rest));
   }
 
   -- none were asked for
@@ -79,12 +80,12 @@ module _ {X : Type 0} {proper : X → Type 0} {s : ℕ} {form : X → List ℕ} 
   }
 
   -- the same, of the first of them
-  pub form_vast : (asks : ℕ) (sparing : Bool) (old : ReaderState) (t : _) → byte_limit < s → Refuses reads asks sparing old old (reading.LengthEncodingOverflow t)
-  form_vast asks sparing old t vast = record {
-    kept = record { lends = refl; steady = refl; told = refl };
+  pub form_vast : (borrow : ℕ) (takes_no_memory : Bool) (old : ReaderState) (t : _) → byte_limit < s → ReadRefused reads borrow takes_no_memory old old (reading.LengthEncodingOverflow t)
+  form_vast borrow takes_no_memory old t vast = record {
+    kept = record { lends = refl; never_fails = refl; is_known = refl };
     left = λ told. record { front = []; joins = refl };
     place = λ told. still old;
-    due = λ a. let f = a.front.found in absurd (omega (arith, vast, a.fits, ap length f.is_read.1 ∙ law.long a.front.value f.is_read.0, ap length f.joins, length-append f.text a.front.rest));
+    due = λ a. let f = a.front.found in absurd (omega (arith, vast, a.fits, ap length f.is_read.1 ∙ law.long a.front.value f.is_read.0, ap length f.joins, length-append f.encoding a.front.rest));
   }
 
 -- ---- writing
@@ -94,65 +95,69 @@ pub all_each : {X : Type 0} (P : X → Type 0) (xs : List X) → All P xs → Ea
 all_each P [] all = tt
 all_each P (x ∷ xs) all = (All-head P x xs all, all_each P xs (All-tail P x xs all))
 
--- What writes values, of s bytes each, so that the form of each is a text of it.
-pub record WritesForms {X V : Type 0} (proper : X → Type 0) (s : ℕ) (form : X → List ℕ) (seen : X → V) (g : WriteGrammar V) : Type 0 where
-  pub can : (v : X) → g.can (seen v)
-  pub size : (v : X) → g.size (seen v) ≡ s
-  pub has_text : (v : X) → (b : List ℕ) × g.writes (seen v) b
-  pub is_text : (v : X) → proper v → g.writes (seen v) (form v)
+-- What writes values, of s bytes each, so that the form of each is an encoding of it.
+pub record WritesForms {X V : Type 0} (is_valid : X → Type 0) (s : ℕ) (form : X → List ℕ) (model : X → V) (g : WriteGrammar V) : Type 0 where
+  pub can : (v : X) → g.can (model v)
+  pub size : (v : X) → g.size (model v) ≡ s
+  pub has_encoding : (v : X) → (b : List ℕ) × g.writes (model v) b
+  pub is_encoding : (v : X) → is_valid v → g.writes (model v) (form v)
 
-pub form_writes : {X : Type 0} (proper : X → Type 0) (s : ℕ) (form : X → List ℕ) → WritesForms proper s form (λ v. v) (writes_form s form)
-form_writes proper s form = record { can = λ v. tt; size = λ v. refl; has_text = λ v. (form v, refl); is_text = λ v p. refl }
+pub form_writes : {X : Type 0} (is_valid : X → Type 0) (s : ℕ) (form : X → List ℕ) → WritesForms is_valid s form (λ v. v) (writes_form s form)
+form_writes is_valid s form = record { can = λ v. tt; size = λ v. refl; has_encoding = λ v. (form v, refl); is_encoding = λ v p. refl }
 
-pub pod_writes : {X : Type 0} {proper : X → Type 0} {s : ℕ} {form : X → List ℕ} {value : List ℕ → X} → IsByteForm proper s form value → (any : Bool) (prealloc : ℕ) → WritesForms proper s form (λ v. v) (form_write proper s form any prealloc)
+pub pod_writes : {X : Type 0} {is_valid : X → Type 0} {s : ℕ} {form : X → List ℕ} {value : List ℕ → X} → IsByteForm is_valid s form value → (any : Bool) (prealloc : ℕ) → WritesForms is_valid s form (λ v. v) (form_write is_valid s form any prealloc)
 pod_writes law any prealloc = record {
   can = λ v. tt;
   size = λ v. refl;
-  has_text = λ v. (form_write_laws law (λ w. w) any prealloc).has_text v tt;
-  is_text = λ v p. (law.long v p, λ q. refl);
+  has_encoding = λ v. (form_write_laws law (λ w. w) any prealloc).has_encoding v tt;
+  is_encoding = λ v p. (law.long v p, λ q. refl);
 }
 
-module _ {X V : Type 0} {proper : X → Type 0} {s : ℕ} {form : X → List ℕ} {seen : X → V} {g : WriteGrammar V} (f : WritesForms proper s form seen g) (vs : List X) where
-  each_can : (xs : List X) → Each g.can (map seen xs)
+-- n bytes at once were refused: as one piece, or since they are past `usize::MAX`
+abbrev pub AtOnce : ℕ → ℕ → IoWriteError → Type 0
+AtOnce n room e = ((n ≤ byte_limit) × PieceWriteRefused n room [] (writing.Io e)) ⊎ ((byte_limit < n) × (e ≡ writer.WriteSizeLimit byte_limit))
+
+module _ {X V : Type 0} {is_valid : X → Type 0} {s : ℕ} {form : X → List ℕ} {model : X → V} {g : WriteGrammar V} (f : WritesForms is_valid s form model g) (vs : List X) where
+  each_can : (xs : List X) → Each g.can (map model xs)
   each_can [] = tt
   each_can (x ∷ xs) = (f.can x, each_can xs)
 
-  has_text : (xs : List X) → (b : List ℕ) × Joined g.writes (map seen xs) b
-  has_text [] = ([], refl)
-  has_text (x ∷ xs) = let h = f.has_text x in let r = has_text xs in (h.0 ++ r.0, (h.0, r.0, h.1, r.1, refl))
+  has_encoding : (xs : List X) → (b : List ℕ) × Joined g.writes (map model xs) b
+  has_encoding [] = ([], refl)
+  has_encoding (x ∷ xs) = let h = f.has_encoding x in let r = has_encoding xs in (h.0 ++ r.0, (h.0, r.0, h.1, r.1, refl))
 
-  are_texts : (xs : List X) → All proper xs → Joined g.writes (map seen xs) (flat_map form xs)
-  are_texts [] all = refl
-  are_texts (x ∷ xs) all = (form x, flat_map form xs, f.is_text x (All-head proper x xs all), are_texts xs (All-tail proper x xs all), refl)
+  are_encodings : (xs : List X) → All is_valid xs → Joined g.writes (map model xs) (flat_map form xs)
+  are_encodings [] all = refl
+  are_encodings (x ∷ xs) all = (form x, flat_map form xs, f.is_encoding x (All-head is_valid x xs all), are_encodings xs (All-tail is_valid x xs all), refl)
 
-  sizes : (xs : List X) → total g.size (map seen xs) ≡ length xs * s
+  sizes : (xs : List X) → total g.size (map model xs) ≡ length xs * s
   sizes [] = omega arith
   sizes (x ∷ xs) = omega (arith, f.size x, sizes xs)
 
   module _ {S K : Type 0} {put : S → List ℕ → S} {room : S → ℕ} (old new : WriterState put room K) where
-    pub forms_wrote : {value : List ℕ → X} → IsByteForm proper s form value → All proper vs → Added (flat_map form vs) old new → Wrote (items_write g) old new (map seen vs)
+    pub forms_wrote : {value : List ℕ → X} → IsByteForm is_valid s form value → All is_valid vs → Added (flat_map form vs) old new → Wrote (items_write g) old new (map model vs)
     forms_wrote law all a =
         let long = length-joined form s vs (λ k d h. law.long _ (all k d h)) in
-        text_wrote (items_write g) (map seen vs) (flat_map form vs) (are_texts vs all) (long ∙ sym (sizes vs)) old new (each_can vs) a
+        encoding_wrote (items_write g) (map model vs) (flat_map form vs) (are_encodings vs all) (long ∙ sym (sizes vs)) old new (each_can vs) a
 
     abbrev Able : Type 0
-    Able = IsAble (items_write g) old (map seen vs)
+    Able = IsAble (items_write g) old (map model vs)
 
-    due : (e : IoWriteError) → IsWriteRefusal (room old.content < length vs * s) (length vs * s) new e → WriterDue Able new e
+    due : (e : IoWriteError) → WriteRefusedFor (room old.content < length vs * s) (length vs * s) new e → WriterDue Able new e
     due (writer.WriteSizeLimit m) d = λ able. let fits = able.1 in let short = d.0 in omega (arith, sizes vs)
     due (writer.Io e) d = d
     due writer.OutOfMemory d = d
 
     -- nothing was written
-    none : WriterLaws put room → IsUnmoved old new → (e : IoWriteError) → WriterDue Able new e → Unwritten (items_write g) old new (map seen vs) (writing.Io e)
-    none laws unmoved e d = let text = has_text vs in record {
+    none : WriterLaws put room → IsUnmoved old new → (e : IoWriteError) → WriterDue Able new e → WriteRefused (items_write g) old new (map model vs) (writing.Io e)
+    none laws unmoved e d = let encoding = has_encoding vs in record {
       same = unmoved.same;
-      began = λ c. record { front = []; more = text.0; is_text = text.1; within = omega arith; added = unmoved.content ∙ sym (laws.nil old.content) };
+      began = λ c. record { front = []; more = encoding.0; is_encoding = encoding.1; within = omega arith; added = unmoved.content ∙ sym (laws.nil old.content) };
       due = d;
     }
 
-    pub forms_unwritten : WriterLaws put room → (e : IoWriteError) → (length vs * s ≤ byte_limit → IsWriteRefused (length vs * s) old new e)
-        → (byte_limit < length vs * s → (e ≡ writer.WriteSizeLimit byte_limit) × IsUnmoved old new) → Unwritten (items_write g) old new (map seen vs) (writing.Io e)
+    pub forms_unwritten : WriterLaws put room → (e : IoWriteError) → (length vs * s ≤ byte_limit → BytesWriteRefused (length vs * s) old new e)
+        → (byte_limit < length vs * s → (e ≡ writer.WriteSizeLimit byte_limit) × IsUnmoved old new) → WriteRefused (items_write g) old new (map model vs) (writing.Io e)
     forms_unwritten laws e refused vast = elim (cases_lt byte_limit (length vs * s)) [
       | inl over ↦
           let v = vast over in
@@ -160,3 +165,39 @@ module _ {X V : Type 0} {proper : X → Type 0} {s : ℕ} {form : X → List ℕ
           none laws v.1 e (subst (λ x. WriterDue Able new x) (sym v.0) d)
       | inr within ↦ let r = refused within in none laws r.0 e (due e r.1)
     ]
+
+    -- at once they were refused: nothing was added, by a piece of all their bytes, or by one past `usize::MAX`
+    pub forms_halted : WriterLaws put room → (e : IoWriteError) → (length vs * s ≤ byte_limit → BytesWriteRefused (length vs * s) old new e)
+        → (byte_limit < length vs * s → (e ≡ writer.WriteSizeLimit byte_limit) × IsUnmoved old new)
+        → (AtOnce (length vs * s) (room old.content) e → ItemsWriteRefused g (map model vs) (room old.content) [] (writing.Io e)) → Stopped (items_write g) old new (map model vs) (writing.Io e)
+    forms_halted laws e refused vast so = elim (cases_lt byte_limit (length vs * s)) [
+      | inl over ↦ let v = vast over in nothing_stopped laws old new (writing.Io e) v.1.content (so (inr (over, v.0)))
+      | inr within ↦ let r = refused within in nothing_stopped laws old new (writing.Io e) r.0.content (so (inl (within, piece_denied (length vs * s) old new e r)))
+    ]
+
+-- of many forms at once that are announced as no size the first was refused, or there are none
+pub pods_refused : {X : Type 0} (is_valid : X → Type 0) (s : ℕ) (form : X → List ℕ) (any : Bool) (prealloc : ℕ) (vs : List X) (room : ℕ) (e : IoWriteError) → AtOnce (length vs * s) room e
+    → ItemsWriteRefused (form_write is_valid s form any prealloc) (map (λ v. v) vs) room [] (writing.Io e)
+pods_refused {X} is_valid s form any prealloc [] room e (inl d) =
+    let none : 0 * s ≡ 0 = omega arith in
+    let same : room ≡ room - 0 = omega arith in
+    λ dynamic. inr (record {
+      before = [];
+      after = [];
+      is = refl;
+      written = refl;
+      refused = subst (λ k. PieceWriteRefused k (room - 0) [] (writing.Io e)) none (subst (λ r. PieceWriteRefused (length {A = X} [] * s) r [] (writing.Io e)) same d.1);
+    })
+pods_refused is_valid s form any prealloc [] room e (inr d) = absurd (omega (arith, d.0))
+pods_refused is_valid s form any prealloc (v ∷ vs) room e (inl d) = λ dynamic. let over = vast_form s any dynamic in absurd (omega (arith, over, d.0))
+pods_refused is_valid s form any prealloc (v ∷ vs) room e (inr d) = λ dynamic. inl (record {
+  before = [];
+  item = v;
+  after = map (λ w. w) vs;
+  encoding = [];
+  rest = [];
+  is = refl;
+  written = refl;
+  joins = refl;
+  refused = inr (vast_form s any dynamic, refl, ap writing.Io d.1);
+})

@@ -7,16 +7,16 @@ use Rattle.wincode_io.specs.Numbers.{le}
 use Rattle.wincode_io.specs.NumberLaws.{le-from_le_bytes, from_le_bytes-worth, worth_below, to_le_bytes-le, length-le}
 use Rattle.wincode_io.specs.Readers.{ReaderState, Takes, TakesNumber}
 use Rattle.wincode_io.specs.PlaceLaws.{still, loses_onward}
-use Rattle.wincode_io.specs.Writers.{WriterState, WriterLaws, Added, IsWriteRefused}
+use Rattle.wincode_io.specs.Writers.{WriterState, WriterLaws, Added, BytesWriteRefused}
 use Rattle.wincode_base.specs.Leaves.{number_read, number_write, signed_read, signed_write, bool_byte, bool_read, unit_read}
 use Rattle.wincode_base.specs.LeafLaws.{signed_of, as_unsigned}
 use Rattle.wincode_base.specs.Sequences.{gives_map, refuses_map}
 use Rattle.std.specs.Prelude.{ℤ}
 use Rattle.std.specs.Int.{cast_unsigned, cast_signed}
 use mir.Val.{bits}
-use Rattle.wincode_base.specs.Outcomes.{Gives, Puts, Refuses, Accepts, IsDenied, Wrote, Unwritten, IsPieceRefused}
-use Rattle.wincode_base.specs.WriteSequences.{text_wrote, text_unwritten, text_piece}
-use Rattle.wincode_base.specs.SizedLaws.{takes_gives, takes_joins, denied_refuses, puts}
+use Rattle.wincode_base.specs.Outcomes.{Gives, Puts, ReadRefused, Accepts, PieceReadRefused, Wrote, WriteRefused, Stopped, PieceWriteRefused}
+use Rattle.wincode_base.specs.WriteSequences.{encoding_wrote, encoding_unwritten, encoding_stopped}
+use Rattle.wincode_base.specs.FixedSizeLaws.{takes_gives, takes_joins, denied_refuses, puts}
 use Rattle.wincode_base.specs.declared.error.ReadError.{ReadError}
 use Rattle.wincode_base.specs.declared.error.ReadError.TheVariants as reading
 use Rattle.wincode_base.specs.declared.error.WriteError.TheVariants as writing
@@ -29,9 +29,9 @@ pub are_bytes : (bytes : List ℕ) → AreSmall bytes → IsBytes bytes
 are_bytes bytes small = All-from_get_or (λ b. b < 256) bytes 0 (λ i h. small i)
 
 module _ (w : Width) (some : 0 < byte_len w) where
-  -- what `from_le_bytes` makes of bytes has them as its text
-  pub number_text : (bytes : List ℕ) → AreSmall bytes → length bytes ≡ byte_len w → (number_read (byte_len w) true).reads bytes (from_le_bytes w bytes)
-  number_text bytes small size =
+  -- what `from_le_bytes` makes of bytes has them as its encoding
+  pub number_encoding : (bytes : List ℕ) → AreSmall bytes → length bytes ≡ byte_len w → (number_read (byte_len w) true).reads bytes (from_le_bytes w bytes)
+  number_encoding bytes small size =
       let all = are_bytes bytes small in
       let e = from_le_bytes-worth w bytes some size in (
         subst (λ k. from_le_bytes w bytes < 256 ^ k) size (subst (λ n. n < 256 ^ length bytes) (sym e) (worth_below bytes all)),
@@ -41,7 +41,7 @@ module _ (w : Width) (some : 0 < byte_len w) where
   -- bytes that were taken are those of their number
   pub number_taken : (old new : ReaderState) (bytes : List ℕ) (v : ℕ) → Takes (byte_len w) old new bytes → AreSmall bytes → v ≡ from_le_bytes w bytes → TakesNumber (byte_len w) old new v
   number_taken old new bytes v t small e =
-      let is : (v < 256 ^ byte_len w) × (bytes ≡ le (byte_len w) v) = subst (λ n. (n < 256 ^ byte_len w) × (bytes ≡ le (byte_len w) n)) (sym e) (number_text bytes small t.size) in
+      let is : (v < 256 ^ byte_len w) × (bytes ≡ le (byte_len w) v) = subst (λ n. (n < 256 ^ byte_len w) × (bytes ≡ le (byte_len w) n)) (sym e) (number_encoding bytes small t.size) in
       (is.0, subst (Takes (byte_len w) old new) is.1 t)
 
 pub number_gives : (k : ℕ) (any : Bool) (old new : ReaderState) (v : ℕ) → TakesNumber k old new v → Gives (number_read k any).reads old new v
@@ -53,28 +53,30 @@ pub number_puts : (w : Width) (some : 0 < byte_len w) (any : Bool) (old new : Re
 number_puts w some any old new bytes v t small e = puts (number_read (byte_len w) any).reads (λ n. n) old new v (number_gives (byte_len w) any old new v (number_taken w some old new bytes v t small e))
 
 -- a number was refused for its k bytes
-pub number_refuses : (k : ℕ) (any : Bool) (old new : ReaderState) (e : ReadError) → IsDenied k old new e → Refuses (number_read k any).reads 0 true old new e
+pub number_refuses : (k : ℕ) (any : Bool) (old new : ReaderState) (e : ReadError) → PieceReadRefused k old new e → ReadRefused (number_read k any).reads 0 true old new e
 number_refuses k any old new e d = denied_refuses (number_read k any).reads k (λ b v r. ap length r.1 ∙ length-le k v) 0 true old new e d
 
-number_is : (w : Width) (v : ℕ) (text : List ℕ) → text ≡ to_le_bytes w v → text ≡ le (byte_len w) v
-number_is w v text is = is ∙ to_le_bytes-le w v
+number_is : (w : Width) (v : ℕ) (encoding : List ℕ) → encoding ≡ to_le_bytes w v → encoding ≡ le (byte_len w) v
+number_is w v encoding is = is ∙ to_le_bytes-le w v
 
-number_size : (w : Width) (v : ℕ) (text : List ℕ) → text ≡ to_le_bytes w v → length text ≡ byte_len w
-number_size w v text is = ap length (number_is w v text is) ∙ length-le (byte_len w) v
+number_size : (w : Width) (v : ℕ) (encoding : List ℕ) → encoding ≡ to_le_bytes w v → length encoding ≡ byte_len w
+number_size w v encoding is = ap length (number_is w v encoding is) ∙ length-le (byte_len w) v
 
-module _ {S K : Type 0} {put : S → List ℕ → S} {room : S → ℕ} (w : Width) (any : Bool) (v : ℕ) {text : List ℕ} (is : text ≡ to_le_bytes w v) {old new : WriterState put room K} where
-  pub number_wrote : Added text old new → Wrote (number_write (byte_len w) any) old new v
-  number_wrote d = text_wrote (number_write (byte_len w) any) v text (number_is w v text is) (number_size w v text is) old new tt d
+module _ {S K : Type 0} {put : S → List ℕ → S} {room : S → ℕ} (w : Width) (any : Bool) (v : ℕ) {encoding : List ℕ} (is : encoding ≡ to_le_bytes w v) {old new : WriterState put room K} where
+  pub number_wrote : Added encoding old new → Wrote (number_write (byte_len w) any) old new v
+  number_wrote d = encoding_wrote (number_write (byte_len w) any) v encoding (number_is w v encoding is) (number_size w v encoding is) old new tt d
 
-  pub number_unwritten : WriterLaws put room → (e : IoWriteError) → IsWriteRefused (length text) old new e → Unwritten (number_write (byte_len w) any) old new v (writing.Io e)
-  number_unwritten laws e d = text_unwritten (number_write (byte_len w) any) v text (number_is w v text is) (number_size w v text is) laws old new e d
+  pub number_unwritten : WriterLaws put room → (e : IoWriteError) → BytesWriteRefused (length encoding) old new e → WriteRefused (number_write (byte_len w) any) old new v (writing.Io e)
+  number_unwritten laws e d = encoding_unwritten (number_write (byte_len w) any) v encoding (number_is w v encoding is) (number_size w v encoding is) laws old new e d
 
-  pub number_piece : (e : IoWriteError) → IsWriteRefused (length text) old new e → IsPieceRefused true (number_write (byte_len w) any) old new v (writing.Io e)
-  number_piece e d = text_piece (number_write (byte_len w) any) v text (number_is w v text is) (number_size w v text is) old new e d true
+  pub number_halted : WriterLaws put room → (e : IoWriteError) → BytesWriteRefused (length encoding) old new e → Stopped (number_write (byte_len w) any) old new v (writing.Io e)
+  number_halted laws e d =
+      let size = number_size w v encoding is in
+      encoding_stopped (number_write (byte_len w) any) v encoding (number_is w v encoding is) size laws old new e d (λ x. subst (λ n. PieceWriteRefused n (room old.content) [] (writing.Io e)) size x)
 
 -- the one byte of a byte
-pub byte_text : (v : ℕ) → v < 256 → v ∷ [] ≡ to_le_bytes w8 v
-byte_text v small = ap (λ b. b ∷ []) (omega arith)
+pub byte_encoding : (v : ℕ) → v < 256 → v ∷ [] ≡ to_le_bytes w8 v
+byte_encoding v small = ap (λ b. b ∷ []) (omega arith)
 
 -- ---- signed numbers, by the unsigned number that each stands as
 
@@ -88,29 +90,31 @@ module _ (w : Width) (pow : 256 ^ byte_len w ≡ 2 ^ bits w) (some : 0 < byte_le
       puts (signed_read w any).reads (λ y. y) old new z (subst P (sym e) (gives_map (number_read (byte_len w) any).reads (signed_read w any).reads old new n (cast_signed w n) (λ b r. signed_of w pow any b n r) read))
 
   -- a signed number was refused for its bytes
-  pub signed_refuses : (old new : ReaderState) (e : ReadError) → IsDenied (byte_len w) old new e → Refuses (signed_read w any).reads 0 true old new e
+  pub signed_refuses : (old new : ReaderState) (e : ReadError) → PieceReadRefused (byte_len w) old new e → ReadRefused (signed_read w any).reads 0 true old new e
   signed_refuses old new e d = refuses_map (number_read (byte_len w) any).reads (signed_read w any).reads 0 true old new e (λ b z t. (cast_unsigned w z, as_unsigned w pow any b z t)) (number_refuses (byte_len w) any old new e d)
 
-signed_is : (w : Width) (z : ℤ) (text : List ℕ) → text ≡ to_le_bytes w (cast_unsigned w z) → text ≡ le (byte_len w) (cast_unsigned w z)
-signed_is w z text is = number_is w (cast_unsigned w z) text is
+signed_is : (w : Width) (z : ℤ) (encoding : List ℕ) → encoding ≡ to_le_bytes w (cast_unsigned w z) → encoding ≡ le (byte_len w) (cast_unsigned w z)
+signed_is w z encoding is = number_is w (cast_unsigned w z) encoding is
 
-signed_size : (w : Width) (z : ℤ) (text : List ℕ) → text ≡ to_le_bytes w (cast_unsigned w z) → length text ≡ byte_len w
-signed_size w z text is = number_size w (cast_unsigned w z) text is
+signed_size : (w : Width) (z : ℤ) (encoding : List ℕ) → encoding ≡ to_le_bytes w (cast_unsigned w z) → length encoding ≡ byte_len w
+signed_size w z encoding is = number_size w (cast_unsigned w z) encoding is
 
-module _ {S K : Type 0} {put : S → List ℕ → S} {room : S → ℕ} (w : Width) (any : Bool) (z : ℤ) {text : List ℕ} (is : text ≡ to_le_bytes w (cast_unsigned w z)) {old new : WriterState put room K} where
-  pub signed_wrote : Added text old new → Wrote (signed_write w any) old new z
-  signed_wrote d = text_wrote (signed_write w any) z text (signed_is w z text is) (signed_size w z text is) old new tt d
+module _ {S K : Type 0} {put : S → List ℕ → S} {room : S → ℕ} (w : Width) (any : Bool) (z : ℤ) {encoding : List ℕ} (is : encoding ≡ to_le_bytes w (cast_unsigned w z)) {old new : WriterState put room K} where
+  pub signed_wrote : Added encoding old new → Wrote (signed_write w any) old new z
+  signed_wrote d = encoding_wrote (signed_write w any) z encoding (signed_is w z encoding is) (signed_size w z encoding is) old new tt d
 
-  pub signed_unwritten : WriterLaws put room → (e : IoWriteError) → IsWriteRefused (length text) old new e → Unwritten (signed_write w any) old new z (writing.Io e)
-  signed_unwritten laws e d = text_unwritten (signed_write w any) z text (signed_is w z text is) (signed_size w z text is) laws old new e d
+  pub signed_unwritten : WriterLaws put room → (e : IoWriteError) → BytesWriteRefused (length encoding) old new e → WriteRefused (signed_write w any) old new z (writing.Io e)
+  signed_unwritten laws e d = encoding_unwritten (signed_write w any) z encoding (signed_is w z encoding is) (signed_size w z encoding is) laws old new e d
 
-  pub signed_piece : (e : IoWriteError) → IsWriteRefused (length text) old new e → IsPieceRefused true (signed_write w any) old new z (writing.Io e)
-  signed_piece e d = text_piece (signed_write w any) z text (signed_is w z text is) (signed_size w z text is) old new e d true
+  pub signed_halted : WriterLaws put room → (e : IoWriteError) → BytesWriteRefused (length encoding) old new e → Stopped (signed_write w any) old new z (writing.Io e)
+  signed_halted laws e d =
+      let size = signed_size w z encoding is in
+      encoding_stopped (signed_write w any) z encoding (signed_is w z encoding is) size laws old new e d (λ x. subst (λ n. PieceWriteRefused n (room old.content) [] (writing.Io e)) size x)
 
 -- ---- booleans and values without bytes
 
 pub unit_puts : {X : Type 0} (s : ReaderState) (x : X) → Puts unit_read.reads (λ _. tt) s s (Some x)
-unit_puts s x = record { value = x; is = refl; gives = record { kept = record { lends = refl; steady = refl; told = refl }; found = λ t. record { text = []; is_read = refl; joins = refl }; place = λ t. still s } }
+unit_puts s x = record { kept = record { lends = refl; never_fails = refl; is_known = refl }; found = λ t. record { encoding = []; is_read = refl; joins = refl }; place = λ t. still s }
 
 one_of : (bytes : List ℕ) → length bytes ≡ 1 → bytes ≡ get_or bytes 0 0 ∷ []
 one_of [] e = absurd (omega arith)
@@ -122,7 +126,7 @@ pub byte_taken : (old new : ReaderState) (bytes : List ℕ) → Takes 1 old new 
 byte_taken old new bytes t = subst (Takes 1 old new) (one_of bytes t.size) t
 
 pub bool_puts : (old new : ReaderState) (v : ℕ) (b : Bool) → Takes 1 old new (v ∷ []) → v ≡ bool_byte b → Puts bool_read.reads (λ n. n) old new (Some b)
-bool_puts old new v b t e = record { value = b; is = refl; gives = takes_gives bool_read.reads 1 old new (v ∷ []) b t (ap (λ n. n ∷ []) e) }
+bool_puts old new v b t e = takes_gives bool_read.reads 1 old new (v ∷ []) b t (ap (λ n. n ∷ []) e)
 
 small_bool : (b : Bool) → bool_byte b ≤ 1
 small_bool false = omega arith
@@ -131,11 +135,11 @@ small_bool true = omega arith
 not_bool : (old new : ReaderState) (v : ℕ) → 1 < v → Takes 1 old new (v ∷ []) → Accepts bool_read.reads old → ⊥
 not_bool old new v big t a =
     let f = a.front.found in
-    let e : bool_byte a.front.value ∷ a.front.rest ≡ v ∷ new.rest = ap (λ x. x ++ a.front.rest) (sym f.is_read) ∙ sym f.joins ∙ takes_joins t a.told in
+    let e : bool_byte a.front.value ∷ a.front.rest ≡ v ∷ new.rest = ap (λ x. x ++ a.front.rest) (sym f.is_read) ∙ sym f.joins ∙ takes_joins t a.is_known in
     let same : bool_byte a.front.value ≡ v = cc in
     absurd (omega (arith, small_bool a.front.value, same))
 
-pub bool_refuses : (old new : ReaderState) (v : ℕ) → 1 < v → Takes 1 old new (v ∷ []) → Refuses bool_read.reads 0 true old new (reading.InvalidBoolEncoding v)
+pub bool_refuses : (old new : ReaderState) (v : ℕ) → 1 < v → Takes 1 old new (v ∷ []) → ReadRefused bool_read.reads 0 true old new (reading.InvalidBoolEncoding v)
 bool_refuses old new v big t =
     record { kept = t.loses.kept; left = λ told. record { front = v ∷ []; joins = takes_joins t told }; place = loses_onward 1 old new t.loses; due = not_bool old new v big t }
 

@@ -1,5 +1,6 @@
 mod Rows
 pub mod Refused
+pub mod ReadAnswers
 pub mod Integers
 pub mod Lengths
 pub mod Short
@@ -8,9 +9,10 @@ pub mod Items
 pub mod Runs
 pub mod Walks
 pub mod Bulk
-pub mod Text
+pub mod Strings
 pub mod Arrays
 pub mod InWindow
 pub mod Tags
 pub mod Views
 pub mod FormRuns
+pub mod WriteAnswers

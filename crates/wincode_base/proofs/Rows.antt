@@ -1,11 +1,11 @@
 -- The definitions, evaluated on worked rows of bytes and values.
 use Rattle.std.proofs.Common.{◌≡◌, sym, ap, ℕ, ◌<◌, ◌^◌, List, [], ◌∷◌, ◌++◌, length, refl, arith, true, length-append, lit<, lit≤, false, Option, Some, None, Err}
 use Rattle.wincode_io.specs.Numbers.{le}
-use Rattle.wincode_io.specs.ShortNumbers.{groups, short_text}
+use Rattle.wincode_io.specs.ShortNumbers.{groups, short_encoding}
 use Rattle.wincode_base.specs.Grammar.{ReadGrammar, WriteGrammar}
 use Rattle.wincode_base.specs.Leaves.{number_read, number_write}
-use Rattle.wincode_base.specs.Lengths.{bincode, IsLength}
-use Rattle.wincode_base.specs.LengthLaws.{bincode_text_is}
+use Rattle.wincode_base.specs.Lengths.{bincode, IsLength, preallocation_limit}
+use Rattle.wincode_base.specs.LengthLaws.{bincode_encoding_is}
 use Rattle.wincode_base.specs.LeafLaws.{number_one}
 use Rattle.wincode_base.specs.Lists.{list_read, list_write}
 use Rattle.wincode_base.specs.Outcomes.{Front}
@@ -13,7 +13,7 @@ use Rattle.wincode_base.specs.Tags.{option_read, option_write, result_read, resu
 use Rattle.wincode_base.specs.declared.meta.TypeMeta.TheVariants.{Static, Dynamic}
 
 abbrev limit : ℕ
-limit = 4194304
+limit = preallocation_limit
 
 abbrev zeros : List ℕ
 zeros = 0 ∷ 0 ∷ 0 ∷ 0 ∷ 0 ∷ 0 ∷ 0 ∷ []
@@ -28,10 +28,10 @@ abbrev nested : List (List ℕ)
 nested = (1 ∷ []) ∷ [] ∷ []
 
 -- the list of the list of 1 and the empty list, in 32 bytes
-abbrev nested_text : List ℕ
-nested_text = (2 ∷ zeros) ++ ((1 ∷ zeros) ++ ((1 ∷ zeros) ++ (0 ∷ zeros)))
+abbrev nested_encoding : List ℕ
+nested_encoding = (2 ∷ zeros) ++ ((1 ∷ zeros) ++ ((1 ∷ zeros) ++ (0 ∷ zeros)))
 
-pub nested_size : length nested_text ≡ 32
+pub nested_size : length nested_encoding ≡ 32
 nested_size = refl
 
 pub one_byte : (number_read 1 true).reads (7 ∷ []) 7
@@ -42,7 +42,7 @@ pub eight_bytes : (number_read 8 true).reads (2 ∷ 1 ∷ 0 ∷ 0 ∷ 0 ∷ 0 �
 unfolding le
 eight_bytes = (lit< tt, refl)
 
-pub nested_reads : (list_read (bincode limit) 24 numbers_read).reads nested_text nested
+pub nested_reads : (list_read (bincode limit) 24 numbers_read).reads nested_encoding nested
 unfolding le
 nested_reads = (
   (lit< tt, lit≤ tt),
@@ -61,7 +61,7 @@ nested_reads = (
   ),
 )
 
-pub nested_writes : (list_write (bincode limit) 24 numbers_write).writes nested nested_text
+pub nested_writes : (list_write (bincode limit) 24 numbers_write).writes nested nested_encoding
 unfolding le
 nested_writes = (
   2 ∷ zeros,
@@ -86,13 +86,13 @@ pub nothing_reads : Front numbers_read.reads [] → ⊥
 unfolding le
 nothing_reads f =
     let t = f.found.is_read.1 in
-    let size : length t.0 ≡ 8 = ap length (bincode_text_is limit (length f.value) t.0 t.2).1 in
-    absurd (omega (arith, ap length f.found.joins, length-append f.found.text f.rest, ap length t.4, length-append t.0 t.1, size))
+    let size : length t.0 ≡ 8 = ap length (bincode_encoding_is limit (length f.value) t.0 t.2).1 in
+    absurd (omega (arith, ap length f.found.joins, length-append f.found.encoding f.rest, ap length t.4, length-append t.0 t.1, size))
 
--- the length that bytes are the text of
+-- the length that bytes are the encoding of
 length_is : (b : List ℕ) (m n : ℕ) (p : ℕ) → m < 2 ^ 64 → b ≡ le 8 m → IsLength (bincode limit) p b n → n ≡ m
 length_is b m n p small e h =
-    let f = bincode_text_is limit n b h.1 in
+    let f = bincode_encoding_is limit n b h.1 in
     sym (number_one 8 true b b [] [] m n (small, e) (f.0, f.1) refl).1
 
 -- 524289 numbers are refused, and so are 2 to the 63
@@ -164,6 +164,6 @@ pub two_sizes : (result_read 4 (number_read 1 true) (number_read 2 true)).meta �
 two_sizes = refl
 
 -- the least and the greatest short numbers of one, two and three bytes
-pub short_rows : (short_text 127 ≡ 127 ∷ []) × (short_text 128 ≡ 128 ∷ 1 ∷ []) × (short_text 16383 ≡ 255 ∷ 127 ∷ []) × (short_text 16384 ≡ 128 ∷ 128 ∷ 1 ∷ []) × (short_text 65535 ≡ 255 ∷ 255 ∷ 3 ∷ [])
+pub short_rows : (short_encoding 127 ≡ 127 ∷ []) × (short_encoding 128 ≡ 128 ∷ 1 ∷ []) × (short_encoding 16383 ≡ 255 ∷ 127 ∷ []) × (short_encoding 16384 ≡ 128 ∷ 128 ∷ 1 ∷ []) × (short_encoding 65535 ≡ 255 ∷ 255 ∷ 3 ∷ [])
 unfolding groups
 short_rows = (refl, refl, refl, refl, refl)

@@ -1,15 +1,15 @@
 -- Going over the items of a collection, in writing.
-use Rattle.std.proofs.Common.{◌≡◌, ◌∙◌, sym, ap, subst, ℕ, ◌+◌, ◌<◌, ◌≤◌, ◌^◌, List, [], ◌∷◌, ◌++◌, map, arith, append_assoc}
+use Rattle.std.proofs.Common.{◌≡◌, ◌∙◌, sym, ap, subst, ℕ, ◌+◌, ◌-◌, ◌<◌, ◌≤◌, ◌^◌, List, [], ◌∷◌, ◌++◌, length, map, arith, append_assoc, length-append, inl, inr}
 use Rattle.std.proofs.lemmas.List.{map-append}
 use Rattle.wincode_io.specs.Joins.{Joined, Each, total}
 use Rattle.wincode_io.specs.JoinLaws.{joined_append, each_split, each_append, total-append}
 use Rattle.wincode_io.specs.Writers.{WriterState, WriterLaws}
 use Rattle.wincode_base.specs.Grammar.{WriteGrammar, WriteLaws}
-use Rattle.wincode_base.specs.Lists.{items_write, IsSumRefused}
+use Rattle.wincode_base.specs.Lists.{items_write, ItemsWriteRefused, SizesRefused}
 use Rattle.wincode_base.specs.ListLaws.{items_write_laws}
-use Rattle.wincode_base.specs.Outcomes.{Wrote, Unwritten, IsSizeRefused}
+use Rattle.wincode_base.specs.Outcomes.{Wrote, WriteRefused, Stopped, PieceWriteRefused, SizeRefused}
 use Rattle.wincode_base.specs.Pairs.{pair_write}
-use Rattle.wincode_base.specs.WriteSequences.{items_wrote_more, items_unwritten, wrote_map, unwritten_map, pair_wrote, pair_unwritten_first, pair_unwritten_second}
+use Rattle.wincode_base.specs.WriteSequences.{items_wrote_more, items_unwritten, items_halted, stopped_map, stopped_behind, wrote_map, unwritten_map, pair_wrote, pair_unwritten_first, pair_unwritten_second}
 use Rattle.wincode_base.specs.declared.error.WriteError.{WriteError}
 
 -- so far the items before `rest` were written
@@ -26,15 +26,64 @@ pub record SumsSoFar {E V : Type 0} (g : WriteGrammar V) (see : E → V) (before
   pub can : Each g.can (map see done)
   pub is : sum ≡ before + total g.size (map see done)
 
-part_seen : {E V : Type 0} (see : E → V) (done rest all left : List E) (e : E) → done ++ left ≡ all → left ≡ e ∷ rest → map see done ++ (see e ∷ map see rest) ≡ map see all
-part_seen see done rest all left e j l = sym (map-append see done (e ∷ rest)) ∙ ap (λ t. map see (done ++ t)) (sym l) ∙ ap (map see) j
+part_model : {E V : Type 0} (see : E → V) (done rest all left : List E) (e : E) → done ++ left ≡ all → left ≡ e ∷ rest → map see done ++ (see e ∷ map see rest) ≡ map see all
+part_model see done rest all left e j l = sym (map-append see done (e ∷ rest)) ∙ ap (λ t. map see (done ++ t)) (sym l) ∙ ap (map see) j
 
 part_more : {E : Type 0} (done rest all left : List E) (e : E) → done ++ left ≡ all → left ≡ e ∷ rest → (done ++ (e ∷ [])) ++ rest ≡ all
 part_more done rest all left e j l = append_assoc done (e ∷ []) rest ∙ ap (λ t. done ++ t) (sym l) ∙ j
 
+-- what holds of each of two runs of items holds of each of all
+pub runs_each : {E : Type 0} (P : E → Type 0) (xs ys all : List E) → xs ++ ys ≡ all → Each P xs → Each P ys → Each P all
+runs_each P xs ys all e p q = subst (Each P) e (each_append P xs ys p q)
+
 -- what holds of two runs of items holds of all
 both : {E V : Type 0} (see : E → V) (xs ys all : List E) → xs ++ ys ≡ all → (Q : List V → Type 0) → Q (map see xs ++ map see ys) → Q (map see all)
 both see xs ys all e Q q = subst Q (sym (map-append see xs ys) ∙ ap (map see) e) q
+
+module _ {V : Type 0} (g : WriteGrammar V) (us vs : List V) where
+  -- the first run was refused
+  refused_front : (room : ℕ) (added : List ℕ) (e : WriteError) → ItemsWriteRefused g us room added e → ItemsWriteRefused g (us ++ vs) room added e
+  refused_front room added e d = λ dynamic. elim (d dynamic) [
+    | inl i ↦ inl (record {
+      before = i.before;
+      item = i.item;
+      after = i.after ++ vs;
+      encoding = i.encoding;
+      rest = i.rest;
+      is = ap (λ t. t ++ vs) i.is ∙ append_assoc i.before (i.item ∷ i.after) vs;
+      written = i.written;
+      joins = i.joins;
+      refused = i.refused;
+    })
+    | inr n ↦ inr (record { before = n.before; after = n.after ++ vs; is = ap (λ t. t ++ vs) n.is ∙ append_assoc n.before n.after vs; written = n.written; refused = n.refused })
+  ]
+
+  -- behind the encoding of the first, the second was refused
+  refused_behind : (encoding : List ℕ) → Joined g.writes us encoding → (room : ℕ) (added : List ℕ) (e : WriteError) → ItemsWriteRefused g vs (room - length encoding) added e → ItemsWriteRefused g (us ++ vs) room (encoding ++ added) e
+  refused_behind encoding j room added e d = λ dynamic. elim (d dynamic) [
+    | inl i ↦
+        let less : room - length encoding - length i.encoding ≡ room - length (encoding ++ i.encoding) = omega (arith, length-append encoding i.encoding) in
+        inl (record {
+          before = us ++ i.before;
+          item = i.item;
+          after = i.after;
+          encoding = encoding ++ i.encoding;
+          rest = i.rest;
+          is = ap (λ t. us ++ t) i.is ∙ sym (append_assoc us i.before (i.item ∷ i.after));
+          written = joined_append g.writes us i.before encoding i.encoding j i.written;
+          joins = ap (λ t. encoding ++ t) i.joins ∙ sym (append_assoc encoding i.encoding i.rest);
+          refused = subst (λ k. g.refused i.item k i.rest e) less i.refused;
+        })
+    | inr n ↦
+        let less : room - length encoding - length added ≡ room - length (encoding ++ added) = omega (arith, length-append encoding added) in
+        inr (record {
+          before = us ++ n.before;
+          after = n.after;
+          is = ap (λ t. us ++ t) n.is ∙ sym (append_assoc us n.before n.after);
+          written = joined_append g.writes us n.before encoding added j n.written;
+          refused = subst (λ k. PieceWriteRefused 0 k [] e) less n.refused;
+        })
+  ]
 
 module _ {S K V E : Type 0} {put : S → List ℕ → S} {room : S → ℕ} (laws : WriterLaws put room) {g : WriteGrammar V} {P : E → Type 0} {see : E → V} (l : WriteLaws P see g) where
   pub walk_more : {old cur new : WriterState put room K} {all rest left : List E} {e : E} → WritesSoFar g see P old cur all left → left ≡ e ∷ rest → Wrote g cur new (see e) → P e → WritesSoFar g see P old new all rest
@@ -45,11 +94,15 @@ module _ {S K V E : Type 0} {put : S → List ℕ → S} {room : S → ℕ} (law
     each = each_append P w.done (e ∷ []) w.each (h, tt);
   }
 
-  pub walk_refused : {old cur new : WriterState put room K} {all rest left : List E} {e : E} {x : WriteError} → WritesSoFar g see P old cur all left → left ≡ e ∷ rest → Unwritten g cur new (see e) x
-      → Unwritten (items_write g) old new (map see all) x
+  pub walk_refused : {old cur new : WriterState put room K} {all rest left : List E} {e : E} {x : WriteError} → WritesSoFar g see P old cur all left → left ≡ e ∷ rest → WriteRefused g cur new (see e) x
+      → WriteRefused (items_write g) old new (map see all) x
   walk_refused {old} {cur} {new} {all} {rest} {left} {e} {x} w k u =
-      let Q : List V → Type 0 = λ vs. Unwritten (items_write g) old new vs x in
-      subst Q (part_seen see w.done rest all left e w.joins k) (items_unwritten laws l (map see w.done) (see e) (map see rest) w.items u)
+      let Q : List V → Type 0 = λ vs. WriteRefused (items_write g) old new vs x in
+      subst Q (part_model see w.done rest all left e w.joins k) (items_unwritten laws l (map see w.done) (see e) (map see rest) w.items u)
+
+  pub walk_halted : {old cur new : WriterState put room K} {all rest left : List E} {e : E} {x : WriteError} → WritesSoFar g see P old cur all left → left ≡ e ∷ rest → Stopped g cur new (see e) x
+      → Stopped (items_write g) old new (map see all) x
+  walk_halted {all = all} {rest = rest} {left = left} {e = e} w k s = items_halted laws l (map see w.done) (see e) (map see rest) (map see all) (sym (part_model see w.done rest all left e w.joins k)) w.items s
 
   -- ---- two runs of items, one after the other
 
@@ -62,23 +115,35 @@ module _ {S K V E : Type 0} {put : S → List ℕ → S} {room : S → ℕ} (law
       (λ b w. subst (Joined g.writes (us ++ vs)) (sym w.4) (joined_append g.writes us vs w.0 w.1 w.2 w.3))
       (pair_wrote (items_write_laws P see g l) (items_write_laws P see g l) laws r s))
 
-  pub runs_refused_first : {old new : WriterState put room K} {x : WriteError} (xs ys all : List E) → xs ++ ys ≡ all → Unwritten (items_write g) old new (map see xs) x → Unwritten (items_write g) old new (map see all) x
+  pub runs_refused_first : {old new : WriterState put room K} {x : WriteError} (xs ys all : List E) → xs ++ ys ≡ all → WriteRefused (items_write g) old new (map see xs) x → WriteRefused (items_write g) old new (map see all) x
   runs_refused_first {old} {new} {x} xs ys all e u =
       let us = map see xs in let vs = map see ys in
-      both see xs ys all e (λ ws. Unwritten (items_write g) old new ws x)
+      both see xs ys all e (λ ws. WriteRefused (items_write g) old new ws x)
       (unwritten_map (pair_write (items_write g) (items_write g)) (items_write g) (us, vs) (us ++ vs)
       (λ c. each_split g.can us vs c) (total-append g.size us vs)
       (λ b w. subst (Joined g.writes (us ++ vs)) (sym w.4) (joined_append g.writes us vs w.0 w.1 w.2 w.3))
       (pair_unwritten_first (items_write_laws P see g l) (items_write_laws P see g l) vs u))
 
-  pub runs_refused_second : {old mid new : WriterState put room K} {x : WriteError} (xs ys all : List E) → xs ++ ys ≡ all → Wrote (items_write g) old mid (map see xs) → Unwritten (items_write g) mid new (map see ys) x → Unwritten (items_write g) old new (map see all) x
+  pub runs_refused_second : {old mid new : WriterState put room K} {x : WriteError} (xs ys all : List E) → xs ++ ys ≡ all → Wrote (items_write g) old mid (map see xs) → WriteRefused (items_write g) mid new (map see ys) x → WriteRefused (items_write g) old new (map see all) x
   runs_refused_second {old} {mid} {new} {x} xs ys all e r u =
       let us = map see xs in let vs = map see ys in
-      both see xs ys all e (λ ws. Unwritten (items_write g) old new ws x)
+      both see xs ys all e (λ ws. WriteRefused (items_write g) old new ws x)
       (unwritten_map (pair_write (items_write g) (items_write g)) (items_write g) (us, vs) (us ++ vs)
       (λ c. each_split g.can us vs c) (total-append g.size us vs)
       (λ b w. subst (Joined g.writes (us ++ vs)) (sym w.4) (joined_append g.writes us vs w.0 w.1 w.2 w.3))
       (pair_unwritten_second (items_write_laws P see g l) (items_write_laws P see g l) laws r u))
+
+  pub runs_halted_first : {old new : WriterState put room K} {x : WriteError} (xs ys all : List E) → xs ++ ys ≡ all → Stopped (items_write g) old new (map see xs) x → Stopped (items_write g) old new (map see all) x
+  runs_halted_first {old} {new} {x} xs ys all e s =
+      let us = map see xs in let vs = map see ys in
+      both see xs ys all e (λ ws. Stopped (items_write g) old new ws x)
+      (stopped_map (items_write g) (items_write g) us (us ++ vs) (λ a r. refused_front g us vs (room old.content) a x r) s)
+
+  pub runs_halted_second : {old mid new : WriterState put room K} {x : WriteError} (xs ys all : List E) → xs ++ ys ≡ all → Wrote (items_write g) old mid (map see xs) → Stopped (items_write g) mid new (map see ys) x → Stopped (items_write g) old new (map see all) x
+  runs_halted_second {old} {mid} {new} {x} xs ys all e r s =
+      let us = map see xs in let vs = map see ys in
+      both see xs ys all e (λ ws. Stopped (items_write g) old new ws x)
+      (stopped_behind (items_write_laws P see g l) laws (items_write g) (items_write g) vs (us ++ vs) r s (λ d. refused_behind g us vs r.encoding r.is_encoding (room old.content) s.added x d))
 
 module _ {V E : Type 0} (g : WriteGrammar V) (see : E → V) (before : ℕ) where
   pub sum_more : (sum new : ℕ) (all rest left : List E) (e : E) → SumsSoFar g see before sum all left → left ≡ e ∷ rest → g.can (see e) → new ≡ sum + g.size (see e) → SumsSoFar g see before new all rest
@@ -91,15 +156,15 @@ module _ {V E : Type 0} (g : WriteGrammar V) (see : E → V) (before : ℕ) wher
 
   total_part : (sum : ℕ) (all rest left : List E) (e : E) → SumsSoFar g see before sum all left → left ≡ e ∷ rest → sum + g.size (see e) ≤ before + total g.size (map see all)
   total_part sum all rest left e w k =
-      let a = ap (total g.size) (part_seen see w.done rest all left e w.joins k) in
+      let a = ap (total g.size) (part_model see w.done rest all left e w.joins k) in
       let b = total-append g.size (map see w.done) (see e ∷ map see rest) in
       let d = w.is in omega (arith, a, b, d)
 
-  pub sum_refused : (sum : ℕ) (all rest left : List E) (e : E) (x : WriteError) → SumsSoFar g see before sum all left → left ≡ e ∷ rest → IsSizeRefused g (see e) x → IsSumRefused before g (map see all) x
+  pub sum_refused : (sum : ℕ) (all rest left : List E) (e : E) (x : WriteError) → SumsSoFar g see before sum all left → left ≡ e ∷ rest → SizeRefused g (see e) x → SizesRefused before g (map see all) x
   sum_refused sum all rest left e x w k d = (
     λ c fits.
-        let own = each_split g.can (map see w.done) (see e ∷ map see rest) (subst (Each g.can) (sym (part_seen see w.done rest all left e w.joins k)) c) in
-        let t = total_part sum all rest left e w k in d.0 own.1.0 (omega (arith, t, fits)),
+        let builtin = each_split g.can (map see w.done) (see e ∷ map see rest) (subst (Each g.can) (sym (part_model see w.done rest all left e w.joins k)) c) in
+        let t = total_part sum all rest left e w k in d.0 builtin.1.0 (omega (arith, t, fits)),
     d.1,
   )
 
@@ -117,10 +182,10 @@ module _ {V E : Type 0} (g : WriteGrammar V) (see : E → V) (before : ℕ) wher
   can_parted : (xs ys all : List E) → xs ++ ys ≡ all → Each g.can (map see all) → Each g.can (map see xs) × Each g.can (map see ys)
   can_parted xs ys all e c = each_split g.can (map see xs) (map see ys) (subst (Each g.can) (sym (parted xs ys all e)) c)
 
-  pub sums_first : (xs ys all : List E) (x : WriteError) → xs ++ ys ≡ all → IsSumRefused before g (map see xs) x → IsSumRefused before g (map see all) x
+  pub sums_first : (xs ys all : List E) (x : WriteError) → xs ++ ys ≡ all → SizesRefused before g (map see xs) x → SizesRefused before g (map see all) x
   sums_first xs ys all x e d = (λ c fits. d.0 (can_parted xs ys all e c).0 (omega (arith, fits, total_parted xs ys all e)), d.1)
 
-  pub sums_second : (xs ys all : List E) (sum : ℕ) (x : WriteError) → xs ++ ys ≡ all → sum ≡ before + total g.size (map see xs) → IsSumRefused sum g (map see ys) x → IsSumRefused before g (map see all) x
+  pub sums_second : (xs ys all : List E) (sum : ℕ) (x : WriteError) → xs ++ ys ≡ all → sum ≡ before + total g.size (map see xs) → SizesRefused sum g (map see ys) x → SizesRefused before g (map see all) x
   sums_second xs ys all sum x e s d = (λ c fits. d.0 (can_parted xs ys all e c).1 (omega (arith, fits, s, total_parted xs ys all e)), d.1)
 
   pub sums_both : (xs ys all : List E) (sum n : ℕ) → xs ++ ys ≡ all → Each g.can (map see xs) × (sum ≡ before + total g.size (map see xs)) → Each g.can (map see ys) × (n ≡ sum + total g.size (map see ys))

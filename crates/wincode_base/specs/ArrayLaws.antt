@@ -4,7 +4,7 @@ use Rattle.std.proofs.lemmas.List.{take-append-drop, length-take, length-drop, l
 use Rattle.std.proofs.lemmas.List.Elements.{All-take, All-drop}
 use Rattle.wincode_io.specs.Bytes.{IsBytes}
 use Rattle.wincode_base.specs.Grammar.{ReadGrammar, WriteGrammar, ReadLaws, WriteLaws, ReadsBack, IsReadStatic, IsWriteStatic}
-use Rattle.wincode_base.specs.ListLaws.{each_proper, each_back, each_within, items_write_laws}
+use Rattle.wincode_base.specs.ListLaws.{each_valid, each_back, each_within, items_write_laws}
 use Rattle.wincode_base.specs.Arrays.{times_meta, times_prealloc, IsArray, array_read, array_write}
 use Rattle.wincode_base.specs.declared.meta.TypeMeta.{TypeMeta}
 use Rattle.wincode_base.specs.declared.meta.TypeMeta.TheVariants.{Static, Dynamic}
@@ -19,7 +19,7 @@ module _ {V : Type 0} (reads : List ℕ → V → Type 0) (s : ℕ) where
       let more = joined_size size vs p.1 p.3 in
       ap length p.4 ∙ length-append p.0 p.1 ∙ omega arith
 
-  -- so many bytes are a text of each item in turn
+  -- so many bytes are an encoding of each item in turn
   joined_any : ((b : List ℕ) → IsBytes b → length b ≡ s → (v : V) × reads b v) → (n : ℕ) (b : List ℕ) → IsBytes b → length b ≡ n * s → (vs : List V) × AreItems n reads b vs
   joined_any any zero [] all e = ([], (refl, refl))
   joined_any any zero (c ∷ b) all e = absurd (omega arith)
@@ -39,49 +39,49 @@ read_statics n reads Dynamic h = tt
 read_statics n reads (Static s z) h = read_static_if (AreItems n reads) (nat_lt (n * s) (2 ^ 64)) (Static (n * s) z)
     ((λ b vs r. joined_size reads s h.0 vs b r.1 ∙ ap (λ k. k * s) r.0), λ t b all e. joined_any reads s (h.1 t) n b all e)
 
-pub array_read_laws : {V : Type 0} (n : ℕ) (proper : V → Type 0) (g : ReadGrammar V) → ReadLaws proper g → ReadLaws (IsArray n proper) (array_read n g)
-array_read_laws n proper g laws = record {
+pub array_read_laws : {V : Type 0} (n : ℕ) (is_valid : V → Type 0) (g : ReadGrammar V) → ReadLaws is_valid g → ReadLaws (IsArray n is_valid) (array_read n g)
+array_read_laws n is_valid g laws = record {
   one_front = items_one g.reads laws.one_front n;
-  is_proper = λ b vs r. (r.0, each_proper proper g laws vs b r.1);
+  reads_valid = λ b vs r. (r.0, each_valid is_valid g laws vs b r.1);
   statics = read_statics n g.reads g.meta laws.statics;
   prealloc = omega arith;
 }
 
 -- ---- writing
 
-each_can : {X V : Type 0} (proper : X → Type 0) (seen : X → V) (can : V → Type 0) → ((x : X) → proper x → can (seen x)) → (xs : List X) → Each proper xs → Each can (map seen xs)
-each_can proper seen can h [] p = tt
-each_can proper seen can h (x ∷ xs) p = (h x p.0, each_can proper seen can h xs p.1)
+each_can : {X V : Type 0} (is_valid : X → Type 0) (model : X → V) (can : V → Type 0) → ((x : X) → is_valid x → can (model x)) → (xs : List X) → Each is_valid xs → Each can (map model xs)
+each_can is_valid model can h [] p = tt
+each_can is_valid model can h (x ∷ xs) p = (h x p.0, each_can is_valid model can h xs p.1)
 
 each_size : {V : Type 0} (can : V → Type 0) (size : V → ℕ) (s : ℕ) → ((v : V) → can v → size v ≡ s) → (vs : List V) → Each can vs → total size vs ≡ length vs * s
 each_size can size s h [] c = omega arith
 each_size can size s h (v ∷ vs) c = omega (arith, h v c.0, each_size can size s h vs c.1)
 
-write_static_if : {X V : Type 0} (proper : X → Type 0) (seen : X → V) (can : V → Type 0) (size : V → ℕ) (b : Bool) (m : TypeMeta) → IsWriteStatic proper seen can size m → IsWriteStatic proper seen can size (cond b m Dynamic)
-write_static_if proper seen can size true m h = h
-write_static_if proper seen can size false m h = tt
+write_static_if : {X V : Type 0} (is_valid : X → Type 0) (model : X → V) (can : V → Type 0) (size : V → ℕ) (b : Bool) (m : TypeMeta) → IsWriteStatic is_valid model can size m → IsWriteStatic is_valid model can size (cond b m Dynamic)
+write_static_if is_valid model can size true m h = h
+write_static_if is_valid model can size false m h = tt
 
-write_statics : {X V : Type 0} (n : ℕ) (proper : X → Type 0) (seen : X → V) (can : V → Type 0) (size : V → ℕ) (m : TypeMeta) → IsWriteStatic proper seen can size m → IsWriteStatic {X = List X} (IsArray n proper) (map seen) (IsArray n can) (total size) (times_meta n m)
-write_statics n proper seen can size Dynamic h = tt
-write_statics n proper seen can size (Static s z) h = write_static_if (IsArray n proper) (map seen) (IsArray n can) (total size) (nat_lt (n * s) (2 ^ 64)) (Static (n * s) z)
-    ((λ xs p. (length-map xs seen ∙ p.0, each_can proper seen can h.0 xs p.1)), (λ vs c. each_size can size s h.1 vs c.1 ∙ ap (λ k. k * s) c.0))
+write_statics : {X V : Type 0} (n : ℕ) (is_valid : X → Type 0) (model : X → V) (can : V → Type 0) (size : V → ℕ) (m : TypeMeta) → IsWriteStatic is_valid model can size m → IsWriteStatic {X = List X} (IsArray n is_valid) (map model) (IsArray n can) (total size) (times_meta n m)
+write_statics n is_valid model can size Dynamic h = tt
+write_statics n is_valid model can size (Static s z) h = write_static_if (IsArray n is_valid) (map model) (IsArray n can) (total size) (nat_lt (n * s) (2 ^ 64)) (Static (n * s) z)
+    ((λ xs p. (length-map xs model ∙ p.0, each_can is_valid model can h.0 xs p.1)), (λ vs c. each_size can size s h.1 vs c.1 ∙ ap (λ k. k * s) c.0))
 
-pub array_write_laws : {X V : Type 0} (n : ℕ) (proper : X → Type 0) (seen : X → V) (g : WriteGrammar V) → WriteLaws proper seen g → WriteLaws {X = List X} (IsArray n proper) (map seen) (array_write n g)
-array_write_laws n proper seen g laws =
-    let items = items_write_laws proper seen g laws in record {
-      has_text = λ vs c. let r = items.has_text vs c.1 in (r.0, (c.0, r.1));
-      text_size = λ vs b w. items.text_size vs b w.1;
+pub array_write_laws : {X V : Type 0} (n : ℕ) (is_valid : X → Type 0) (model : X → V) (g : WriteGrammar V) → WriteLaws is_valid model g → WriteLaws {X = List X} (IsArray n is_valid) (map model) (array_write n g)
+array_write_laws n is_valid model g laws =
+    let items = items_write_laws is_valid model g laws in record {
+      has_encoding = λ vs c. let r = items.has_encoding vs c.1 in (r.0, (c.0, r.1));
+      encoding_size = λ vs b w. items.encoding_size vs b w.1;
       can_fit = λ vs f. (f.0, items.can_fit vs f.1);
-      statics = write_statics n proper seen g.can g.size g.meta laws.statics;
+      statics = write_statics n is_valid model g.can g.size g.meta laws.statics;
     }
 
 -- ---- reading back what was written
 
-pub array_reads_back : {X V W : Type 0} (n : ℕ) (proper : X → Type 0) (ws : X → W) (w : WriteGrammar W) (rs : X → V) (r : ReadGrammar V) → ReadsBack proper ws w rs r
-    → ReadsBack {X = List X} (IsArray n proper) (map ws) (array_write n w) (map rs) (array_read n r)
-array_reads_back n proper ws w rs r law = record {
-  back = λ xs b p t f. (length-map xs rs ∙ p.0, each_back proper ws w rs r law xs b p.1 t.1 f.1);
-  within = λ b xs t. (length-map xs ws ∙ sym (length-map xs rs) ∙ t.0, each_within proper ws w rs r law xs b t.1);
+pub array_reads_back : {X V W : Type 0} (n : ℕ) (is_valid : X → Type 0) (ws : X → W) (w : WriteGrammar W) (rs : X → V) (r : ReadGrammar V) → ReadsBack is_valid ws w rs r
+    → ReadsBack {X = List X} (IsArray n is_valid) (map ws) (array_write n w) (map rs) (array_read n r)
+array_reads_back n is_valid ws w rs r law = record {
+  back = λ xs b p t f. (length-map xs rs ∙ p.0, each_back is_valid ws w rs r law xs b p.1 t.1 f.1);
+  within = λ b xs t. (length-map xs ws ∙ sym (length-map xs rs) ∙ t.0, each_within is_valid ws w rs r law xs b t.1);
   same_prealloc = ap (times_prealloc n) law.same_prealloc;
   same_meta = ap (times_meta n) law.same_meta;
 }

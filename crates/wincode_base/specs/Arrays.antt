@@ -1,10 +1,12 @@
--- Arrays: so many texts joined, without a length.
+-- Arrays: so many encodings joined, without a length.
 use Rattle.std.specs.Prelude.{◌≡◌, ℕ, ◌*◌, ◌^◌, List, length, min, max, nat_lt, if◌then◌else◌}
 use Rattle.wincode_io.specs.Writers.{byte_limit}
 use Rattle.wincode_base.specs.Grammar.{ReadGrammar, WriteGrammar}
+use Rattle.wincode_base.specs.Lists.{ItemsReadRefused}
 use Rattle.wincode_base.specs.declared.meta.TypeMeta.{TypeMeta}
 use Rattle.wincode_base.specs.declared.meta.TypeMeta.TheVariants.{Static, Dynamic}
 use Rattle.wincode_io.specs.Joins.{Joined, Each, total, AreItems}
+use Rattle.wincode_base.specs.Lists.{ItemsWriteRefused}
 
 -- n items of one size have n times it, where that is at most `usize::MAX`
 abbrev pub times_meta : ℕ → TypeMeta → TypeMeta
@@ -19,15 +21,18 @@ times_prealloc n p = max (min (n * p) byte_limit) 1
 abbrev pub IsArray : {A : Type 0} → ℕ → (A → Type 0) → List A → Type 0
 IsArray n P xs = (length xs ≡ n) × Each P xs
 
+-- Reading an array: n items, one after another, with no length before them.
 abbrev pub array_read : {V : Type 0} → ℕ → ReadGrammar V → ReadGrammar (List V)
 array_read n g = record {
   reads = AreItems n g.reads;
   meta = times_meta n g.meta;
   prealloc = times_prealloc n g.prealloc;
-  asks = g.asks;
-  sparing = g.sparing;
+  borrow = g.borrow;
+  takes_no_memory = g.takes_no_memory;
+  refused = ItemsReadRefused n g;
 }
 
+-- Writing an array: an encoding of each of n items, one after another, with no length before them.
 abbrev pub array_write : {V : Type 0} → ℕ → WriteGrammar V → WriteGrammar (List V)
 array_write n g = record {
   writes = λ vs b. (length vs ≡ n) × Joined g.writes vs b;
@@ -36,5 +41,6 @@ array_write n g = record {
   fits = λ vs. IsArray n g.fits vs;
   meta = times_meta n g.meta;
   prealloc = times_prealloc n g.prealloc;
-  own = g.own;
+  builtin = g.builtin;
+  refused = ItemsWriteRefused g;
 }

@@ -25,55 +25,58 @@ use Rattle.wincode_collect.specs.CollectionLaws.{find_keys, find_values, perm_fi
 use Rattle.wincode_collect.specs.Seen.{sees, hash_set_sees, hash_map_sees, heap_sees, Made}
 use Rattle.wincode_collect.specs.SeenLaws.{same_bag}
 use Rattle.wincode_collect.specs.OwnLaws.{keys_fewer, own_map, map_shorter, once_too, perm_lookup, count_all}
+use Rattle.wincode_base.specs.declared.sizes.ItemSize.{ItemSize}
 use Rattle.wincode_base.specs.Grammar.{ReadGrammar, WriteGrammar, ReadsBack}
-use Rattle.wincode_base.specs.Lengths.{Scheme, SchemeLaws, HasText, bincode}
+use Rattle.wincode_base.specs.Lengths.{Scheme, SchemeLaws, HasEncoding, bincode, preallocation_limit}
 use Rattle.wincode_base.specs.LengthLaws.{bincode_laws}
-use Rattle.wincode_base.specs.Lists.{list_read, list_write}
+use Rattle.wincode_base.specs.Lists.{list_read, list_write_of, list_write}
 use Rattle.wincode_base.specs.ListLaws.{list_reads_back}
 use Rattle.wincode_base.specs.Pairs.{pair_read, pair_write}
 use Rattle.wincode_base.specs.PairLaws.{pair_reads_back}
-use Rattle.wincode_base.specs.Keys.{IsTold}
-use Rattle.wincode_base.specs.Gathered.{gathered_read, scattered_write}
+use Rattle.wincode_base.specs.Keys.{IsDecidable}
+use Rattle.wincode_base.specs.Gathered.{gathered_read, scattered_write_of, scattered_write}
+use Rattle.wincode_base.specs.ItemSizes.{item_size, pair_size}
+use Rattle.wincode_base.specs.declared.sizes.ItemSize.{ItemSize}
 use Rattle.wincode_base.specs.GatheredLaws.{map_each, set_each, each_found, each_of_see, each_see, each_reverse, IfSome-map, IfSome-unmap, IfSome-first, IfSome-second, IfSome-both}
-use Rattle.wincode_base.specs.ScatteredLaws.{each_permutation, order_seen}
+use Rattle.wincode_base.specs.ScatteredLaws.{each_permutation, order_model}
 
 admits_less : (limit p m n : ℕ) → m ≤ n → (bincode limit).admits n p → (bincode limit).admits m p
 admits_less limit p m n l h = let k : m * p ≤ n * p = mul-le m p n p l (omega arith) in (omega (arith, h.0), omega (arith, k, h.1))
 
 fits_permutation : {V : Type 0} (s : Scheme) (w : WriteGrammar V) (vs us : List V) → IsPermutation vs us → (list_write s 24 w).fits vs → (list_write s 24 w).fits us
 fits_permutation s w vs us p f =
-    let l = sym (length_permutation vs us p) in (subst (HasText s) l f.0, subst (λ n. s.admits n w.prealloc) l f.1, each_permutation w.fits vs us p f.2)
+    let l = sym (length_permutation vs us p) in (subst (HasEncoding s) l f.0, subst (λ n. s.admits n w.prealloc) l f.1, each_permutation w.fits vs us p f.2)
 
 -- ---- a collection that is written in an order, and one that is written in any
 
-module _ {X E V W U : Type 0} (s : Scheme) (scheme : SchemeLaws s) (items : X → List E) (sound : X → Type 0) (P : E → Type 0) (ws : E → W) (w : WriteGrammar W) (rs : E → V) (r : ReadGrammar V) (law : ReadsBack P ws w rs r)
-    (made : List E → List E → Type 0) (show : List E → U)
+module _ {X E V W U : Type 0} (s : Scheme) (scheme : SchemeLaws s) (size : ItemSize) (items : X → List E) (sound : X → Type 0) (P : E → Type 0) (ws : E → W) (w : WriteGrammar W) (rs : E → V) (r : ReadGrammar V) (law : ReadsBack P ws w rs r)
+    (written_size : ItemSize) (made : List E → List E → Type 0) (show : List E → U)
     (admitted : (ds : List E) (x : X) (p : ℕ) → Made made show ds (show (items x)) → s.admits (length ds) p → s.admits (length (items x)) p)
     (holds : (ds : List E) (x : X) (b : List ℕ) → Joined (λ v t. r.reads t v) (map rs ds) b → Made made show ds (show (items x)) → Each w.fits (map ws (items x))) where
   lists : ReadsBack (λ es. Each P es) (λ es. map ws es) (list_write s 24 w) (λ es. map rs es) (list_read s 24 r)
   lists = list_reads_back s scheme 24 (λ es. es) P ws w rs r law
 
-  all_within : (b : List ℕ) (x : X) → (gathered_read rs (Made made show) s r).reads b (show (items x)) → (list_write s 24 w).fits (map ws (items x))
+  all_within : (b : List ℕ) (x : X) → (gathered_read rs (Made made show) s size r).reads b (show (items x)) → (list_write s 24 w).fits (map ws (items x))
   all_within b x h =
       let n = length (map ws (items x)) in
       let admits : s.admits n r.prealloc = subst (λ k. s.admits k r.prealloc) (sym (length-map (items x) ws)) (admitted h.0 x r.prealloc h.2 (subst (λ k. s.admits k r.prealloc) (length-map h.0 rs) h.1.0)) in
       (scheme.admitted n r.prealloc admits, subst (λ k. s.admits n k) (sym law.same_prealloc) admits, holds h.0 x h.1.1.1 h.1.1.3 h.2)
 
-  pub ordered_reads_back : ((x : X) → sound x → made (items x) (items x)) → ReadsBack (λ x. sound x × Each P (items x)) (λ x. map ws (items x)) (list_write s 24 w) (λ x. show (items x)) (gathered_read rs (Made made show) s r)
-  ordered_reads_back own = record {
-    back = λ x b h j f. (items x, lists.back (items x) b h.1 j f, (items x, own x h.0, refl));
+  pub ordered_reads_back : ((x : X) → sound x → made (items x) (items x)) → ReadsBack (λ x. sound x × Each P (items x)) (λ x. map ws (items x)) (list_write_of s 24 written_size w) (λ x. show (items x)) (gathered_read rs (Made made show) s size r)
+  ordered_reads_back builtin = record {
+    back = λ x b h j f. (items x, lists.back (items x) b h.1 j f, (items x, builtin x h.0, refl));
     within = all_within;
     same_prealloc = refl;
     same_meta = refl;
   }
 
-  pub scattered_reads_back : ((x : X) (es : List E) → sound x → IsPermutation (items x) es → made es (items x)) → ReadsBack (λ x. sound x × Each P (items x)) (λ x. map ws (items x)) (scattered_write s w) (λ x. show (items x)) (gathered_read rs (Made made show) s r)
-  scattered_reads_back own = record {
+  pub scattered_reads_back : ((x : X) (es : List E) → sound x → IsPermutation (items x) es → made es (items x)) → ReadsBack (λ x. sound x × Each P (items x)) (λ x. map ws (items x)) (scattered_write_of s written_size w) (λ x. show (items x)) (gathered_read rs (Made made show) s size r)
+  scattered_reads_back builtin = record {
     back = λ x b h j f.
-        let o = order_seen ws (items x) j.0 j.1 in
+        let o = order_model ws (items x) j.0 j.1 in
         let t = subst (λ us. (list_write s 24 w).writes us b) o.2 j.2 in
         let g = fits_permutation s w (map ws (items x)) (map ws o.0) (IsPermutation-map ws (items x) o.0 o.1) f in
-        (o.0, lists.back o.0 b (each_permutation P (items x) o.0 o.1 h.1) t g, (items x, own x o.0 h.0 o.1, refl));
+        (o.0, lists.back o.0 b (each_permutation P (items x) o.0 o.1 h.1) t g, (items x, builtin x o.0 h.0 o.1, refl));
     within = all_within;
     same_prealloc = refl;
     same_meta = refl;
@@ -99,26 +102,26 @@ each_zip f P Q h (e ∷ es) a = (h e a.0, each_zip f P Q h es a.1)
 
 -- ---- ordered maps and sets
 
-pub map_reads_back : {K X A B A' B' : Type 0} (cmp : K → K → Ordering) → IsTotalOrder cmp → (p : K → Type 0) (q : X → Type 0) (wf : K → A') (w : WriteGrammar A') (rf : K → A) (r : ReadGrammar A) (wg : X → B') (x : WriteGrammar B') (rg : X → B) (t : ReadGrammar B)
+pub map_reads_back : {K X A B A' B' : Type 0} (size : ItemSize) (cmp : K → K → Ordering) → IsTotalOrder cmp → (p : K → Type 0) (q : X → Type 0) (wf : K → A') (w : WriteGrammar A') (rf : K → A) (r : ReadGrammar A) (wg : X → B') (x : WriteGrammar B') (rg : X → B) (t : ReadGrammar B)
     → ReadsBack p wf w rf r → ReadsBack q wg x rg t
-    → ReadsBack {X = BTreeMap K X} (λ m. IsOrdered cmp m × Each (λ e. p e.0 × q e.1) m.entries) (λ m. map (sees wf wg) m.entries) (list_write (bincode 4194304) 24 (pair_write w x))
-    (λ m. map (sees rf rg) m.entries) (gathered_read (sees rf rg) (Made (IsMapOf cmp) (map (sees rf rg))) (bincode 4194304) (pair_read r t))
-map_reads_back {K = K} {X = X} {A = A} {B = B} cmp o p q wf w rf r wg x rg t a c =
-    ordered_reads_back {X = BTreeMap K X} (bincode 4194304) (bincode_laws 4194304) (λ m. m.entries) (IsOrdered cmp) (λ e. p e.0 × q e.1) (sees wf wg) (pair_write w x) (sees rf rg) (pair_read r t) (pair_reads_back a c)
-    (IsMapOf cmp) (map (sees rf rg))
-    (λ ds m n h. admits_less 4194304 n _ _ (let l = map_shorter cmp o ds h.0 h.1 in let i = length-map m.entries (sees rf rg) in let j = length-map h.0 (sees rf rg) in let k = ap length h.2 in omega (arith, l, i, j, k)))
+    → ReadsBack {X = BTreeMap K X} (λ m. IsOrdered cmp m × Each (λ e. p e.0 × q e.1) m.entries) (λ m. map (sees wf wg) m.entries) (list_write_of (bincode preallocation_limit) 24 (pair_size w.meta x.meta) (pair_write w x))
+    (λ m. map (sees rf rg) m.entries) (gathered_read (sees rf rg) (Made (IsMapOf cmp) (map (sees rf rg))) (bincode preallocation_limit) size (pair_read r t))
+map_reads_back {K = K} {X = X} {A = A} {B = B} size cmp o p q wf w rf r wg x rg t a c =
+    ordered_reads_back {X = BTreeMap K X} (bincode preallocation_limit) (bincode_laws preallocation_limit) size (λ m. m.entries) (IsOrdered cmp) (λ e. p e.0 × q e.1) (sees wf wg) (pair_write w x) (sees rf rg) (pair_read r t) (pair_reads_back a c)
+    (pair_size w.meta x.meta) (IsMapOf cmp) (map (sees rf rg))
+    (λ ds m n h. admits_less preallocation_limit n _ _ (let l = map_shorter cmp o ds h.0 h.1 in let i = length-map m.entries (sees rf rg) in let j = length-map h.0 (sees rf rg) in let k = ap length h.2 in omega (arith, l, i, j, k)))
     (λ ds m b j h.
     let P : A × B → Type 0 = λ v. ((k : K) → v.0 ≡ rf k → w.fits (wf k)) × ((y : X) → v.1 ≡ rg y → x.fits (wg y)) in
     let each = map_each cmp o rf rg (λ v. (k : K) → v ≡ rf k → w.fits (wf k)) (λ v. (y : X) → v ≡ rg y → x.fits (wg y)) ds h.0 h.1 (pair_within p q wf w rf r wg x rg t a c (map (sees rf rg) ds) b j) in
     each_see (sees wf wg) (pair_write w x).fits m.entries (each_zip (sees rf rg) P (λ e. w.fits (wf e.0) × x.fits (wg e.1)) (λ e u. (u.0 e.0 refl, u.1 e.1 refl)) m.entries (subst (Each P) (sym h.2) each)))
     (λ m s. own_map cmp o m.entries s)
 
-pub set_reads_back : {K A A' : Type 0} (cmp : K → K → Ordering) → IsTotalOrder cmp → (p : K → Type 0) (wf : K → A') (w : WriteGrammar A') (rf : K → A) (r : ReadGrammar A) → ReadsBack p wf w rf r
-    → ReadsBack {X = BTreeSet K} (λ m. IsStrictlySortedBy cmp m.keys × Each p m.keys) (λ m. map wf m.keys) (list_write (bincode 4194304) 24 w) (λ m. map rf m.keys) (gathered_read rf (Made (IsSetOf cmp) (map rf)) (bincode 4194304) r)
-set_reads_back {K = K} {A = A} cmp o p wf w rf r a =
+pub set_reads_back : {K A A' : Type 0} (size : ItemSize) (cmp : K → K → Ordering) → IsTotalOrder cmp → (p : K → Type 0) (wf : K → A') (w : WriteGrammar A') (rf : K → A) (r : ReadGrammar A) → ReadsBack p wf w rf r
+    → ReadsBack {X = BTreeSet K} (λ m. IsStrictlySortedBy cmp m.keys × Each p m.keys) (λ m. map wf m.keys) (list_write (bincode preallocation_limit) 24 w) (λ m. map rf m.keys) (gathered_read rf (Made (IsSetOf cmp) (map rf)) (bincode preallocation_limit) size r)
+set_reads_back {K = K} {A = A} size cmp o p wf w rf r a =
     let P : A → Type 0 = λ v. (k : K) → v ≡ rf k → w.fits (wf k) in
-    ordered_reads_back {X = BTreeSet K} (bincode 4194304) (bincode_laws 4194304) (λ m. m.keys) (λ m. IsStrictlySortedBy cmp m.keys) p wf w rf r a (IsSetOf cmp) (map rf)
-    (λ ds m n h. admits_less 4194304 n _ _ (let l = keys_fewer (eq_by_cmp cmp) (eq_by_cmp_equiv o) ds h.0 (IsDistinct-from_sorted cmp _ h.1.ordered) h.1.firsts in let i = length-map m.keys rf in let j = length-map h.0 rf in let k = ap length h.2 in omega (arith, l, i, j, k)))
+    ordered_reads_back {X = BTreeSet K} (bincode preallocation_limit) (bincode_laws preallocation_limit) size (λ m. m.keys) (λ m. IsStrictlySortedBy cmp m.keys) p wf w rf r a (item_size w.meta) (IsSetOf cmp) (map rf)
+    (λ ds m n h. admits_less preallocation_limit n _ _ (let l = keys_fewer (eq_by_cmp cmp) (eq_by_cmp_equiv o) ds h.0 (IsDistinct-from_sorted cmp _ h.1.ordered) h.1.firsts in let i = length-map m.keys rf in let j = length-map h.0 rf in let k = ap length h.2 in omega (arith, l, i, j, k)))
     (λ ds m b j h.
     let each = set_each cmp o rf P ds h.0 h.1 (key_within p wf w rf r a (map rf ds) b j) in
     each_see wf w.fits m.keys (each_zip rf P (λ k. w.fits (wf k)) (λ k u. u k refl) m.keys (subst (Each P) (sym h.2) each)))
@@ -131,8 +134,8 @@ module _ {E K : Type 0} (eq : K → K → Bool) (laws : IsEquivalence eq) (key :
   each_once : (es : List E) → IsDistinct eq (map key es) → ((q : K) → IfSome (find (λ e. eq q (key e)) es) P) → Each P es
   each_once [] d h = tt
   each_once (e ∷ es) d h =
-      let own : IfSome (find (λ y. eq (key e) (key y)) (e ∷ es)) P = h (key e) in (
-        rw (laws.refl (key e)) at own,
+      let builtin : IfSome (find (λ y. eq (key e) (key y)) (e ∷ es)) P = h (key e) in (
+        rw (laws.refl (key e)) at builtin,
         each_once es (IsDistinct-tail eq (key e) (map key es) d) (λ q.
             let other : IfSome (find (λ y. eq q (key y)) (e ∷ es)) P = h q in
             elim (cases_Bool (eq q (key e))) [
@@ -147,14 +150,14 @@ module _ {E K : Type 0} (eq : K → K → Bool) (laws : IsEquivalence eq) (key :
         none_keyed : (q : K) (e : E) (ys : List E) → AllByRecursion (λ y. eq (key e) y ≡ false) (map key ys) → eq q (key e) ≡ true → find (λ y. eq q (key y)) ys ≡ None
         none_keyed q e ys a b = ap (λ t. find (λ y. t (key y)) ys) (same_hash_test eq laws q (key e) b) ∙ none_all (key e) ys a
 
-pub hash_map_reads_back : {K X A B A' B' : Type 0} (eq : K → K → Bool) → IsEquivalence eq → (p : K → Type 0) (q : X → Type 0) (wf : K → A') (w : WriteGrammar A') (rf : K → A) (r : ReadGrammar A) (wg : X → B') (x : WriteGrammar B') (rg : X → B) (t : ReadGrammar B)
+pub hash_map_reads_back : {K X A B A' B' : Type 0} (size : ItemSize) (eq : K → K → Bool) → IsEquivalence eq → (p : K → Type 0) (q : X → Type 0) (wf : K → A') (w : WriteGrammar A') (rf : K → A) (r : ReadGrammar A) (wg : X → B') (x : WriteGrammar B') (rg : X → B) (t : ReadGrammar B)
     → ReadsBack p wf w rf r → ReadsBack q wg x rg t → {S : Type 0}
-    → ReadsBack {X = HashMap K X S} (λ m. IsUnique eq m × Each (λ e. p e.0 × q e.1) m.entries) (λ m. map (sees wf wg) m.entries) (scattered_write (bincode 4194304) (pair_write w x))
-    (λ m. hash_map_sees eq rf rg m.entries) (gathered_read (sees rf rg) (Made (IsHashMapOf eq) (hash_map_sees eq rf rg)) (bincode 4194304) (pair_read r t))
-hash_map_reads_back {K = K} {X = X} {A = A} {B = B} eq laws p q wf w rf r wg x rg t a c {S} =
-    scattered_reads_back {X = HashMap K X S} (bincode 4194304) (bincode_laws 4194304) (λ m. m.entries) (IsUnique eq) (λ e. p e.0 × q e.1) (sees wf wg) (pair_write w x) (sees rf rg) (pair_read r t) (pair_reads_back a c)
-    (IsHashMapOf eq) (hash_map_sees eq rf rg)
-    (λ ds m n h. admits_less 4194304 n _ _ (let l = keys_fewer eq laws (keys_of ds) (keys_of h.0) h.1.keys.once h.1.keys.firsts in let i = length-keys_of ds in let j = length-keys_of h.0 in let k = ap (λ v. v.2) h.2 in omega (arith, l, i, j, k)))
+    → ReadsBack {X = HashMap K X S} (λ m. IsUnique eq m × Each (λ e. p e.0 × q e.1) m.entries) (λ m. map (sees wf wg) m.entries) (scattered_write_of (bincode preallocation_limit) (pair_size w.meta x.meta) (pair_write w x))
+    (λ m. hash_map_sees eq rf rg m.entries) (gathered_read (sees rf rg) (Made (IsHashMapOf eq) (hash_map_sees eq rf rg)) (bincode preallocation_limit) size (pair_read r t))
+hash_map_reads_back {K = K} {X = X} {A = A} {B = B} size eq laws p q wf w rf r wg x rg t a c {S} =
+    scattered_reads_back {X = HashMap K X S} (bincode preallocation_limit) (bincode_laws preallocation_limit) size (λ m. m.entries) (IsUnique eq) (λ e. p e.0 × q e.1) (sees wf wg) (pair_write w x) (sees rf rg) (pair_read r t) (pair_reads_back a c)
+    (pair_size w.meta x.meta) (IsHashMapOf eq) (hash_map_sees eq rf rg)
+    (λ ds m n h. admits_less preallocation_limit n _ _ (let l = keys_fewer eq laws (keys_of ds) (keys_of h.0) h.1.keys.once h.1.keys.firsts in let i = length-keys_of ds in let j = length-keys_of h.0 in let k = ap (λ v. v.2) h.2 in omega (arith, l, i, j, k)))
     (λ ds m b j h.
     let firsts : (y : K) → option_map rf (find (eq y) (keys_of m.entries)) ≡ option_map rf (find (eq y) (keys_of h.0)) = λ y. ap (λ v. v.0 y) h.2 in
     let lasts : (y : K) → option_map rg (lookup (eq y) m.entries) ≡ option_map rg (lookup (eq y) h.0) = λ y. ap (λ v. v.1 y) h.2 in
@@ -182,12 +185,12 @@ hash_map_reads_back {K = K} {X = X} {A = A} {B = B} eq laws p q wf w rf r wg x r
       lasts = λ y. sym (perm_lookup eq laws y m.entries (reverse es) (IsPermutation-trans m.entries es (reverse es) z (IsPermutation-reverse es)) d);
     })
 
-pub hash_set_reads_back : {K A A' : Type 0} (eq : K → K → Bool) → IsEquivalence eq → (p : K → Type 0) (wf : K → A') (w : WriteGrammar A') (rf : K → A) (r : ReadGrammar A) → ReadsBack p wf w rf r → {S : Type 0}
-    → ReadsBack {X = HashSet K S} (λ m. IsDistinct eq m.keys × Each p m.keys) (λ m. map wf m.keys) (scattered_write (bincode 4194304) w) (λ m. hash_set_sees eq rf m.keys) (gathered_read rf (Made (IsHashSetOf eq) (hash_set_sees eq rf)) (bincode 4194304) r)
-hash_set_reads_back {K = K} {A = A} eq laws p wf w rf r a {S} =
+pub hash_set_reads_back : {K A A' : Type 0} (size : ItemSize) (eq : K → K → Bool) → IsEquivalence eq → (p : K → Type 0) (wf : K → A') (w : WriteGrammar A') (rf : K → A) (r : ReadGrammar A) → ReadsBack p wf w rf r → {S : Type 0}
+    → ReadsBack {X = HashSet K S} (λ m. IsDistinct eq m.keys × Each p m.keys) (λ m. map wf m.keys) (scattered_write (bincode preallocation_limit) w) (λ m. hash_set_sees eq rf m.keys) (gathered_read rf (Made (IsHashSetOf eq) (hash_set_sees eq rf)) (bincode preallocation_limit) size r)
+hash_set_reads_back {K = K} {A = A} size eq laws p wf w rf r a {S} =
     let P : A → Type 0 = λ v. (k : K) → v ≡ rf k → w.fits (wf k) in
-    scattered_reads_back {X = HashSet K S} (bincode 4194304) (bincode_laws 4194304) (λ m. m.keys) (λ m. IsDistinct eq m.keys) p wf w rf r a (IsHashSetOf eq) (hash_set_sees eq rf)
-    (λ ds m n h. admits_less 4194304 n _ _ (let l = keys_fewer eq laws ds h.0 h.1.once h.1.firsts in let k = ap (λ v. v.1) h.2 in omega (arith, l, k)))
+    scattered_reads_back {X = HashSet K S} (bincode preallocation_limit) (bincode_laws preallocation_limit) size (λ m. m.keys) (λ m. IsDistinct eq m.keys) p wf w rf r a (item_size w.meta) (IsHashSetOf eq) (hash_set_sees eq rf)
+    (λ ds m n h. admits_less preallocation_limit n _ _ (let l = keys_fewer eq laws ds h.0 h.1.once h.1.firsts in let k = ap (λ v. v.1) h.2 in omega (arith, l, k)))
     (λ ds m b j h.
     let firsts : (y : K) → option_map rf (find (eq y) m.keys) ≡ option_map rf (find (eq y) h.0) = λ y. ap (λ v. v.0 y) h.2 in
     let once = once_too eq laws rf m.keys h.0 h.1.once (ap (λ v. v.1) h.2) firsts in
@@ -213,7 +216,7 @@ module _ {A : Type 0} (P : A → Type 0) where
   ]
 
   -- what holds of each of a bag holds of each of a list whose items are in the bag
-  each_counted : IsTold A → (xs ys : List A) → Each P xs → ((t : A → Bool) → count_by t ys ≤ count_by t xs) → Each P ys
+  each_counted : IsDecidable A → (xs ys : List A) → Each P xs → ((t : A → Bool) → count_by t ys ≤ count_by t xs) → Each P ys
   each_counted told xs [] e h = tt
   each_counted told xs (y ∷ ys) e h =
       let same : A → Bool = λ z. (told y z).0 in
@@ -222,11 +225,11 @@ module _ {A : Type 0} (P : A → Type 0) where
       let x = counted same xs e (omega (arith, one, l)) in
       (subst P (sym ((told y x.0).1.0 x.1)) x.2, each_counted told xs ys e (λ t. let c = count_cons t y ys in let k = h t in omega (arith, c, k)))
 
-pub heap_reads_back : {H K A A' : Type 0} (s : Scheme) → SchemeLaws s → (items : H → List K) → IsTold A → (p : K → Type 0) (wf : K → A') (w : WriteGrammar A') (rf : K → A) (r : ReadGrammar A) → ReadsBack p wf w rf r
-    → ReadsBack {X = H} (λ h. Each p (items h)) (λ h. map wf (items h)) (scattered_write s w) (λ h. heap_sees rf (items h)) (gathered_read rf (Made IsPermutation (heap_sees rf)) s r)
-heap_reads_back {H = H} {K = K} {A = A} s scheme items told p wf w rf r a =
+pub heap_reads_back : {H K A A' : Type 0} (size : ItemSize) (s : Scheme) → SchemeLaws s → (items : H → List K) → IsDecidable A → (p : K → Type 0) (wf : K → A') (w : WriteGrammar A') (rf : K → A) (r : ReadGrammar A) → ReadsBack p wf w rf r
+    → ReadsBack {X = H} (λ h. Each p (items h)) (λ h. map wf (items h)) (scattered_write s w) (λ h. heap_sees rf (items h)) (gathered_read rf (Made IsPermutation (heap_sees rf)) s size r)
+heap_reads_back {H = H} {K = K} {A = A} size s scheme items told p wf w rf r a =
     let P : A → Type 0 = λ v. (k : K) → v ≡ rf k → w.fits (wf k) in
-    let law = scattered_reads_back {X = H} s scheme items (λ h. Unit {0}) p wf w rf r a IsPermutation (heap_sees rf)
+    let law = scattered_reads_back {X = H} s scheme size items (λ h. Unit {0}) p wf w rf r a (item_size w.meta) IsPermutation (heap_sees rf)
     (λ ds h n m a.
     let e = ap (λ v. v (λ x. true)) m.2 in let i = count_all (map rf (items h)) in let j = count_all (map rf m.0) in let k = length-map (items h) rf in let l = length-map m.0 rf in let o = length_permutation ds m.0 m.1 in
     subst (λ k. s.admits k n) (omega (arith, e, i, j, k, l, o)) a)

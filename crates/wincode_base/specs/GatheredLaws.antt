@@ -1,5 +1,5 @@
 -- The laws of reading what is made of a list.
-use Rattle.std.proofs.Common.{◌≡◌, sym, subst, List, [], ◌∷◌, arith, Some, None, true, false, map, inl, inr, ◌∙◌}
+use Rattle.std.proofs.Common.{◌≡◌, sym, subst, List, [], ◌∷◌, ℕ, arith, Some, None, true, false, map, inl, inr, ◌∙◌}
 use Rattle.std.specs.Prelude.{Bool, Option, reverse}
 use Rattle.std.specs.Option.{option_map, IfSome}
 use Rattle.std.specs.List.{find}
@@ -20,24 +20,25 @@ use Rattle.wincode_collect.specs.Seen.{sees, hash_set_sees, hash_map_sees, heap_
 use Rattle.wincode_collect.specs.SeenLaws.{past_at, map_one, set_one, hash_set_one, hash_map_one, bag_one}
 use Rattle.wincode_base.specs.Grammar.{ReadGrammar, ReadLaws}
 use Rattle.wincode_base.specs.Lengths.{Scheme, SchemeLaws}
-use Rattle.wincode_base.specs.Lists.{reads_list}
+use Rattle.wincode_base.specs.Lists.{reads_list, list_read_of}
 use Rattle.wincode_base.specs.ListLaws.{list_read_laws}
 use Rattle.wincode_base.specs.Pairs.{pair_read}
 use Rattle.wincode_base.specs.PairLaws.{pair_read_laws}
-use Rattle.wincode_base.specs.Outcomes.{Gives, Refuses}
+use Rattle.wincode_base.specs.Outcomes.{Gives, SchemaReadRefused}
 use Rattle.wincode_base.specs.Sequences.{gives_map, refuses_map}
 use Rattle.wincode_base.specs.Gathered.{gathered_read}
 use Rattle.wincode_base.specs.declared.error.ReadError.{ReadError}
+use Rattle.wincode_base.specs.declared.sizes.ItemSize.{ItemSize}
 
 -- what is made of a list by a relation that tells only what is seen of it
 pub gathered_laws : {D V W : Type 0} (see : D → V) (makes : List D → W → Type 0) → ((ds es : List D) (v w : W) → map see ds ≡ map see es → makes ds v → makes es w → v ≡ w)
     → (p : V → Type 0) (q : W → Type 0) → ((ds : List D) (w : W) → Each p (map see ds) → makes ds w → q w)
-    → (s : Scheme) → SchemeLaws s → (g : ReadGrammar V) → ReadLaws p g → ReadLaws q (gathered_read see makes s g)
-gathered_laws see makes one p q kept s scheme g laws =
+    → (s : Scheme) → SchemeLaws s → (size : ItemSize) → (g : ReadGrammar V) → ReadLaws p g → ReadLaws q (gathered_read see makes s size g)
+gathered_laws see makes one p q kept s scheme size g laws =
     let l = list_read_laws s scheme 1 (omega arith) p g laws in
     record {
       one_front = λ a b x y v w r t e. let h = l.one_front a b x y (map see r.0) (map see t.0) r.1 t.1 e in (h.0, one r.0 t.0 v w h.1 r.2 t.2);
-      is_proper = λ b v r. kept r.0 v (l.is_proper b (map see r.0) r.1) r.2;
+      reads_valid = λ b v r. kept r.0 v (l.reads_valid b (map see r.0) r.1) r.2;
       statics = tt;
       prealloc = omega arith;
     }
@@ -84,8 +85,8 @@ module _ {D K : Type 0} (cmp : K → K → Ordering) (o : IsTotalOrder cmp) (key
   pub each_at : (xs : List D) → IsStrictlySortedBy cmp (map key xs) → ((q : K) → IfSome (find (λ d. is_at (cmp q) (key d)) xs) P) → Each P xs
   each_at [] s h = tt
   each_at (x ∷ xs) s h =
-      let own : IfSome (find (λ d. is_at (cmp (key x)) (key d)) (x ∷ xs)) P = h (key x) in (
-        rw (tied_itself o (key x)) at own,
+      let builtin : IfSome (find (λ d. is_at (cmp (key x)) (key d)) (x ∷ xs)) P = h (key x) in (
+        rw (tied_itself o (key x)) at builtin,
         each_at xs (sorted_tail cmp (key x) (map key xs) s) (λ q.
             let other : IfSome (find (λ d. is_at (cmp q) (key d)) (x ∷ xs)) P = h q in
             elim (cases_Bool (is_eq (cmp q (key x)))) [
@@ -117,29 +118,29 @@ set_each cmp o f P ds fs m a = each_see f P fs (each_at cmp o (λ k. k) (λ k. P
 
 -- ---- the laws of each
 
-module _ {K A : Type 0} (s : Scheme) (scheme : SchemeLaws s) (f : K → A) {p : A → Type 0} {g : ReadGrammar A} (l : ReadLaws p g) where
-  pub set_read_laws : (cmp : K → K → Ordering) → IsTotalOrder cmp → (eq : K → K → Bool) → ((x y : K) → eq x y ≡ is_eq (cmp x y)) → ((x y : K) → f x ≡ f y → eq x y ≡ true) → ReadLaws (Each p) (gathered_read f (Made (IsSetOf cmp) (map f)) s g)
-  set_read_laws cmp o eq match alike = gathered_laws f (Made (IsSetOf cmp) (map f)) (set_one cmp o eq match f alike) p (Each p) (λ ds w a h. subst (Each p) (sym h.2) (set_each cmp o f p ds h.0 h.1 a)) s scheme g l
+module _ {K A : Type 0} (s : Scheme) (scheme : SchemeLaws s) (size : ItemSize) (f : K → A) {p : A → Type 0} {g : ReadGrammar A} (l : ReadLaws p g) where
+  pub set_read_laws : (cmp : K → K → Ordering) → IsTotalOrder cmp → (eq : K → K → Bool) → ((x y : K) → eq x y ≡ is_eq (cmp x y)) → ((x y : K) → f x ≡ f y → eq x y ≡ true) → ReadLaws (Each p) (gathered_read f (Made (IsSetOf cmp) (map f)) s size g)
+  set_read_laws cmp o eq match alike = gathered_laws f (Made (IsSetOf cmp) (map f)) (set_one cmp o eq match f alike) p (Each p) (λ ds w a h. subst (Each p) (sym h.2) (set_each cmp o f p ds h.0 h.1 a)) s scheme size g l
 
-  pub hash_set_read_laws : (eq : K → K → Bool) → IsEquivalence eq → ((x y : K) → f x ≡ f y → eq x y ≡ true) → ReadLaws (λ v. Unit {0}) (gathered_read f (Made (IsHashSetOf eq) (hash_set_sees eq f)) s g)
-  hash_set_read_laws eq laws alike = gathered_laws f (Made (IsHashSetOf eq) (hash_set_sees eq f)) (hash_set_one eq laws f alike) p (λ v. Unit {0}) (λ ds w a h. tt) s scheme g l
+  pub hash_set_read_laws : (eq : K → K → Bool) → IsEquivalence eq → ((x y : K) → f x ≡ f y → eq x y ≡ true) → ReadLaws (λ v. Unit {0}) (gathered_read f (Made (IsHashSetOf eq) (hash_set_sees eq f)) s size g)
+  hash_set_read_laws eq laws alike = gathered_laws f (Made (IsHashSetOf eq) (hash_set_sees eq f)) (hash_set_one eq laws f alike) p (λ v. Unit {0}) (λ ds w a h. tt) s scheme size g l
 
-  pub bag_read_laws : ReadLaws (λ v. Unit {0}) (gathered_read f (Made IsPermutation (heap_sees f)) s g)
-  bag_read_laws = gathered_laws f (Made IsPermutation (heap_sees f)) (bag_one f) p (λ v. Unit {0}) (λ ds w a h. tt) s scheme g l
+  pub bag_read_laws : ReadLaws (λ v. Unit {0}) (gathered_read f (Made IsPermutation (heap_sees f)) s size g)
+  bag_read_laws = gathered_laws f (Made IsPermutation (heap_sees f)) (bag_one f) p (λ v. Unit {0}) (λ ds w a h. tt) s scheme size g l
 
-module _ {K X A B : Type 0} (s : Scheme) (scheme : SchemeLaws s) (f : K → A) (g : X → B) {p : A → Type 0} {q : B → Type 0} {r : ReadGrammar A} {t : ReadGrammar B} (l : ReadLaws p r) (m : ReadLaws q t) where
+module _ {K X A B : Type 0} (s : Scheme) (scheme : SchemeLaws s) (size : ItemSize) (f : K → A) (g : X → B) {p : A → Type 0} {q : B → Type 0} {r : ReadGrammar A} {t : ReadGrammar B} (l : ReadLaws p r) (m : ReadLaws q t) where
   pub map_read_laws : (cmp : K → K → Ordering) → IsTotalOrder cmp → (eq : K → K → Bool) → ((x y : K) → eq x y ≡ is_eq (cmp x y)) → ((x y : K) → f x ≡ f y → eq x y ≡ true)
-      → ReadLaws (Each (λ v. p v.0 × q v.1)) (gathered_read (sees f g) (Made (IsMapOf cmp) (map (sees f g))) s (pair_read r t))
+      → ReadLaws (Each (λ v. p v.0 × q v.1)) (gathered_read (sees f g) (Made (IsMapOf cmp) (map (sees f g))) s size (pair_read r t))
   map_read_laws cmp o eq match alike = gathered_laws (sees f g) (Made (IsMapOf cmp) (map (sees f g))) (map_one cmp o eq match f g alike) (λ v. p v.0 × q v.1) (Each (λ v. p v.0 × q v.1))
-      (λ ds w a h. subst (Each (λ v. p v.0 × q v.1)) (sym h.2) (map_each cmp o f g p q ds h.0 h.1 a)) s scheme (pair_read r t) (pair_read_laws l m)
+      (λ ds w a h. subst (Each (λ v. p v.0 × q v.1)) (sym h.2) (map_each cmp o f g p q ds h.0 h.1 a)) s scheme size (pair_read r t) (pair_read_laws l m)
 
-  pub hash_map_read_laws : (eq : K → K → Bool) → IsEquivalence eq → ((x y : K) → f x ≡ f y → eq x y ≡ true) → ReadLaws (λ v. Unit {0}) (gathered_read (sees f g) (Made (IsHashMapOf eq) (hash_map_sees eq f g)) s (pair_read r t))
-  hash_map_read_laws eq laws alike = gathered_laws (sees f g) (Made (IsHashMapOf eq) (hash_map_sees eq f g)) (hash_map_one eq laws f alike g) (λ v. p v.0 × q v.1) (λ v. Unit {0}) (λ ds w a h. tt) s scheme (pair_read r t) (pair_read_laws l m)
+  pub hash_map_read_laws : (eq : K → K → Bool) → IsEquivalence eq → ((x y : K) → f x ≡ f y → eq x y ≡ true) → ReadLaws (λ v. Unit {0}) (gathered_read (sees f g) (Made (IsHashMapOf eq) (hash_map_sees eq f g)) s size (pair_read r t))
+  hash_map_read_laws eq laws alike = gathered_laws (sees f g) (Made (IsHashMapOf eq) (hash_map_sees eq f g)) (hash_map_one eq laws f alike g) (λ v. p v.0 × q v.1) (λ v. Unit {0}) (λ ds w a h. tt) s scheme size (pair_read r t) (pair_read_laws l m)
 
-module _ {D V W : Type 0} (see : D → V) (makes : List D → W → Type 0) (s : Scheme) (g : ReadGrammar V) where
+module _ {D V W : Type 0} (see : D → V) (makes : List D → W → Type 0) (s : Scheme) (size : ItemSize) (g : ReadGrammar V) where
   -- the list was refused, and so is what is made of it
-  pub gathered_refused : (old new : ReaderState) (e : ReadError) → Refuses (reads_list s g) g.asks false old new e → Refuses (gathered_read see makes s g).reads g.asks false old new e
-  gathered_refused old new e r = refuses_map (reads_list s g) (gathered_read see makes s g).reads g.asks false old new e (λ b w t. (map see t.0, t.1)) r
+  pub gathered_refused : (count : ℕ) (old new : ReaderState) (e : ReadError) → SchemaReadRefused (list_read_of s count size g) old new e → SchemaReadRefused (gathered_read see makes s size g) old new e
+  gathered_refused count old new e r = (refuses_map (reads_list s g) (gathered_read see makes s size g).reads g.borrow false old new e (λ b w t. (map see t.0, t.1)) r.0, r.1)
 
-  pub gathered_gives : (old new : ReaderState) (ds : List D) (w : W) → Gives (reads_list s g) old new (map see ds) → makes ds w → Gives (gathered_read see makes s g).reads old new w
-  gathered_gives old new ds w r m = gives_map (reads_list s g) (gathered_read see makes s g).reads old new (map see ds) w (λ b t. (ds, t, m)) r
+  pub gathered_gives : (old new : ReaderState) (ds : List D) (w : W) → Gives (reads_list s g) old new (map see ds) → makes ds w → Gives (gathered_read see makes s size g).reads old new w
+  gathered_gives old new ds w r m = gives_map (reads_list s g) (gathered_read see makes s size g).reads old new (map see ds) w (λ b t. (ds, t, m)) r

@@ -1,21 +1,40 @@
 -- What goes through one window of its size, where it has one.
-use Rattle.std.specs.Prelude.{ℕ, Bool, true, false, ◌⊎◌}
-use Rattle.wincode_io.specs.Readers.{Loses}
-use Rattle.wincode_base.specs.Outcomes.{Refusal, IsDenied}
+use Rattle.std.specs.Prelude.{ℕ, ◌⊎◌}
+use Rattle.wincode_io.specs.Readers.{ReaderState, Windowed}
+use Rattle.wincode_base.specs.Grammar.{WriteGrammar, WriteRefusal, ReadGrammar, ReadRefusal}
+use Rattle.wincode_base.specs.Outcomes.{PieceReadRefused, PieceWriteRefused}
 use Rattle.wincode_base.specs.declared.meta.TypeMeta.{TypeMeta}
 use Rattle.wincode_base.specs.declared.meta.TypeMeta.TheVariants.{Static, Dynamic}
 
--- What is read through a window of n bytes was refused: the window was, and nothing is gone; or what is in it was, and
--- all n bytes are gone.
-abbrev pub IsWindowRefused : ℕ → Refusal
-IsWindowRefused n old new e = IsDenied n old new e ⊎ Loses n old new
+-- What is read through a window of n bytes was refused: the window was, and nothing is gone; or all n bytes are gone,
+-- and what is in them was refused as `inside` says.
+abbrev pub WindowReadRefused : ℕ → ReadRefusal → ReadRefusal
+WindowReadRefused n inside old new e = PieceReadRefused n old new e ⊎ ((window : ReaderState) × (after : ReaderState) × Windowed n old new window × inside window after e)
 
 -- What has one size is read through a window of it; the parts of what has none are refused as they say.
-abbrev pub IsStaticRefused : TypeMeta → Refusal → Refusal
-IsStaticRefused Dynamic parts = parts
-IsStaticRefused (Static s z) parts = IsWindowRefused s
+abbrev pub StaticReadRefused : TypeMeta → ReadRefusal → ReadRefusal
+StaticReadRefused Dynamic inside = inside
+StaticReadRefused (Static s z) inside = WindowReadRefused s inside
 
--- whether all texts have one size
-abbrev pub is_static : TypeMeta → Bool
-is_static Dynamic = false
-is_static (Static s z) = true
+-- what is read through one window of its size, where it has one
+abbrev pub windowed_read : {V : Type 0} → ReadGrammar V → ReadGrammar V
+windowed_read g = record { reads = g.reads; meta = g.meta; prealloc = g.prealloc; borrow = g.borrow; takes_no_memory = g.takes_no_memory; refused = StaticReadRefused g.meta g.refused }
+
+-- What has one size is written through a window of it, and was refused: the window was; or what can't be written was,
+-- in some room. What has none was refused as it says.
+abbrev pub WindowWriteRefused : {V : Type 0} → TypeMeta → WriteGrammar V → WriteRefusal V
+WindowWriteRefused Dynamic g = g.refused
+WindowWriteRefused (Static s z) g = λ v room added e. PieceWriteRefused s room added e ⊎ ((g.can v → ⊥) × ((inside : ℕ) × g.refused v inside added e))
+
+-- what is written through one window of its size, where it has one
+abbrev pub windowed_write : {V : Type 0} → WriteGrammar V → WriteGrammar V
+windowed_write g = record {
+  writes = g.writes;
+  can = g.can;
+  size = g.size;
+  fits = g.fits;
+  meta = g.meta;
+  prealloc = g.prealloc;
+  builtin = g.builtin;
+  refused = WindowWriteRefused g.meta g;
+}

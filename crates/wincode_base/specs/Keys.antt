@@ -4,8 +4,8 @@ use Rattle.std.specs.Bool.{Decides}
 
 -- where the same is seen of two, they are equal
 abbrev pub IsAlike : {K A : Type 0} → (K → K → Bool) → (K → A) → Type 0
-IsAlike {K} eq seen = (x y : K) → seen x ≡ seen y → eq x y ≡ true
+IsAlike {K} eq model = (x y : K) → model x ≡ model y → eq x y ≡ true
 
 -- a test tells whether two are the same
-abbrev pub IsTold : Type 0 → Type 0
-IsTold V = (a b : V) → (same : Bool) × Decides same (a ≡ b)
+abbrev pub IsDecidable : Type 0 → Type 0
+IsDecidable V = (a b : V) → (same : Bool) × Decides same (a ≡ b)

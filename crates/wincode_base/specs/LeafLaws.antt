@@ -36,15 +36,15 @@ number_of k b all e =
 pub number_read_laws : (k : ℕ) (any : Bool) → 1 ≤ k → ReadLaws (λ v. v < 256 ^ k) (number_read k any)
 number_read_laws k any some = record {
   one_front = number_one k any;
-  is_proper = λ b v r. r.0;
+  reads_valid = λ b v r. r.0;
   statics = (λ b v r. ap length r.1 ∙ length-le k v, λ z b all e. number_of k b all e);
   prealloc = some;
 }
 
 pub number_write_laws : (k : ℕ) (any : Bool) → WriteLaws (λ v. v < 256 ^ k) (λ v. v) (number_write k any)
 number_write_laws k any = record {
-  has_text = λ v c. (le k v, refl);
-  text_size = λ v b w. ap length w ∙ length-le k v;
+  has_encoding = λ v c. (le k v, refl);
+  encoding_size = λ v b w. ap length w ∙ length-le k v;
   can_fit = λ v f. f;
   statics = (λ v p. tt, λ w c. refl);
 }
@@ -80,15 +80,15 @@ module _ (w : Width) (pow : 256 ^ byte_len w ≡ 2 ^ bits w) where
   pub signed_read_laws : (any : Bool) → 1 ≤ byte_len w → ReadLaws (FitsSigned w) (signed_read w any)
   signed_read_laws any some = record {
     one_front = signed_one any;
-    is_proper = λ b z r. r.0;
+    reads_valid = λ b z r. r.0;
     statics = (λ b z r. ap length r.1 ∙ length-le (byte_len w) (cast_unsigned w z), λ t b all e. let n = number_of (byte_len w) b all e in (cast_signed w n.0, signed_of any b n.0 n.1));
     prealloc = some;
   }
 
 pub signed_write_laws : (w : Width) (any : Bool) → WriteLaws (FitsSigned w) (λ z. z) (signed_write w any)
 signed_write_laws w any = record {
-  has_text = λ z c. (le (byte_len w) (cast_unsigned w z), refl);
-  text_size = λ z b t. ap length t ∙ length-le (byte_len w) (cast_unsigned w z);
+  has_encoding = λ z c. (le (byte_len w) (cast_unsigned w z), refl);
+  encoding_size = λ z b t. ap length t ∙ length-le (byte_len w) (cast_unsigned w z);
   can_fit = λ z f. f;
   statics = (λ z p. tt, λ w c. refl);
 }
@@ -119,15 +119,15 @@ bool_one a b x y v w p q e =
 pub bool_read_laws : ReadLaws (λ v. Unit {0}) bool_read
 bool_read_laws = record {
   one_front = bool_one;
-  is_proper = λ b v r. tt;
+  reads_valid = λ b v r. tt;
   statics = (λ b v r. ap length r, λ z b all e. absurd (cc z));
   prealloc = omega arith;
 }
 
 pub bool_write_laws : WriteLaws (λ v. Unit {0}) (λ v. v) bool_write
 bool_write_laws = record {
-  has_text = λ v c. (bool_byte v ∷ [], refl);
-  text_size = λ v b t. ap length t;
+  has_encoding = λ v c. (bool_byte v ∷ [], refl);
+  encoding_size = λ v b t. ap length t;
   can_fit = λ v f. f;
   statics = (λ v p. tt, λ w c. refl);
 }
@@ -142,15 +142,15 @@ nothing_of (c ∷ b) e = absurd (omega arith)
 pub unit_read_laws : ReadLaws (λ v. Unit {0}) unit_read
 unit_read_laws = record {
   one_front = λ a b x y v w p q e. (p ∙ sym q, refl);
-  is_proper = λ b v r. tt;
+  reads_valid = λ b v r. tt;
   statics = (λ b v r. ap length r, λ z b all e. (tt, nothing_of b e));
   prealloc = omega arith;
 }
 
 pub unit_write_laws : {X : Type 0} → WriteLaws {X = X} (λ x. Unit {0}) (λ x. tt) unit_write
 unit_write_laws = record {
-  has_text = λ v c. ([], refl);
-  text_size = λ v b t. ap length t;
+  has_encoding = λ v c. ([], refl);
+  encoding_size = λ v b t. ap length t;
   can_fit = λ v f. f;
   statics = (λ x p. tt, λ w c. refl);
 }

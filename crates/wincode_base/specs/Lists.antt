@@ -1,18 +1,43 @@
 -- Texts joined, and lists behind their length.
-use Rattle.std.specs.Prelude.{◌≡◌, ◌⊎◌, ℕ, ◌+◌, ◌<◌, ◌≤◌, ◌^◌, true, false, ◌&&◌, List, ◌++◌, length, Option, Some, None}
+use Rattle.std.specs.Prelude.{◌≡◌, ◌⊎◌, ℕ, ◌+◌, ◌-◌, ◌<◌, ◌≤◌, ◌^◌, false, ◌&&◌, List, [], ◌∷◌, ◌++◌, length, Option, Some, None, Result, OnOk, OnErr, IfErr}
 use Rattle.wincode_io.specs.Readers.{ReaderState, Stays}
 use Rattle.wincode_io.specs.Joins.{Joined, Each, total, AreItems}
-use Rattle.wincode_base.specs.Grammar.{ReadGrammar, WriteGrammar}
-use Rattle.wincode_base.specs.Lengths.{Scheme, HasText, text_len, IsLength}
-use Rattle.wincode_base.specs.Outcomes.{Gives, Refuses, Refusal, IsReadRefused, IsUnfit}
-use Rattle.wincode_base.specs.InWindow.{IsWindowRefused}
-use Rattle.wincode_base.specs.Sizes.{run_size}
+use Rattle.wincode_base.specs.Grammar.{ReadGrammar, WriteGrammar, WriteRefusal, ReadRefusal}
+use Rattle.wincode_base.specs.Lengths.{Scheme, HasEncoding, LengthSizeRefused, encoding_len, IsLength, length_write, length_read}
+use Rattle.wincode_base.specs.Outcomes.{Gives, ReadRefused, SchemaReadRefused, IsValueError, IsLengthOverflow, PieceWriteRefused, Adds}
+use Rattle.wincode_base.specs.InWindow.{WindowReadRefused}
+use Rattle.wincode_base.specs.Pairs.{PairWriteRefused}
+use Rattle.wincode_base.specs.ItemSizes.{item_size, run_size, behind_size}
 use Rattle.wincode_base.specs.declared.error.ReadError.{ReadError}
 use Rattle.wincode_base.specs.declared.error.ReadError.TheVariants as reading
 use Rattle.wincode_base.specs.declared.error.WriteError.{WriteError}
 use Rattle.wincode_base.specs.declared.meta.TypeMeta.TheVariants.{Dynamic}
 use Rattle.wincode_base.specs.declared.sizes.ItemSize.{ItemSize}
 use Rattle.wincode_base.specs.declared.sizes.ItemSize.TheVariants.{Bytes, Vast, Unknown}
+
+-- Of items one after another some were written, and then one was refused.
+pub record ItemWriteRefused {V : Type 0} (g : WriteGrammar V) (vs : List V) (room : ℕ) (added : List ℕ) (e : WriteError) : Type 0 where
+  pub before : List V
+  pub item : V
+  pub after : List V
+  pub encoding : List ℕ
+  pub rest : List ℕ
+  pub is : vs ≡ before ++ (item ∷ after)
+  pub written : Joined g.writes before encoding
+  pub joins : added ≡ encoding ++ rest
+  pub refused : g.refused item (room - length encoding) rest e
+
+-- Of items one after another some were written, and then no bytes were refused, for the writer's memory or by its device.
+pub record NoneWriteRefused {V : Type 0} (g : WriteGrammar V) (vs : List V) (room : ℕ) (added : List ℕ) (e : WriteError) : Type 0 where
+  pub before : List V
+  pub after : List V
+  pub is : vs ≡ before ++ after
+  pub written : Joined g.writes before added
+  pub refused : PieceWriteRefused 0 (room - length added) [] e
+
+-- So, of items that may differ in size. Items of one size may be written at once.
+abbrev pub ItemsWriteRefused : {V : Type 0} → WriteGrammar V → WriteRefusal (List V)
+ItemsWriteRefused g vs room added e = g.meta ≡ Dynamic → ItemWriteRefused g vs room added e ⊎ NoneWriteRefused g vs room added e
 
 -- items without their length, as something to write
 abbrev pub items_write : {V : Type 0} → WriteGrammar V → WriteGrammar (List V)
@@ -23,74 +48,143 @@ items_write g = record {
   fits = λ vs. Each g.fits vs;
   meta = Dynamic;
   prealloc = 1;
-  own = g.own;
+  builtin = g.builtin;
+  refused = ItemsWriteRefused g;
 }
 
--- b is the text of the length of vs, and then their texts joined
-abbrev pub IsListText : {V : Type 0} → Scheme → (V → List ℕ → Type 0) → List V → List ℕ → Type 0
-IsListText s R vs b = (x : List ℕ) × (y : List ℕ) × (s.text (length vs) ≡ Some x) × Joined R vs y × (b ≡ x ++ y)
+-- b is the encoding of the length of vs, and then their encodings joined
+abbrev pub IsListEncoding : {V : Type 0} → Scheme → (V → List ℕ → Type 0) → List V → List ℕ → Type 0
+IsListEncoding s R vs b = (x : List ℕ) × (y : List ℕ) × (s.encoding (length vs) ≡ Some x) × Joined R vs y × (b ≡ x ++ y)
 
 -- b reads as the list vs, whose length the scheme admits
 abbrev pub reads_list : {V : Type 0} → Scheme → ReadGrammar V → List ℕ → List V → Type 0
-reads_list s g b vs = s.admits (length vs) g.prealloc × IsListText s (λ v x. g.reads x v) vs b
+reads_list s g b vs = s.admits (length vs) g.prealloc × IsListEncoding s (λ v x. g.reads x v) vs b
 
--- A list behind its length, which counts so much against the limit of a list of such.
-abbrev pub list_read : {V : Type 0} → Scheme → ℕ → ReadGrammar V → ReadGrammar (List V)
-list_read s count g = record {
-  reads = λ b vs. reads_list s g b vs;
+-- its length was refused, or, behind its encoding, its items
+abbrev pub PartsWriteRefused : {V : Type 0} → Scheme → WriteGrammar V → WriteRefusal (List V)
+PartsWriteRefused s g vs = PairWriteRefused (length_write s) (items_write g) (length vs, vs)
+
+-- A list that is written without a window.
+abbrev pub parts_write : {V : Type 0} → Scheme → ℕ → WriteGrammar V → WriteGrammar (List V)
+parts_write s count g = record {
+  writes = λ vs b. IsListEncoding s g.writes vs b;
+  can = λ vs. HasEncoding s (length vs) × Each g.can vs;
+  size = λ vs. encoding_len (s.encoding (length vs)) + total g.size vs;
+  fits = λ vs. HasEncoding s (length vs) × s.admits (length vs) g.prealloc × Each g.fits vs;
   meta = Dynamic;
   prealloc = count;
-  asks = g.asks;
-  sparing = false;
+  builtin = s.builtin && g.builtin;
+  refused = PartsWriteRefused s g;
 }
 
+-- how many bytes n items of this size have behind their length, where they are at most `usize::MAX`
+abbrev pub list_bytes : Scheme → ItemSize → ℕ → Option ℕ
+list_bytes s size n = behind_size (encoding_len (s.encoding n)) (run_size n size)
+
+-- What goes through one window of so many bytes was refused: the room for them was, or what is inside it; where they are
+-- past `usize::MAX`, nothing was added.
+abbrev pub SpanWriteRefused : Option ℕ → (List ℕ → WriteError → Type 0) → ℕ → List ℕ → WriteError → Type 0
+SpanWriteRefused None inside room added e = (added ≡ []) × IsLengthOverflow e
+SpanWriteRefused (Some n) inside room added e = PieceWriteRefused n room added e ⊎ inside added e
+
+-- Some item can't be written, and the list was refused in some room as one without a window.
+abbrev pub InnerWriteRefused : {V : Type 0} → Scheme → WriteGrammar V → List V → List ℕ → WriteError → Type 0
+InnerWriteRefused s g vs added e = (Each g.can vs → ⊥) × ((inside : ℕ) × PartsWriteRefused s g vs inside added e)
+
+-- A list of items of one size was refused: its length has no encoding, and nothing was added; or all of it was, which goes
+-- through one window.
+abbrev pub WholeWriteRefused : {V : Type 0} → Scheme → ItemSize → WriteGrammar V → WriteRefusal (List V)
+WholeWriteRefused s size g vs room added e = ((added ≡ []) × LengthSizeRefused s (length vs) e)
+    ⊎ (HasEncoding s (length vs) × SpanWriteRefused (list_bytes s size (length vs)) (InnerWriteRefused s g vs) room added e)
+
+-- a list of items of this size was refused
+abbrev pub ListWriteRefused : {V : Type 0} → Scheme → ItemSize → WriteGrammar V → WriteRefusal (List V)
+ListWriteRefused s Unknown g = PartsWriteRefused s g
+ListWriteRefused s (Bytes k) g = WholeWriteRefused s (Bytes k) g
+ListWriteRefused s Vast g = WholeWriteRefused s Vast g
+
+-- A list of items of this size, through one window where it is known.
+abbrev pub list_write_of : {V : Type 0} → Scheme → ℕ → ItemSize → WriteGrammar V → WriteGrammar (List V)
+list_write_of s count size g = record {
+  writes = (parts_write s count g).writes;
+  can = (parts_write s count g).can;
+  size = (parts_write s count g).size;
+  fits = (parts_write s count g).fits;
+  meta = Dynamic;
+  prealloc = count;
+  builtin = s.builtin && g.builtin;
+  refused = ListWriteRefused s size g;
+}
+
+-- The same, written: `fits` says that the length is admitted where the list is read back.
 abbrev pub list_write : {V : Type 0} → Scheme → ℕ → WriteGrammar V → WriteGrammar (List V)
-list_write s count g = record {
-  writes = λ vs b. IsListText s g.writes vs b;
-  can = λ vs. HasText s (length vs) × Each g.can vs;
-  size = λ vs. text_len (s.text (length vs)) + total g.size vs;
-  fits = λ vs. HasText s (length vs) × s.admits (length vs) g.prealloc × Each g.fits vs;
-  meta = Dynamic;
-  prealloc = count;
-  own = s.own && g.own;
-}
+list_write s count g = list_write_of s count (item_size g.meta) g
 
 -- The sizes of items after so many bytes were refused: an item can't be written, or the sum is past `usize::MAX`.
-abbrev pub IsSumRefused : {V : Type 0} → ℕ → WriteGrammar V → List V → WriteError → Type 0
-IsSumRefused before g vs e = (Each g.can vs → before + total g.size vs < 2 ^ 64 → ⊥) × IsUnfit g.own e
+abbrev pub SizesRefused : {V : Type 0} → ℕ → WriteGrammar V → List V → WriteError → Type 0
+SizesRefused before g vs e = (Each g.can vs → before + total g.size vs < 2 ^ 64 → ⊥) × IsValueError g.builtin e
 
 -- ---- where a list that is refused leaves the reader
 
 -- Of n items so many were given, one after another; and then the next was refused, or memory was.
-pub record IsItemRefused {V : Type 0} (n : ℕ) (g : ReadGrammar V) (refusal : Refusal) (old new : ReaderState) (e : ReadError) : Type 0 where
+pub record ItemReadRefused {V : Type 0} (n : ℕ) (g : ReadGrammar V) (old new : ReaderState) (e : ReadError) : Type 0 where
   pub count : ℕ
   pub items : List V
   pub mid : ReaderState
   pub gives : Gives (AreItems count g.reads) old mid items
-  pub stop : ((count < n) × IsReadRefused g refusal mid new e) ⊎ ((count ≤ n) × (e ≡ reading.OutOfMemory) × (new ≡ mid))
+  pub stop : ((count < n) × SchemaReadRefused g mid new e) ⊎ ((count ≤ n) × (e ≡ reading.OutOfMemory) × (new ≡ mid))
 
 -- So, of items that may differ in size. Items of one size may be read at once.
-abbrev pub AreRefused : {V : Type 0} → ℕ → ReadGrammar V → Refusal → Refusal
-AreRefused n g refusal old new e = g.meta ≡ Dynamic → IsItemRefused n g refusal old new e
+abbrev pub ItemsReadRefused : {V : Type 0} → ℕ → ReadGrammar V → ReadRefusal
+ItemsReadRefused n g old new e = g.meta ≡ Dynamic → ItemReadRefused n g old new e
 
 -- the reader stays, and a length overflows
-abbrev pub IsTooLong : Refusal
-IsTooLong old new (reading.LengthEncodingOverflow s) = Stays old new
-IsTooLong old new _ = ⊥
+abbrev pub TotalReadRefused : ReadRefusal
+TotalReadRefused old new (reading.LengthEncodingOverflow s) = Stays old new
+TotalReadRefused old new _ = ⊥
 
 -- So many bytes go through one window of them; where they are past `usize::MAX`, none is taken.
-abbrev pub IsSpanRefused : Option ℕ → Refusal
-IsSpanRefused None = IsTooLong
-IsSpanRefused (Some n) = IsWindowRefused n
+abbrev pub SpanReadRefused : Option ℕ → ReadRefusal → ReadRefusal
+SpanReadRefused None inside = TotalReadRefused
+SpanReadRefused (Some n) inside = WindowReadRefused n inside
 
 -- n items of this size were refused
-abbrev pub IsRunRefused : {V : Type 0} → ℕ → ItemSize → ReadGrammar V → Refusal → Refusal
-IsRunRefused n Unknown g refusal = IsItemRefused n g refusal
-IsRunRefused n (Bytes s) g refusal = IsSpanRefused (run_size n (Bytes s))
-IsRunRefused n Vast g refusal = IsSpanRefused (run_size n Vast)
+abbrev pub RunReadRefused : {V : Type 0} → ℕ → ItemSize → ReadGrammar V → ReadRefusal
+RunReadRefused n Unknown g = ItemReadRefused n g
+RunReadRefused n (Bytes s) g = SpanReadRefused (run_size n (Bytes s)) (ItemsReadRefused n g)
+RunReadRefused n Vast g = SpanReadRefused (run_size n Vast) (ItemsReadRefused n g)
+
+-- n items, one after another
+abbrev pub items_read : {V : Type 0} → ℕ → ReadGrammar V → ReadGrammar (List V)
+items_read n g = record { reads = AreItems n g.reads; meta = Dynamic; prealloc = 1; borrow = g.borrow; takes_no_memory = false; refused = ItemsReadRefused n g }
+
+-- n items of this size, through one window where it is known
+abbrev pub run_read : {V : Type 0} → ℕ → ItemSize → ReadGrammar V → ReadGrammar (List V)
+run_read n size g = record { reads = AreItems n g.reads; meta = Dynamic; prealloc = 1; borrow = g.borrow; takes_no_memory = false; refused = RunReadRefused n size g }
+
+-- What a read answers that adds n values to a list: they are there; or it was refused, and the list is as it was.
+pub record AddOutcome {A D V : Type 0} (n : ℕ) (g : ReadGrammar V) (model : D → V) (old new : ReaderState) (before after : List D) (r : Result A ReadError) : Type 0 where
+  pub ok : OnOk r (Adds n g.reads model old new before after)
+  pub refused : IfErr r (ReadRefused (AreItems n g.reads) g.borrow false old new)
+  pub place : IfErr r (ItemsReadRefused n g old new)
+  pub same : OnErr r (after ≡ before)
 
 -- A list of items of this size was refused: its length was, as the scheme says; or, behind it, its items were.
-abbrev pub IsListRefused : {V : Type 0} → Scheme → (ℕ → Refusal) → ItemSize → ReadGrammar V → Refusal → Refusal
-IsListRefused s length_refusal size g refusal old new e =
-    (Refuses (IsLength s g.prealloc) 0 true old new e × length_refusal g.prealloc old new e)
-    ⊎ ((n : ℕ) × (mid : ReaderState) × Gives (IsLength s g.prealloc) old mid n × IsRunRefused n size g refusal mid new e)
+abbrev pub ListReadRefused : {V : Type 0} → Scheme → ItemSize → ReadGrammar V → ReadRefusal
+ListReadRefused s size g old new e = SchemaReadRefused (length_read s g.prealloc) old new e
+    ⊎ ((n : ℕ) × (mid : ReaderState) × Gives (IsLength s g.prealloc) old mid n × RunReadRefused n size g mid new e)
+
+-- A list behind its length, of items of this size, which counts so much against the limit of a list of such.
+abbrev pub list_read_of : {V : Type 0} → Scheme → ℕ → ItemSize → ReadGrammar V → ReadGrammar (List V)
+list_read_of s count size g = record {
+  reads = λ b vs. reads_list s g b vs;
+  meta = Dynamic;
+  prealloc = count;
+  borrow = g.borrow;
+  takes_no_memory = false;
+  refused = ListReadRefused s size g;
+}
+
+-- so, of items of which so much is known as is announced
+abbrev pub list_read : {V : Type 0} → Scheme → ℕ → ReadGrammar V → ReadGrammar (List V)
+list_read s count g = list_read_of s count (item_size g.meta) g

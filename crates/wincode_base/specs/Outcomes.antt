@@ -1,9 +1,10 @@
 -- What reading and writing a value answer, said once for lengths, leaves and compounds.
-use Rattle.std.specs.Prelude.{⊤, ◌≡◌, ◌⊎◌, ℕ, ◌^◌, ◌<◌, ◌≤◌, min, Bool, false, ◌&&◌, List, ◌++◌, length, map, IsTrue, Option, Some}
+use Rattle.std.specs.Prelude.{⊤, ◌≡◌, ◌⊎◌, ℕ, ◌^◌, ◌<◌, ◌≤◌, min, Bool, false, ◌&&◌, List, [], ◌++◌, length, map, IsTrue, Option, Result, OnOk, IfErr, OnErr, IfOk}
+use Rattle.std.specs.Option.{IsSomeAnd}
 use Rattle.wincode_io.specs.Joins.{AreItems}
-use Rattle.wincode_io.specs.Readers.{ReaderState, Kept, IsOnward, IsShort, IsRefused}
-use Rattle.wincode_io.specs.Writers.{WriterState, IsSameWriter, Took, byte_limit, IsWriteRefusal, IsWriteRefused}
-use Rattle.wincode_base.specs.Grammar.{ReadGrammar, WriteGrammar}
+use Rattle.wincode_io.specs.Readers.{ReaderState, Kept, IsOnward, IsShort, BytesReadRefused}
+use Rattle.wincode_io.specs.Writers.{WriterState, IsSameWriter, Took, byte_limit, WriteRefusedFor}
+use Rattle.wincode_base.specs.Grammar.{ReadGrammar, WriteGrammar, ReadRefusal}
 use Rattle.wincode_base.specs.declared.error.ReadError.{ReadError}
 use Rattle.wincode_base.specs.declared.error.WriteError.{WriteError}
 use Rattle.wincode_io.specs.declared.error.ReadError.{ReadError as IoReadError}
@@ -17,9 +18,9 @@ use Rattle.wincode_io.specs.declared.error.WriteError.TheVariants as writer
 
 -- a front of the input reads as v, and the rest stands after it
 pub record Found {V : Type 0} (reads : List ℕ → V → Type 0) (input : List ℕ) (v : V) (rest : List ℕ) : Type 0 where
-  pub text : List ℕ
-  pub is_read : reads text v
-  pub joins : input ≡ text ++ rest
+  pub encoding : List ℕ
+  pub is_read : reads encoding v
+  pub joins : input ≡ encoding ++ rest
 
 -- some front reads
 pub record Front {V : Type 0} (reads : List ℕ → V → Type 0) (input : List ℕ) : Type 0 where
@@ -36,87 +37,103 @@ pub record IsEnd (input rest : List ℕ) : Type 0 where
 -- the front.
 pub record Gives {V : Type 0} (reads : List ℕ → V → Type 0) (old new : ReaderState) (v : V) : Type 0 where
   pub kept : Kept old new
-  pub found : IsTrue old.told → Found reads old.rest v new.rest
-  pub place : IsTrue old.told → IsOnward old new
+  pub found : IsTrue old.is_known → Found reads old.rest v new.rest
+  pub place : IsTrue old.is_known → IsOnward old new
 
 -- the destination holds a value that reading gave
-pub record Puts {D V : Type 0} (reads : List ℕ → V → Type 0) (seen : D → V) (old new : ReaderState) (dst : Option D) : Type 0 where
-  pub value : D
-  pub is : dst ≡ Some value
-  pub gives : Gives reads old new (seen value)
+abbrev pub Puts : {D V : Type 0} → (List ℕ → V → Type 0) → (D → V) → ReaderState → ReaderState → Option D → Type 0
+Puts reads model old new dst = IsSomeAnd dst (λ d. Gives reads old new (model d))
 
 -- a list has grown by n values that reading gave
-pub record Adds {D V : Type 0} (n : ℕ) (reads : List ℕ → V → Type 0) (seen : D → V) (old new : ReaderState) (before after : List D) : Type 0 where
+pub record Adds {D V : Type 0} (n : ℕ) (reads : List ℕ → V → Type 0) (model : D → V) (old new : ReaderState) (before after : List D) : Type 0 where
   pub items : List D
   pub is : after ≡ before ++ items
-  pub gives : Gives (AreItems n reads) old new (map seen items)
+  pub gives : Gives (AreItems n reads) old new (map model items)
 
 -- the bytes that the reader has are known, as many as there can be at the most, and a front of them reads
 pub record Accepts {V : Type 0} (reads : List ℕ → V → Type 0) (old : ReaderState) : Type 0 where
-  pub told : IsTrue old.told
+  pub is_known : IsTrue old.is_known
   pub fits : length old.rest < 2 ^ 64
   pub front : Front reads old.rest
 
 -- Why reading may be refused, where `accepted` says that a front reads: then for a borrow that the reader does not
 -- lend, for memory or by its device alone.
 abbrev pub ReaderDue : Type 0 → ℕ → ReaderState → IoReadError → Type 0
-ReaderDue accepted asks new (reader.ReadSizeLimit n) = accepted → ⊥
-ReaderDue accepted asks new reader.UnsupportedZeroCopy = accepted → new.lends < asks
-ReaderDue accepted asks new reader.OutOfMemory = new.steady ≡ false
-ReaderDue accepted asks new (reader.Io e) = (new.steady ≡ false) × (0 < new.failures)
+ReaderDue accepted borrow new (reader.ReadSizeLimit n) = accepted → ⊥
+ReaderDue accepted borrow new reader.UnsupportedZeroCopy = accepted → new.lends < borrow
+ReaderDue accepted borrow new reader.OutOfMemory = new.never_fails ≡ false
+ReaderDue accepted borrow new (reader.Io e) = (new.never_fails ≡ false) × (0 < new.failures)
 
-abbrev pub Due : Type 0 → ℕ → Bool → ReaderState → ReadError → Type 0
-Due accepted asks sparing new (reading.Io e) = ReaderDue accepted asks new e
-Due accepted asks sparing new reading.OutOfMemory = (new.steady && sparing) ≡ false
-Due accepted asks sparing new _ = accepted → ⊥
+-- So, with the errors of schemas: plain `OutOfMemory` is memory for the value, and any other error says that no
+-- front reads.
+abbrev pub ReadDue : Type 0 → ℕ → Bool → ReaderState → ReadError → Type 0
+ReadDue accepted borrow takes_no_memory new (reading.Io e) = ReaderDue accepted borrow new e
+ReadDue accepted borrow takes_no_memory new reading.OutOfMemory = (new.never_fails && takes_no_memory) ≡ false
+ReadDue accepted borrow takes_no_memory new _ = accepted → ⊥
 
 -- Reading was refused: an end of what the reader had is left, it stands before that, and the error is due.
-pub record Refuses {V : Type 0} (reads : List ℕ → V → Type 0) (asks : ℕ) (sparing : Bool) (old new : ReaderState) (e : ReadError) : Type 0 where
+pub record ReadRefused {V : Type 0} (reads : List ℕ → V → Type 0) (borrow : ℕ) (takes_no_memory : Bool) (old new : ReaderState) (e : ReadError) : Type 0 where
   pub kept : Kept old new
-  pub left : IsTrue old.told → IsEnd old.rest new.rest
-  pub place : IsTrue old.told → IsOnward old new
-  pub due : Due (Accepts reads old) asks sparing new e
-
--- what a schema says of its refusals: of the reader before and after, and the error
-abbrev pub Refusal : Type 1
-Refusal = ReaderState → ReaderState → ReadError → Type 0
+  pub left : IsTrue old.is_known → IsEnd old.rest new.rest
+  pub place : IsTrue old.is_known → IsOnward old new
+  pub due : ReadDue (Accepts reads old) borrow takes_no_memory new e
 
 -- it is never refused
-abbrev pub never : Refusal
+abbrev pub never : ReadRefusal
 never old new e = ⊥
 
 -- it says no more than that it is due
-abbrev pub unsaid : Refusal
+abbrev pub unsaid : ReadRefusal
 unsaid old new e = Unit {0}
 
 -- n bytes were refused by the reader, which has the bytes that it had
-abbrev pub IsDenied : ℕ → ReaderState → ReaderState → ReadError → Type 0
-IsDenied n old new (reading.Io e) = IsRefused (IsShort n old) ⊥ n old new e
-IsDenied n old new _ = ⊥
+abbrev pub PieceReadRefused : ℕ → ReaderState → ReaderState → ReadError → Type 0
+PieceReadRefused n old new (reading.Io e) = BytesReadRefused (IsShort n old) ⊥ n old new e
+PieceReadRefused n old new _ = ⊥
 
--- A schema's read was refused: by its grammar, and as the schema says.
-abbrev pub IsReadRefused : {V : Type 0} → ReadGrammar V → Refusal → Refusal
-IsReadRefused g refusal old new e = Refuses g.reads g.asks g.sparing old new e × refusal old new e
+-- A read was refused: it is due, and as the grammar says.
+abbrev pub SchemaReadRefused : {V : Type 0} → ReadGrammar V → ReadRefusal
+SchemaReadRefused g old new e = ReadRefused g.reads g.borrow g.takes_no_memory old new e × g.refused old new e
 
 -- So, of a reader that was left in some state.
-abbrev pub IsUnread : {V : Type 0} → ReadGrammar V → Refusal → ReaderState → ReadError → Type 0
-IsUnread g refusal old e = (left : ReaderState) × IsReadRefused g refusal old left e
+abbrev pub FrontReadRefused : {V : Type 0} → ReadGrammar V → ReaderState → ReadError → Type 0
+FrontReadRefused g old e = (left : ReaderState) × SchemaReadRefused g old left e
+
+-- What a read into a destination answers: a value that it gave is there; or it was refused, as the grammar says, and the
+-- destination is as it was.
+pub record ReadOutcome {A D V : Type 0} (g : ReadGrammar V) (model : D → V) (old new : ReaderState) (before after : Option D) (r : Result A ReadError) : Type 0 where
+  pub ok : OnOk r (Puts g.reads model old new after)
+  pub refused : IfErr r (ReadRefused g.reads g.borrow g.takes_no_memory old new)
+  pub place : IfErr r (g.refused old new)
+  pub same : OnErr r (after ≡ before)
+
+-- What a read answers that gives its value.
+pub record GetOutcome {D V : Type 0} (g : ReadGrammar V) (model : D → V) (old new : ReaderState) (r : Result D ReadError) : Type 0 where
+  pub ok : IfOk r (λ d. Gives g.reads old new (model d))
+  pub refused : IfErr r (ReadRefused g.reads g.borrow g.takes_no_memory old new)
+  pub place : IfErr r (g.refused old new)
+
+-- What a read answers that gives what is made of values, where `made` says what is made of which.
+pub record MakeOutcome {C D V : Type 0} (g : ReadGrammar (List V)) (model : D → V) (made : List D → C → Type 0) (old new : ReaderState) (r : Result C ReadError) : Type 0 where
+  pub ok : IfOk r (λ c. (ds : List D) × Gives g.reads old new (map model ds) × made ds c)
+  pub refused : IfErr r (ReadRefused g.reads g.borrow g.takes_no_memory old new)
+  pub place : IfErr r (g.refused old new)
 
 -- ---- writing
 
--- Writing added one text of v, for which there was room.
+-- Writing added one encoding of v, for which there was room.
 pub record Wrote {S K V : Type 0} {put : S → List ℕ → S} {room : S → ℕ} (g : WriteGrammar V) (old new : WriterState put room K) (v : V) : Type 0 where
   pub can : g.can v
   pub fits : g.size v ≤ room old.content
-  pub text : List ℕ
-  pub is_text : g.writes v text
-  pub took : Took text old new
+  pub encoding : List ℕ
+  pub is_encoding : g.writes v encoding
+  pub took : Took encoding old new
 
--- the writer took a front of one of the texts of v
+-- the writer took a front of one of the encodings of v
 pub record Began {S K V : Type 0} {put : S → List ℕ → S} {room : S → ℕ} (g : WriteGrammar V) (old new : WriterState put room K) (v : V) : Type 0 where
   pub front : List ℕ
   pub more : List ℕ
-  pub is_text : g.writes v (front ++ more)
+  pub is_encoding : g.writes v (front ++ more)
   pub within : length front ≤ room old.content
   pub added : new.content ≡ put old.content front
 
@@ -124,75 +141,87 @@ pub record Began {S K V : Type 0} {put : S → List ℕ → S} {room : S → ℕ
 -- memory or by the writer's device alone.
 abbrev pub WriterDue : {S K : Type 0} {put : S → List ℕ → S} {room : S → ℕ} → Type 0 → WriterState put room K → IoWriteError → Type 0
 WriterDue able new (writer.WriteSizeLimit n) = able → ⊥
-WriterDue able new (writer.Io e) = (new.steady ≡ false) × (0 < new.failures)
-WriterDue able new writer.OutOfMemory = new.steady ≡ false
+WriterDue able new (writer.Io e) = (new.never_fails ≡ false) × (0 < new.failures)
+WriterDue able new writer.OutOfMemory = new.never_fails ≡ false
 
+-- So, with the errors of schemas: any error of their own says that the value can't be written or its size is past
+-- what fits.
 abbrev pub WriteDue : {S K : Type 0} {put : S → List ℕ → S} {room : S → ℕ} → Type 0 → WriterState put room K → WriteError → Type 0
 WriteDue able new (writing.Io e) = WriterDue able new e
-WriteDue able new writing.OutOfMemory = new.steady ≡ false
+WriteDue able new writing.OutOfMemory = new.never_fails ≡ false
 WriteDue able new _ = able → ⊥
 
 -- the error of a writer, which its memory or its device refused
 abbrev pub IsReason : {S K : Type 0} {put : S → List ℕ → S} {room : S → ℕ} → WriterState put room K → WriteError → Type 0
-IsReason new (writing.Io e) = IsWriteRefusal ⊥ 0 new e
+IsReason new (writing.Io e) = WriteRefusedFor ⊥ 0 new e
 IsReason new _ = ⊥
 
 -- v can be written, in at most `usize::MAX` bytes, for which there is room
 abbrev pub IsAble : {S K V : Type 0} {put : S → List ℕ → S} {room : S → ℕ} → WriteGrammar V → WriterState put room K → V → Type 0
 IsAble {room = room} g old v = g.can v × (g.size v ≤ min (room old.content) byte_limit)
 
--- Writing was refused: a front of a text was added, where v can be written, and the error is due.
-pub record Unwritten {S K V : Type 0} {put : S → List ℕ → S} {room : S → ℕ} (g : WriteGrammar V) (old new : WriterState put room K) (v : V) (e : WriteError) : Type 0 where
+-- Writing was refused: a front of an encoding was added, where v can be written, and the error is due.
+pub record WriteRefused {S K V : Type 0} {put : S → List ℕ → S} {room : S → ℕ} (g : WriteGrammar V) (old new : WriterState put room K) (v : V) (e : WriteError) : Type 0 where
   pub same : IsSameWriter old new
   pub began : g.can v → Began g old new v
   pub due : WriteDue (IsAble g old v) new e
 
--- A piece of n bytes was refused by the writer, which holds what it held.
-abbrev pub IsWriteDenied : {S K : Type 0} {put : S → List ℕ → S} {room : S → ℕ} → ℕ → WriterState put room K → WriterState put room K → WriteError → Type 0
-IsWriteDenied n old new (writing.Io e) = IsWriteRefused n old new e
-IsWriteDenied n old new _ = ⊥
+-- A piece of n bytes was refused: there is less room, or memory or the device; nothing was added.
+abbrev pub PieceWriteRefused : ℕ → ℕ → List ℕ → WriteError → Type 0
+PieceWriteRefused n room added (writing.Io (writer.WriteSizeLimit m)) = (added ≡ []) × (room < n) × (m ≡ n)
+PieceWriteRefused n room added (writing.Io e) = added ≡ []
+PieceWriteRefused n room added _ = ⊥
 
--- What is written in one piece adds nothing where it is refused, and within `usize` is refused as one piece of its
--- size, where it can be written.
-abbrev pub IsPieceRefused : {S K V : Type 0} {put : S → List ℕ → S} {room : S → ℕ} → Bool → WriteGrammar V → WriterState put room K → WriterState put room K → V → WriteError → Type 0
-IsPieceRefused whole g old new v e = IsTrue whole → g.can v → (new.content ≡ old.content) × (g.size v < 2 ^ 64 → IsWriteDenied (g.size v) old new e)
+-- A refused write has added these bytes, and is refused as the grammar says. It holds of what can't be written too.
+pub record Stopped {S K V : Type 0} {put : S → List ℕ → S} {room : S → ℕ} (g : WriteGrammar V) (old new : WriterState put room K) (v : V) (e : WriteError) : Type 0 where
+  pub added : List ℕ
+  pub within : length added ≤ room old.content
+  pub content : new.content ≡ put old.content added
+  pub refused : g.refused v (room old.content) added e
+
+-- What a write answers: it added an encoding of one of the values, or it was refused and has added what the grammar says.
+pub record WriteOutcome {A S K V : Type 0} {put : S → List ℕ → S} {room : S → ℕ} (g : WriteGrammar V) (old new : WriterState put room K) (v : V) (is_valid : Type 0) (r : Result A WriteError) : Type 0 where
+  pub ok : OnOk r (Wrote g old new v)
+  pub value : OnOk r is_valid
+  pub refused : IfErr r (WriteRefused g old new v)
+  pub place : IfErr r (Stopped g old new v)
 
 -- Writing the value and ending it was refused: the writing was; or all was written, and then a writer that keeps bytes
 -- back was refused its memory or by its device.
-abbrev pub IsUnended : {S K V : Type 0} {put : S → List ℕ → S} {room : S → ℕ} → Bool → WriteGrammar V → Bool → WriterState put room K → WriterState put room K → V → WriteError → Type 0
-IsUnended buffers g piece old new v e = (Unwritten g old new v e × IsPieceRefused piece g old new v e)
+abbrev pub SerializeIntoRefused : {S K V : Type 0} {put : S → List ℕ → S} {room : S → ℕ} → Bool → WriteGrammar V → WriterState put room K → WriterState put room K → V → WriteError → Type 0
+SerializeIntoRefused buffers g old new v e = (WriteRefused g old new v e × Stopped g old new v e)
     ⊎ (Wrote g old new v × IsTrue buffers × IsReason new e)
 
 -- a length or a size that overflows
-abbrev pub IsOverflow : WriteError → Type 0
-IsOverflow (writing.LengthEncodingOverflow s) = ⊤
-IsOverflow _ = ⊥
+abbrev pub IsLengthOverflow : WriteError → Type 0
+IsLengthOverflow (writing.LengthEncodingOverflow s) = ⊤
+IsLengthOverflow _ = ⊥
 
 -- the error of a value alone: neither want of memory nor a device is behind it
-abbrev pub IsFaultless : WriteError → Type 0
-IsFaultless writing.OutOfMemory = ⊥
-IsFaultless (writing.Io writer.OutOfMemory) = ⊥
-IsFaultless (writing.Io (writer.Io e)) = ⊥
-IsFaultless _ = ⊤
+abbrev pub IsOfValueAlone : WriteError → Type 0
+IsOfValueAlone writing.OutOfMemory = ⊥
+IsOfValueAlone (writing.Io writer.OutOfMemory) = ⊥
+IsOfValueAlone (writing.Io (writer.Io e)) = ⊥
+IsOfValueAlone _ = ⊤
 
 -- so, and an overflow where all parts are this crate's own
-abbrev pub IsUnfit : Bool → WriteError → Type 0
-IsUnfit own e = IsFaultless e × (IsTrue own → IsOverflow e)
+abbrev pub IsValueError : Bool → WriteError → Type 0
+IsValueError builtin e = IsOfValueAlone e × (IsTrue builtin → IsLengthOverflow e)
 
 -- v can be written, in n bytes
 abbrev pub IsSized : {V : Type 0} → WriteGrammar V → V → ℕ → Type 0
 IsSized g v n = g.can v × (n ≡ g.size v)
 
 -- The size of v was refused: v can't be written or its size is past `usize::MAX`.
-abbrev pub IsSizeRefused : {V : Type 0} → WriteGrammar V → V → WriteError → Type 0
-IsSizeRefused g v e = (g.can v → g.size v < 2 ^ 64 → ⊥) × IsUnfit g.own e
+abbrev pub SizeRefused : {V : Type 0} → WriteGrammar V → V → WriteError → Type 0
+SizeRefused g v e = (g.can v → g.size v < 2 ^ 64 → ⊥) × IsValueError g.builtin e
 
--- v can be written, and the bytes are a text of it, of its size
+-- v can be written, and the bytes are an encoding of it, of its size
 pub record IsSerialized {V : Type 0} (g : WriteGrammar V) (v : V) (bytes : List ℕ) : Type 0 where
   pub can : g.can v
-  pub is_text : g.writes v bytes
+  pub is_encoding : g.writes v bytes
   pub size : length bytes ≡ g.size v
 
 -- It was refused as its size was; or its size is at most `usize::MAX`, and memory for so many bytes was wanted.
-abbrev pub IsUnserialized : {V : Type 0} → WriteGrammar V → V → WriteError → Type 0
-IsUnserialized g v e = IsSizeRefused g v e ⊎ (g.can v × (g.size v < 2 ^ 64) × (e ≡ writing.OutOfMemory))
+abbrev pub SerializeRefused : {V : Type 0} → WriteGrammar V → V → WriteError → Type 0
+SerializeRefused g v e = SizeRefused g v e ⊎ (g.can v × (g.size v < 2 ^ 64) × (e ≡ writing.OutOfMemory))

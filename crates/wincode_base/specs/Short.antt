@@ -1,44 +1,49 @@
 -- Short numbers, as values and as lengths.
 use Rattle.std.specs.Prelude.{◌≡◌, ℕ, ◌<◌, ◌^◌, true, length, Some, None, nat_lt, if◌then◌else◌}
-use Rattle.wincode_io.specs.Readers.{Stays, IsRefused}
-use Rattle.wincode_io.specs.ShortNumbers.{short_text}
-use Rattle.wincode_base.specs.Grammar.{ReadGrammar, WriteGrammar}
+use Rattle.wincode_io.specs.Readers.{Stays, BytesReadRefused, nothing}
+use Rattle.wincode_io.specs.ShortNumbers.{short_encoding}
+use Rattle.wincode_base.specs.Grammar.{ReadGrammar, WriteGrammar, ReadRefusal}
 use Rattle.wincode_base.specs.Lengths.{Scheme}
-use Rattle.wincode_base.specs.Outcomes.{Refusal}
+use Rattle.wincode_base.specs.Outcomes.{PieceWriteRefused}
 use Rattle.wincode_base.specs.declared.meta.TypeMeta.TheVariants.{Dynamic}
 use Rattle.wincode_base.specs.declared.error.ReadError.TheVariants as reading
 
+-- A short number was refused, and the reader has the bytes that it had: its memory or its device refused it the first
+-- three; or no short number stands in front.
+abbrev pub ShortReadRefused : ReadRefusal
+ShortReadRefused old new (reading.Io e) = BytesReadRefused ⊥ ⊥ 3 old new e
+ShortReadRefused old new (reading.LengthEncodingOverflow s) = Stays old new
+ShortReadRefused old new _ = ⊥
+
+-- Reading a short number as a value.
 abbrev pub short_read : ReadGrammar ℕ
 short_read = record {
-  reads = λ b n. (n < 2 ^ 16) × (b ≡ short_text n);
+  reads = λ b n. (n < 2 ^ 16) × (b ≡ short_encoding n);
   meta = Dynamic;
   prealloc = 2;
-  asks = 0;
-  sparing = true;
+  borrow = nothing;
+  takes_no_memory = true;
+  refused = ShortReadRefused;
 }
 
+-- Writing a short number as a value.
 abbrev pub short_write : WriteGrammar ℕ
 short_write = record {
-  writes = λ n b. b ≡ short_text n;
+  writes = λ n b. b ≡ short_encoding n;
   can = λ n. Unit {0};
-  size = λ n. length (short_text n);
+  size = λ n. length (short_encoding n);
   fits = λ n. Unit {0};
   meta = Dynamic;
   prealloc = 2;
-  own = true;
+  builtin = true;
+  refused = λ n. PieceWriteRefused (length (short_encoding n));
 }
 
 -- a length below 2 to the 16, read whatever its items count
 abbrev pub short_scheme : Scheme
 short_scheme = record {
-  text = λ n. if nat_lt n (2 ^ 16) then Some (short_text n) else None;
+  encoding = λ n. if nat_lt n (2 ^ 16) then Some (short_encoding n) else None;
   admits = λ n p. n < 2 ^ 16;
-  own = true;
+  builtin = true;
+  refused = λ p. ShortReadRefused;
 }
-
--- A short number was refused, and the reader has the bytes that it had: its memory or its device refused it the first
--- three; or no short number stands in front.
-abbrev pub IsShortRefused : Refusal
-IsShortRefused old new (reading.Io e) = IsRefused ⊥ ⊥ 3 old new e
-IsShortRefused old new (reading.LengthEncodingOverflow s) = Stays old new
-IsShortRefused old new _ = ⊥

@@ -3,7 +3,7 @@ use Rattle.std.proofs.Common.{◌≡◌, ◌∙◌, sym, ap, ℕ, ◌<◌, ◌^�
 use Rattle.std.proofs.lemmas.Bool.{lt-ltb, ltb-true}
 use Rattle.std.proofs.lemmas.Option.{cond_some}
 use Rattle.wincode_io.specs.Joins.{IsUnambiguous}
-use Rattle.wincode_io.specs.ShortNumbers.{short_text}
+use Rattle.wincode_io.specs.ShortNumbers.{short_encoding}
 use Rattle.wincode_io.specs.ShortNumberLaws.{short_one}
 use Rattle.wincode_base.specs.Grammar.{ReadLaws, WriteLaws, ReadsBack}
 use Rattle.wincode_base.specs.Lengths.{SchemeLaws}
@@ -12,26 +12,26 @@ use Rattle.wincode_base.specs.Short.{short_read, short_write, short_scheme}
 one_front : IsUnambiguous short_read.reads
 one_front a b x y m n p q e =
     let same = short_one m n x y (ap (λ t. t ++ x) (sym p.1) ∙ e ∙ ap (λ t. t ++ y) q.1) in
-    (p.1 ∙ ap short_text same ∙ sym q.1, same)
+    (p.1 ∙ ap short_encoding same ∙ sym q.1, same)
 
 pub short_read_laws : ReadLaws (λ n. n < 2 ^ 16) short_read
 short_read_laws = record {
   one_front = one_front;
-  is_proper = λ b n r. r.0;
+  reads_valid = λ b n r. r.0;
   statics = tt;
   prealloc = omega arith;
 }
 
-pub short_write_laws : {X : Type 0} (proper : X → Type 0) (seen : X → ℕ) → WriteLaws proper seen short_write
-short_write_laws proper seen = record {
-  has_text = λ n c. (short_text n, refl);
-  text_size = λ n b t. ap length t;
+pub short_write_laws : {X : Type 0} (is_valid : X → Type 0) (model : X → ℕ) → WriteLaws is_valid model short_write
+short_write_laws is_valid model = record {
+  has_encoding = λ n c. (short_encoding n, refl);
+  encoding_size = λ n b t. ap length t;
   can_fit = λ n f. f;
   statics = tt;
 }
 
-pub short_reads_back : {X : Type 0} (seen : X → ℕ) → ReadsBack (λ x. seen x < 2 ^ 16) seen short_write seen short_read
-short_reads_back seen = record {
+pub short_reads_back : {X : Type 0} (model : X → ℕ) → ReadsBack (λ x. model x < 2 ^ 16) model short_write model short_read
+short_reads_back model = record {
   back = λ x b p t f. (p, t);
   within = λ b x r. tt;
   same_prealloc = refl;
@@ -40,15 +40,15 @@ short_reads_back seen = record {
 
 -- ---- lengths
 
-pub short_has : (n : ℕ) → n < 2 ^ 16 → short_scheme.text n ≡ Some (short_text n)
-short_has n l = ap (λ b. cond b (Some (short_text n)) None) (lt-ltb n (2 ^ 16) l)
+pub short_has : (n : ℕ) → n < 2 ^ 16 → short_scheme.encoding n ≡ Some (short_encoding n)
+short_has n l = ap (λ b. cond b (Some (short_encoding n)) None) (lt-ltb n (2 ^ 16) l)
 
--- a length has the text of its short number alone
-pub short_is : (n : ℕ) (a : List ℕ) → short_scheme.text n ≡ Some a → short_read.reads a n
-short_is n a e = let h = cond_some (nat_lt n (2 ^ 16)) (short_text n) a e in (ltb-true n (2 ^ 16) h.0, sym h.1)
+-- a length has the encoding of its short number alone
+pub short_is : (n : ℕ) (a : List ℕ) → short_scheme.encoding n ≡ Some a → short_read.reads a n
+short_is n a e = let h = cond_some (nat_lt n (2 ^ 16)) (short_encoding n) a e in (ltb-true n (2 ^ 16) h.0, sym h.1)
 
 pub short_scheme_laws : SchemeLaws short_scheme
 short_scheme_laws = record {
-  admitted = λ n p h. (short_text n, short_has n h);
+  admitted = λ n p h. (short_encoding n, short_has n h);
   one_length = λ a b x y m n p q e. one_front a b x y m n (short_is m a p) (short_is n b q) e;
 }

@@ -6,13 +6,13 @@ use Rattle.std.specs.Result.{result_map_both}
 use Rattle.wincode_io.specs.Readers.{ReaderState}
 use Rattle.wincode_io.specs.Numbers.{le}
 use Rattle.wincode_io.specs.NumberLaws.{length-le}
-use Rattle.wincode_base.specs.Grammar.{ReadGrammar, WriteGrammar, ReadLaws, WriteLaws, ReadsBack, IsReadStatic, IsWriteStatic}
+use Rattle.wincode_base.specs.Grammar.{ReadGrammar, WriteGrammar, ReadRefusal, ReadLaws, WriteLaws, ReadsBack, IsReadStatic, IsWriteStatic}
 use Rattle.wincode_base.specs.Leaves.{number_read}
 use Rattle.wincode_base.specs.LeafLaws.{number_one}
 use Rattle.wincode_base.specs.Pairs.{pair_meta}
 use Rattle.wincode_base.specs.Sequences.{Then, then_gives, then_first, then_second, then_unambiguous, strip, gives_map, refuses_map}
-use Rattle.wincode_base.specs.Outcomes.{Gives, Refuses}
-use Rattle.wincode_base.specs.Tags.{IsTagSize, greatest_tag, tagged_read, tagged_write, counted_read, counted_write, option_tag, OptionReads, option_part_read, option_read, OptionWrites, IfPart, option_size, option_part_write, option_write, sides_tag, result_tag, sides_meta, SidesRead, sides_read, result_read, SidesWrite, IfSide, sides_size, sides_write, result_write}
+use Rattle.wincode_base.specs.Outcomes.{Gives, ReadRefused, unsaid}
+use Rattle.wincode_base.specs.Tags.{IsTagSize, greatest_tag, tagged_read, tagged_write, counted_read, counted_write, option_tag, OptionReads, option_part_read, option_read, OptionReadRefused, OptionWrites, IfPart, option_size, option_part_write, option_write, sides_tag, result_tag, sides_meta, SidesRead, sides_read, result_read, SidesWrite, IfSide, sides_size, sides_write, result_write}
 use Rattle.wincode_base.specs.declared.meta.TypeMeta.{TypeMeta}
 use Rattle.wincode_base.specs.declared.meta.TypeMeta.TheVariants.{Static, Dynamic}
 use Rattle.wincode_base.specs.declared.error.ReadError.{ReadError}
@@ -57,11 +57,11 @@ small_tag_at_most k some t h = omega (arith, small_tag k some t h)
 abbrev pub IsCase : {V : Type 0} → (V → ℕ) → (List ℕ → V → Type 0) → ℕ → List ℕ → V → Type 0
 IsCase tag reads t b v = (tag v ≡ t) × reads b v
 
--- The laws of what stands behind a tag of k bytes, of which texts behind one tag alone are told apart.
-pub record CaseLaws {V : Type 0} (k : ℕ) (tag : V → ℕ) (proper : V → Type 0) (part : ReadGrammar V) : Type 0 where
+-- The laws of what stands behind a tag of k bytes, of which encodings behind one tag alone are told apart.
+pub record CaseLaws {V : Type 0} (k : ℕ) (tag : V → ℕ) (is_valid : V → Type 0) (part : ReadGrammar V) : Type 0 where
   pub small : (v : V) → tag v < 256 ^ k
   pub one : (t : ℕ) → IsUnambiguous (IsCase tag part.reads t)
-  pub is_proper : (b : List ℕ) (v : V) → part.reads b v → proper v
+  pub reads_valid : (b : List ℕ) (v : V) → part.reads b v → is_valid v
   pub statics : IsReadStatic part.reads part.meta
   pub prealloc : 1 ≤ part.prealloc
 
@@ -75,89 +75,89 @@ module _ {V : Type 0} (k : ℕ) (tag : V → ℕ) (small : (v : V) → tag v < 2
   abbrev Case : ℕ → List ℕ → V → Type 0
   Case = IsCase tag part.reads
 
-  tagged_then : (b : List ℕ) (v : V) → (tagged_read k tag part).reads b v → Then Tag Case b v
+  tagged_then : (b : List ℕ) (v : V) → (tagged_read k tag unsaid part).reads b v → Then Tag Case b v
   tagged_then b v r = record { before = tag v; x = le k (tag v); y = r.0; one = (small v, refl); two = (refl, r.1); joins = r.2 }
 
-  then_tagged : (b : List ℕ) (v : V) → Then Tag Case b v → (tagged_read k tag part).reads b v
+  then_tagged : (b : List ℕ) (v : V) → Then Tag Case b v → (tagged_read k tag unsaid part).reads b v
   then_tagged b v t = (t.y, t.two.1, t.joins ∙ ap (λ x. x ++ t.y) (t.one.1 ∙ ap (le k) (sym t.two.0)))
 
-  tagged_static : (m : TypeMeta) → IsReadStatic part.reads m → IsReadStatic (tagged_read k tag part).reads (pair_meta (Static k true) m)
+  tagged_static : (m : TypeMeta) → IsReadStatic part.reads m → IsReadStatic (tagged_read k tag unsaid part).reads (pair_meta (Static k true) m)
   tagged_static Dynamic h = tt
   tagged_static (Static s z) h =
-      elim (nat_lt (k + s) (2 ^ 64)) as (λ t. IsReadStatic {V = V} (tagged_read k tag part).reads (cond t (Static (k + s) false) Dynamic))
+      elim (nat_lt (k + s) (2 ^ 64)) as (λ t. IsReadStatic {V = V} (tagged_read k tag unsaid part).reads (cond t (Static (k + s) false) Dynamic))
       [ true ↦ (λ b v r. ap length r.2 ∙ length-append (le k (tag v)) r.0 ∙ ap (λ n. n + length r.0) (length-le k (tag v)) ∙ ap (λ n. k + n) (h.0 r.0 v r.1), λ z. absurd (cc z)) | false ↦ tt ]
 
-  -- of what stands behind one tag, neither text begins the other
-  pub tagged_read_laws : (proper : V → Type 0) → ((t : ℕ) → IsUnambiguous (Case t)) → ((b : List ℕ) (v : V) → part.reads b v → proper v) → IsReadStatic part.reads part.meta → 1 ≤ part.prealloc → ReadLaws proper (tagged_read k tag part)
-  tagged_read_laws proper one is_proper statics prealloc = record {
+  -- of what stands behind one tag, neither encoding begins the other
+  pub tagged_read_laws : (refusal : ReadRefusal) → (is_valid : V → Type 0) → ((t : ℕ) → IsUnambiguous (Case t)) → ((b : List ℕ) (v : V) → part.reads b v → is_valid v) → IsReadStatic part.reads part.meta → 1 ≤ part.prealloc → ReadLaws is_valid (tagged_read k tag refusal part)
+  tagged_read_laws refusal is_valid one reads_valid statics prealloc = record {
     one_front = λ a b x y v w p q e. then_unambiguous Tag Case (number_one k true) one a b x y v w (tagged_then a v p) (tagged_then b w q) e;
-    is_proper = λ b v r. is_proper r.0 v r.1;
+    reads_valid = λ b v r. reads_valid r.0 v r.1;
     statics = tagged_static part.meta statics;
     prealloc = prealloc;
   }
 
   -- the tag was read, and then what it names
-  pub tagged_gives : (old mid new : ReaderState) (t : ℕ) (v : V) → tag v ≡ t → Gives Tag old mid t → Gives part.reads mid new v → Gives (tagged_read k tag part).reads old new v
+  pub tagged_gives : (old mid new : ReaderState) (t : ℕ) (v : V) → tag v ≡ t → Gives Tag old mid t → Gives part.reads mid new v → Gives (tagged_read k tag unsaid part).reads old new v
   tagged_gives old mid new t v e r s =
-      gives_map (Then Tag Case) (tagged_read k tag part).reads old new v v (λ b w. then_tagged b v w)
+      gives_map (Then Tag Case) (tagged_read k tag unsaid part).reads old new v v (λ b w. then_tagged b v w)
       (then_gives Tag Case old mid new t v r (gives_map part.reads (Case t) mid new v v (λ b w. (e, w)) s))
 
   -- the tag was refused
-  pub tag_refused : (old new : ReaderState) (e : ReadError) → Refuses Tag 0 true old new e → Refuses (tagged_read k tag part).reads part.asks part.sparing old new e
+  pub tag_refused : (old new : ReaderState) (e : ReadError) → ReadRefused Tag 0 true old new e → ReadRefused (tagged_read k tag unsaid part).reads part.borrow part.takes_no_memory old new e
   tag_refused old new e r =
-      refuses_map (Then Tag Case) (tagged_read k tag part).reads part.asks part.sparing old new e (λ b v t. (v, tagged_then b v t))
-      (then_first Tag Case 0 part.asks true part.sparing old new e (omega arith) (spares part.sparing) r)
+      refuses_map (Then Tag Case) (tagged_read k tag unsaid part).reads part.borrow part.takes_no_memory old new e (λ b v t. (v, tagged_then b v t))
+      (then_first Tag Case 0 part.borrow true part.takes_no_memory old new e (omega arith) (spares part.takes_no_memory) r)
 
   -- what stands behind the tag was refused
-  pub case_refused : (asks : ℕ) (sparing : Bool) (old mid new : ReaderState) (t : ℕ) (e : ReadError) → asks ≤ part.asks → (sparing ≡ false → part.sparing ≡ false) → Gives Tag old mid t → Refuses (Case t) asks sparing mid new e → Refuses (tagged_read k tag part).reads part.asks part.sparing old new e
-  case_refused asks sparing old mid new t e a s r u =
-      refuses_map (Then Tag Case) (tagged_read k tag part).reads part.asks part.sparing old new e (λ b v t. (v, tagged_then b v t))
-      (then_second Tag Case (number_one k true) asks part.asks sparing part.sparing old mid new t e a s r u)
+  pub case_refused : (borrow : ℕ) (takes_no_memory : Bool) (old mid new : ReaderState) (t : ℕ) (e : ReadError) → borrow ≤ part.borrow → (takes_no_memory ≡ false → part.takes_no_memory ≡ false) → Gives Tag old mid t → ReadRefused (Case t) borrow takes_no_memory mid new e → ReadRefused (tagged_read k tag unsaid part).reads part.borrow part.takes_no_memory old new e
+  case_refused borrow takes_no_memory old mid new t e a s r u =
+      refuses_map (Then Tag Case) (tagged_read k tag unsaid part).reads part.borrow part.takes_no_memory old new e (λ b v t. (v, tagged_then b v t))
+      (then_second Tag Case (number_one k true) borrow part.borrow takes_no_memory part.takes_no_memory old mid new t e a s r u)
 
   -- the tag was read, and names nothing
-  pub bad_tag : (old new : ReaderState) (t n : ℕ) → ((v : V) → tag v ≡ t → ⊥) → Gives Tag old new t → Refuses (tagged_read k tag part).reads part.asks part.sparing old new (reading.InvalidTagEncoding n)
+  pub bad_tag : (old new : ReaderState) (t n : ℕ) → ((v : V) → tag v ≡ t → ⊥) → Gives Tag old new t → ReadRefused (tagged_read k tag unsaid part).reads part.borrow part.takes_no_memory old new (reading.InvalidTagEncoding n)
   bad_tag old new t n none r =
-      refuses_map (Then Tag Case) (tagged_read k tag part).reads part.asks part.sparing old new (reading.InvalidTagEncoding n) (λ b v t. (v, tagged_then b v t))
+      refuses_map (Then Tag Case) (tagged_read k tag unsaid part).reads part.borrow part.takes_no_memory old new (reading.InvalidTagEncoding n) (λ b v t. (v, tagged_then b v t))
       (record {
         kept = r.kept;
-        left = λ told. let f = r.found told in record { front = f.text; joins = f.joins };
+        left = λ told. let f = r.found told in record { front = f.encoding; joins = f.joins };
         place = r.place;
         due = λ a. let m = strip Tag Case (number_one k true) old new t r a in none m.front.value m.front.found.is_read.0;
       })
 
 -- so, by the laws of what stands behind the tag
-pub cases_read_laws : {V : Type 0} {k : ℕ} {tag : V → ℕ} {proper : V → Type 0} {part : ReadGrammar V} → CaseLaws k tag proper part → ReadLaws proper (tagged_read k tag part)
-cases_read_laws {k = k} {tag = tag} {proper = proper} {part = part} l =
-    tagged_read_laws k tag l.small part proper l.one l.is_proper l.statics l.prealloc
+pub cases_read_laws : {V : Type 0} {refusal : ReadRefusal} {k : ℕ} {tag : V → ℕ} {is_valid : V → Type 0} {part : ReadGrammar V} → CaseLaws k tag is_valid part → ReadLaws is_valid (tagged_read k tag refusal part)
+cases_read_laws {refusal = refusal} {k = k} {tag = tag} {is_valid = is_valid} {part = part} l =
+    tagged_read_laws k tag l.small part refusal is_valid l.one l.reads_valid l.statics l.prealloc
 
 -- what has one tag alone
 pub one_case : {V : Type 0} {k : ℕ} {p : V → Type 0} {g : ReadGrammar V} (t : ℕ) → t < 256 ^ k → ReadLaws p g → CaseLaws k (λ v. t) p g
-one_case t small l = record { small = λ v. small; one = λ u a b x y v w i j e. l.one_front a b x y v w i.1 j.1 e; is_proper = l.is_proper; statics = l.statics; prealloc = l.prealloc }
+one_case t small l = record { small = λ v. small; one = λ u a b x y v w i j e. l.one_front a b x y v w i.1 j.1 e; reads_valid = l.reads_valid; statics = l.statics; prealloc = l.prealloc }
 
 -- counted otherwise against a limit
 pub counted_cases : {V : Type 0} {k : ℕ} {tag : V → ℕ} {p : V → Type 0} {g : ReadGrammar V} (n : ℕ) → 1 ≤ n → CaseLaws k tag p g → CaseLaws k tag p (counted_read n g)
-counted_cases n some l = record { small = l.small; one = l.one; is_proper = l.is_proper; statics = l.statics; prealloc = some }
+counted_cases n some l = record { small = l.small; one = l.one; reads_valid = l.reads_valid; statics = l.statics; prealloc = some }
 
 -- ---- writing a tag and then what it names
 
-module _ {X V : Type 0} (p : X → Type 0) (seen : X → V) (k : ℕ) (tag : V → ℕ) (part : WriteGrammar V) where
-  tagged_write_static : (m : TypeMeta) → IsWriteStatic p seen part.can part.size m → IsWriteStatic p seen (tagged_write k tag part).can (tagged_write k tag part).size (pair_meta (Static k true) m)
+module _ {X V : Type 0} (p : X → Type 0) (model : X → V) (k : ℕ) (tag : V → ℕ) (part : WriteGrammar V) where
+  tagged_write_static : (m : TypeMeta) → IsWriteStatic p model part.can part.size m → IsWriteStatic p model (tagged_write k tag part).can (tagged_write k tag part).size (pair_meta (Static k true) m)
   tagged_write_static Dynamic h = tt
   tagged_write_static (Static s z) h =
-      elim (nat_lt (k + s) (2 ^ 64)) as (λ t. IsWriteStatic p seen (tagged_write k tag part).can (tagged_write k tag part).size (cond t (Static (k + s) false) Dynamic))
+      elim (nat_lt (k + s) (2 ^ 64)) as (λ t. IsWriteStatic p model (tagged_write k tag part).can (tagged_write k tag part).size (cond t (Static (k + s) false) Dynamic))
       [ true ↦ (λ x c. h.0 x c, λ v c. ap (λ n. k + n) (h.1 v c)) | false ↦ tt ]
 
-  pub tagged_write_laws : WriteLaws p seen part → WriteLaws p seen (tagged_write k tag part)
+  pub tagged_write_laws : WriteLaws p model part → WriteLaws p model (tagged_write k tag part)
   tagged_write_laws l = record {
-    has_text = λ v c. let a = l.has_text v c in (le k (tag v) ++ a.0, (a.0, a.1, refl));
-    text_size = λ v b r. ap length r.2 ∙ length-append (le k (tag v)) r.0 ∙ ap (λ n. n + length r.0) (length-le k (tag v)) ∙ ap (λ n. k + n) (l.text_size v r.0 r.1);
+    has_encoding = λ v c. let a = l.has_encoding v c in (le k (tag v) ++ a.0, (a.0, a.1, refl));
+    encoding_size = λ v b r. ap length r.2 ∙ length-append (le k (tag v)) r.0 ∙ ap (λ n. n + length r.0) (length-le k (tag v)) ∙ ap (λ n. k + n) (l.encoding_size v r.0 r.1);
     can_fit = l.can_fit;
     statics = tagged_write_static part.meta l.statics;
   }
 
 -- writing and reading see the same tag of a value
-pub tagged_reads_back : {X V W : Type 0} (p : X → Type 0) (ws : X → W) (w : WriteGrammar W) (rs : X → V) (r : ReadGrammar V) (k : ℕ) (wtag : W → ℕ) (rtag : V → ℕ) → ((x : X) → wtag (ws x) ≡ rtag (rs x))
-    → ReadsBack p ws w rs r → ReadsBack p ws (tagged_write k wtag w) rs (tagged_read k rtag r)
+pub tagged_reads_back : {X V W : Type 0} {refusal : ReadRefusal} (p : X → Type 0) (ws : X → W) (w : WriteGrammar W) (rs : X → V) (r : ReadGrammar V) (k : ℕ) (wtag : W → ℕ) (rtag : V → ℕ) → ((x : X) → wtag (ws x) ≡ rtag (rs x))
+    → ReadsBack p ws w rs r → ReadsBack p ws (tagged_write k wtag w) rs (tagged_read k rtag refusal r)
 tagged_reads_back p ws w rs r k wtag rtag same l = record {
   back = λ x b c t f. (t.0, l.back x t.0 c t.1 f, t.2 ∙ ap (λ n. le k n ++ t.0) (same x));
   within = λ b x t. l.within t.0 x t.1;
@@ -177,33 +177,33 @@ option_one g one t a b x y None (Some w) p q e = absurd (omega (arith, p.0, q.0)
 option_one g one t a b x y (Some v) None p q e = absurd (omega (arith, p.0, q.0))
 option_one g one t a b x y (Some v) (Some w) p q e = let r = one a b x y v w p.1 q.1 e in (r.0, ap (λ u. Some u) r.1)
 
-option_proper : {V : Type 0} (p : V → Type 0) (g : ReadGrammar V) → ReadLaws p g → (b : List ℕ) (o : Option V) → OptionReads g.reads b o → IfPart p o
-option_proper p g l b None r = tt
-option_proper p g l b (Some v) r = l.is_proper b v r
+option_valid : {V : Type 0} (p : V → Type 0) (g : ReadGrammar V) → ReadLaws p g → (b : List ℕ) (o : Option V) → OptionReads g.reads b o → IfPart p o
+option_valid p g l b None r = tt
+option_valid p g l b (Some v) r = l.reads_valid b v r
 
 pub option_read_laws : {V : Type 0} (k : ℕ) → 1 ≤ k → (p : V → Type 0) (g : ReadGrammar V) → ReadLaws p g → ReadLaws (IfPart p) (option_read k g)
 option_read_laws k some p g l =
-    tagged_read_laws k option_tag (option_small k some) (option_part_read g) (IfPart p) (option_one g l.one_front) (option_proper p g l) tt l.prealloc
+    tagged_read_laws k option_tag (option_small k some) (option_part_read g) (OptionReadRefused k g) (IfPart p) (option_one g l.one_front) (option_valid p g l) tt l.prealloc
 
-module _ {X V : Type 0} (p : X → Type 0) (seen : X → V) (g : WriteGrammar V) (l : WriteLaws p seen g) where
-  option_text : (o : Option V) → IfPart g.can o → (b : List ℕ) × OptionWrites g.writes o b
-  option_text None c = ([], refl)
-  option_text (Some v) c = l.has_text v c
+module _ {X V : Type 0} (p : X → Type 0) (model : X → V) (g : WriteGrammar V) (l : WriteLaws p model g) where
+  option_encoding : (o : Option V) → IfPart g.can o → (b : List ℕ) × OptionWrites g.writes o b
+  option_encoding None c = ([], refl)
+  option_encoding (Some v) c = l.has_encoding v c
 
-  option_text_size : (o : Option V) (b : List ℕ) → OptionWrites g.writes o b → length b ≡ option_size g.size o
-  option_text_size None b t = ap length t
-  option_text_size (Some v) b t = l.text_size v b t
+  option_encoding_size : (o : Option V) (b : List ℕ) → OptionWrites g.writes o b → length b ≡ option_size g.size o
+  option_encoding_size None b t = ap length t
+  option_encoding_size (Some v) b t = l.encoding_size v b t
 
   option_fit : (o : Option V) → IfPart g.fits o → IfPart g.can o
   option_fit None f = tt
   option_fit (Some v) f = l.can_fit v f
 
   -- an option without its tag
-  pub option_part_laws : WriteLaws (IfPart p) (option_map seen) (option_part_write g)
-  option_part_laws = record { has_text = option_text; text_size = option_text_size; can_fit = option_fit; statics = tt }
+  pub option_part_laws : WriteLaws (IfPart p) (option_map model) (option_part_write g)
+  option_part_laws = record { has_encoding = option_encoding; encoding_size = option_encoding_size; can_fit = option_fit; statics = tt }
 
-pub option_write_laws : {X V : Type 0} (k : ℕ) (p : X → Type 0) (seen : X → V) (g : WriteGrammar V) → WriteLaws p seen g → WriteLaws (IfPart p) (option_map seen) (option_write k g)
-option_write_laws k p seen g l = tagged_write_laws (IfPart p) (option_map seen) k option_tag (option_part_write g) (option_part_laws p seen g l)
+pub option_write_laws : {X V : Type 0} (k : ℕ) (p : X → Type 0) (model : X → V) (g : WriteGrammar V) → WriteLaws p model g → WriteLaws (IfPart p) (option_map model) (option_write k g)
+option_write_laws k p model g l = tagged_write_laws (IfPart p) (option_map model) k option_tag (option_part_write g) (option_part_laws p model g l)
 
 module _ {X V W : Type 0} (p : X → Type 0) (ws : X → W) (w : WriteGrammar W) (rs : X → V) (r : ReadGrammar V) (l : ReadsBack p ws w rs r) where
   option_back : (o : Option X) (b : List ℕ) → IfPart p o → OptionWrites w.writes (option_map ws o) b → IfPart w.fits (option_map ws o) → OptionReads r.reads b (option_map rs o)
@@ -231,7 +231,7 @@ pub result_small : {V W : Type 0} (k : ℕ) → 1 ≤ k → (r : Result V W) →
 result_small k some (Ok v) = small_tag k some 0 (omega arith)
 result_small k some (Err w) = small_tag k some 1 (omega arith)
 
--- the texts of both sides have one size
+-- the encodings of both sides have one size
 side_sizes : {V W : Type 0} (g : ReadGrammar V) (h : ReadGrammar W) (a b : ℕ) → a ≡ b → ((t : List ℕ) (v : V) → g.reads t v → length t ≡ a) → ((t : List ℕ) (w : W) → h.reads t w → length t ≡ b)
     → (t : List ℕ) (r : Result V W) → SidesRead g.reads h.reads t r → length t ≡ a
 side_sizes g h a b e i j t (Ok v) r = i t v r
@@ -255,16 +255,16 @@ module _ {V W : Type 0} {k : ℕ} {tag : V → ℕ} {other : W → ℕ} {p : V �
   sides_one apart t a b x y (Err v) (Ok w) i j e = absurd (apart w v (j.0 ∙ sym i.0))
   sides_one apart t a b x y (Err v) (Err w) i j e = let r = m.one t a b x y v w i j e in (r.0, ap (λ u. Err u) r.1)
 
-  sides_proper : (b : List ℕ) (r : Result V W) → SidesRead g.reads h.reads b r → IfSide p q r
-  sides_proper b (Ok v) r = l.is_proper b v r
-  sides_proper b (Err w) r = m.is_proper b w r
+  sides_valid : (b : List ℕ) (r : Result V W) → SidesRead g.reads h.reads b r → IfSide p q r
+  sides_valid b (Ok v) r = l.reads_valid b v r
+  sides_valid b (Err w) r = m.reads_valid b w r
 
   -- two sides, of which no two values have one tag
   pub sides_cases : ((v : V) (w : W) → tag v ≡ other w → ⊥) → CaseLaws k (sides_tag tag other) (IfSide p q) (sides_read g h)
   sides_cases apart = record {
     small = sides_small;
     one = sides_one apart;
-    is_proper = sides_proper;
+    reads_valid = sides_valid;
     statics = sides_static g h g.meta h.meta l.statics m.statics;
     prealloc = let a = l.prealloc in omega arith;
   }
@@ -274,10 +274,10 @@ result_read_laws k some p q g h l m =
     cases_read_laws (sides_cases (one_case 0 (small_tag k some 0 (omega arith)) l) (one_case 1 (small_tag k some 1 (omega arith)) m) (λ v w e. omega arith))
 
 -- both sides of every value can be written
-sides_can : {X Y V W : Type 0} (p : X → Type 0) (q : Y → Type 0) (seen : X → V) (seen' : Y → W) (g : WriteGrammar V) (h : WriteGrammar W)
-    → ((x : X) → p x → g.can (seen x)) → ((y : Y) → q y → h.can (seen' y)) → (r : Result X Y) → IfSide p q r → IfSide g.can h.can (result_map_both seen seen' r)
-sides_can p q seen seen' g h i j (Ok x) c = i x c
-sides_can p q seen seen' g h i j (Err y) c = j y c
+sides_can : {X Y V W : Type 0} (p : X → Type 0) (q : Y → Type 0) (model : X → V) (model' : Y → W) (g : WriteGrammar V) (h : WriteGrammar W)
+    → ((x : X) → p x → g.can (model x)) → ((y : Y) → q y → h.can (model' y)) → (r : Result X Y) → IfSide p q r → IfSide g.can h.can (result_map_both model model' r)
+sides_can p q model model' g h i j (Ok x) c = i x c
+sides_can p q model model' g h i j (Err y) c = j y c
 
 -- what can be written has one size
 sides_write_size : {V W : Type 0} (g : WriteGrammar V) (h : WriteGrammar W) (a b : ℕ) → a ≡ b → ((v : V) → g.can v → g.size v ≡ a) → ((w : W) → h.can w → h.size w ≡ b)
@@ -285,34 +285,34 @@ sides_write_size : {V W : Type 0} (g : WriteGrammar V) (h : WriteGrammar W) (a b
 sides_write_size g h a b e i j (Ok v) c = i v c
 sides_write_size g h a b e i j (Err w) c = j w c ∙ sym e
 
-sides_write_static : {X Y V W : Type 0} (p : X → Type 0) (q : Y → Type 0) (seen : X → V) (seen' : Y → W) (g : WriteGrammar V) (h : WriteGrammar W) (m n : TypeMeta) → IsWriteStatic p seen g.can g.size m → IsWriteStatic q seen' h.can h.size n
-    → IsWriteStatic (IfSide p q) (result_map_both seen seen') (IfSide g.can h.can) (sides_size g.size h.size) (sides_meta m n)
-sides_write_static p q seen seen' g h Dynamic n i j = tt
-sides_write_static p q seen seen' g h (Static a x) Dynamic i j = tt
-sides_write_static p q seen seen' g h (Static a x) (Static b y) i j =
-    elim (nat_eq a b) as (λ t. (t ≡ true → a ≡ b) → IsWriteStatic (IfSide p q) (result_map_both seen seen') (IfSide g.can h.can) (sides_size g.size h.size) (cond t (Static a false) Dynamic))
-    [ true ↦ (λ e. (sides_can p q seen seen' g h i.0 j.0, sides_write_size g h a b (e refl) i.1 j.1)) | false ↦ (λ e. tt) ] (eqb-true a b)
+sides_write_static : {X Y V W : Type 0} (p : X → Type 0) (q : Y → Type 0) (model : X → V) (model' : Y → W) (g : WriteGrammar V) (h : WriteGrammar W) (m n : TypeMeta) → IsWriteStatic p model g.can g.size m → IsWriteStatic q model' h.can h.size n
+    → IsWriteStatic (IfSide p q) (result_map_both model model') (IfSide g.can h.can) (sides_size g.size h.size) (sides_meta m n)
+sides_write_static p q model model' g h Dynamic n i j = tt
+sides_write_static p q model model' g h (Static a x) Dynamic i j = tt
+sides_write_static p q model model' g h (Static a x) (Static b y) i j =
+    elim (nat_eq a b) as (λ t. (t ≡ true → a ≡ b) → IsWriteStatic (IfSide p q) (result_map_both model model') (IfSide g.can h.can) (sides_size g.size h.size) (cond t (Static a false) Dynamic))
+    [ true ↦ (λ e. (sides_can p q model model' g h i.0 j.0, sides_write_size g h a b (e refl) i.1 j.1)) | false ↦ (λ e. tt) ] (eqb-true a b)
 
-module _ {X Y V W : Type 0} (p : X → Type 0) (q : Y → Type 0) (seen : X → V) (seen' : Y → W) (g : WriteGrammar V) (h : WriteGrammar W) (l : WriteLaws p seen g) (m : WriteLaws q seen' h) where
-  sides_text : (r : Result V W) → IfSide g.can h.can r → (b : List ℕ) × SidesWrite g.writes h.writes r b
-  sides_text (Ok v) c = l.has_text v c
-  sides_text (Err w) c = m.has_text w c
+module _ {X Y V W : Type 0} (p : X → Type 0) (q : Y → Type 0) (model : X → V) (model' : Y → W) (g : WriteGrammar V) (h : WriteGrammar W) (l : WriteLaws p model g) (m : WriteLaws q model' h) where
+  sides_encoding : (r : Result V W) → IfSide g.can h.can r → (b : List ℕ) × SidesWrite g.writes h.writes r b
+  sides_encoding (Ok v) c = l.has_encoding v c
+  sides_encoding (Err w) c = m.has_encoding w c
 
-  sides_text_size : (r : Result V W) (b : List ℕ) → SidesWrite g.writes h.writes r b → length b ≡ sides_size g.size h.size r
-  sides_text_size (Ok v) b t = l.text_size v b t
-  sides_text_size (Err w) b t = m.text_size w b t
+  sides_encoding_size : (r : Result V W) (b : List ℕ) → SidesWrite g.writes h.writes r b → length b ≡ sides_size g.size h.size r
+  sides_encoding_size (Ok v) b t = l.encoding_size v b t
+  sides_encoding_size (Err w) b t = m.encoding_size w b t
 
   sides_fit : (r : Result V W) → IfSide g.fits h.fits r → IfSide g.can h.can r
   sides_fit (Ok v) f = l.can_fit v f
   sides_fit (Err w) f = m.can_fit w f
 
   -- a result without its tag
-  pub sides_laws : WriteLaws (IfSide p q) (result_map_both seen seen') (sides_write g h)
-  sides_laws = record { has_text = sides_text; text_size = sides_text_size; can_fit = sides_fit; statics = sides_write_static p q seen seen' g h g.meta h.meta l.statics m.statics }
+  pub sides_laws : WriteLaws (IfSide p q) (result_map_both model model') (sides_write g h)
+  sides_laws = record { has_encoding = sides_encoding; encoding_size = sides_encoding_size; can_fit = sides_fit; statics = sides_write_static p q model model' g h g.meta h.meta l.statics m.statics }
 
-pub result_write_laws : {X Y V W : Type 0} (k : ℕ) (p : X → Type 0) (q : Y → Type 0) (seen : X → V) (seen' : Y → W) (g : WriteGrammar V) (h : WriteGrammar W) → WriteLaws p seen g → WriteLaws q seen' h → WriteLaws (IfSide p q) (result_map_both seen seen') (result_write k g h)
-result_write_laws k p q seen seen' g h l m =
-    tagged_write_laws (IfSide p q) (result_map_both seen seen') k result_tag (sides_write g h) (sides_laws p q seen seen' g h l m)
+pub result_write_laws : {X Y V W : Type 0} (k : ℕ) (p : X → Type 0) (q : Y → Type 0) (model : X → V) (model' : Y → W) (g : WriteGrammar V) (h : WriteGrammar W) → WriteLaws p model g → WriteLaws q model' h → WriteLaws (IfSide p q) (result_map_both model model') (result_write k g h)
+result_write_laws k p q model model' g h l m =
+    tagged_write_laws (IfSide p q) (result_map_both model model') k result_tag (sides_write g h) (sides_laws p q model model' g h l m)
 
 module _ {X Y V V' W W' : Type 0} (p : X → Type 0) (q : Y → Type 0) (ws : X → V') (w : WriteGrammar V') (rs : X → V) (r : ReadGrammar V) (ws' : Y → W') (w' : WriteGrammar W') (rs' : Y → W) (r' : ReadGrammar W) (l : ReadsBack p ws w rs r) (m : ReadsBack q ws' w' rs' r') where
   sides_back : (o : Result X Y) (b : List ℕ) → IfSide p q o → SidesWrite w.writes w'.writes (result_map_both ws ws' o) b → IfSide w.fits w'.fits (result_map_both ws ws' o) → SidesRead r.reads r'.reads b (result_map_both rs rs' o)
@@ -344,8 +344,8 @@ result_reads_back k p q ws w rs r ws' w' rs' r' l m =
 
 -- ---- counted otherwise against a limit
 
-pub counted_laws : {X V : Type 0} {p : X → Type 0} {seen : X → V} {g : WriteGrammar V} (n : ℕ) → WriteLaws p seen g → WriteLaws p seen (counted_write n g)
-counted_laws n l = record { has_text = l.has_text; text_size = l.text_size; can_fit = l.can_fit; statics = l.statics }
+pub counted_laws : {X V : Type 0} {p : X → Type 0} {model : X → V} {g : WriteGrammar V} (n : ℕ) → WriteLaws p model g → WriteLaws p model (counted_write n g)
+counted_laws n l = record { has_encoding = l.has_encoding; encoding_size = l.encoding_size; can_fit = l.can_fit; statics = l.statics }
 
 pub counted_reads_back : {X V W : Type 0} {p : X → Type 0} {ws : X → W} {w : WriteGrammar W} {rs : X → V} {r : ReadGrammar V} (n : ℕ) → ReadsBack p ws w rs r → ReadsBack p ws (counted_write n w) rs (counted_read n r)
 counted_reads_back n l = record { back = l.back; within = l.within; same_prealloc = refl; same_meta = l.same_meta }

@@ -4,7 +4,7 @@ use Rattle.std.specs.Prelude.{if◌then◌else◌, max, replicate}
 use Rattle.wincode_io.specs.Forms.{IsByteForm}
 use Rattle.wincode_io.specs.Joins.{IsUnambiguous, Each}
 use Rattle.wincode_io.specs.Writers.{byte_limit}
-use Rattle.wincode_base.specs.Grammar.{ReadGrammar, WriteGrammar, ReadLaws, WriteLaws, ReadsBack, IsReadStatic, IsWriteStatic}
+use Rattle.wincode_base.specs.Grammar.{ReadGrammar, WriteGrammar, ReadRefusal, ReadLaws, WriteLaws, ReadsBack, IsReadStatic, IsWriteStatic}
 use Rattle.wincode_base.specs.LeafLaws.{same_front}
 use Rattle.wincode_base.specs.Lengths.{bincode}
 use Rattle.wincode_base.specs.LengthLaws.{bincode_laws}
@@ -38,44 +38,44 @@ whole_front zero (x ∷ b) c e = absurd (omega arith)
 whole_front (suc s) [] c e = absurd (omega arith)
 whole_front (suc s) (x ∷ b) c e = ap (λ t. x ∷ t) (whole_front s b c (omega (arith, e)))
 
-module _ {X : Type 0} {proper : X → Type 0} {s : ℕ} {form : X → List ℕ} {value : List ℕ → X} (law : IsByteForm proper s form value) where
-  form_one : (any : Bool) (prealloc asks : ℕ) → IsUnambiguous (form_read proper s form any prealloc asks).reads
-  form_one any prealloc asks a b x y v w p q e =
+module _ {X : Type 0} {is_valid : X → Type 0} {s : ℕ} {form : X → List ℕ} {value : List ℕ → X} (law : IsByteForm is_valid s form value) where
+  form_one : IsUnambiguous {V = X} (λ b v. is_valid v × (b ≡ form v))
+  form_one a b x y v w p q e =
       let size : length a ≡ length b = ap length p.1 ∙ law.long v p.0 ∙ sym (ap length q.1 ∙ law.long w q.0) in
       let same = same_front a b x y size e in
       (same, sym (law.value_form v p.0) ∙ ap value (sym p.1 ∙ same ∙ q.1) ∙ law.value_form w q.0)
 
-  form_static : (within any : Bool) → IsReadStatic (λ b v. proper v × (b ≡ form v)) (if within then Static s any else Dynamic)
-  form_static true any = (λ b v r. ap length r.1 ∙ law.long v r.0, λ z b all e. (value b, (law.proper_value b all e, sym (law.form_value b all e))))
+  form_static : (within any : Bool) → IsReadStatic (λ b v. is_valid v × (b ≡ form v)) (if within then Static s any else Dynamic)
+  form_static true any = (λ b v r. ap length r.1 ∙ law.long v r.0, λ z b all e. (value b, (law.valid_value b all e, sym (law.form_value b all e))))
   form_static false any = tt
 
-  pub form_read_laws : (any : Bool) (prealloc asks : ℕ) → 1 ≤ prealloc → ReadLaws proper (form_read proper s form any prealloc asks)
-  form_read_laws any prealloc asks some = record {
-    one_front = form_one any prealloc asks;
-    is_proper = λ b v r. r.0;
+  pub form_read_laws : {refusal : ReadRefusal} (any : Bool) (prealloc borrow : ℕ) → 1 ≤ prealloc → ReadLaws is_valid (form_read is_valid s form any prealloc borrow refusal)
+  form_read_laws any prealloc borrow some = record {
+    one_front = form_one;
+    reads_valid = λ b v r. r.0;
     statics = form_static (nat_lt s (2 ^ 64)) any;
     prealloc = some;
   }
 
-  form_text : (v : X) → (b : List ℕ) × ((length b ≡ s) × (proper v → b ≡ form v))
-  form_text v = (as_long s (form v), (as_long_size s (form v), λ p. whole_front s (form v) (zeros s) (law.long v p)))
+  form_encoding : (v : X) → (b : List ℕ) × ((length b ≡ s) × (is_valid v → b ≡ form v))
+  form_encoding v = (as_long s (form v), (as_long_size s (form v), λ p. whole_front s (form v) (zeros s) (law.long v p)))
 
   -- `of` is the value that a Y has
-  form_sized : {Y : Type 0} (of : Y → X) (within any : Bool) → IsWriteStatic (λ y. proper (of y)) of (λ v. Unit {0}) (λ v. s) (if within then Static s any else Dynamic)
+  form_sized : {Y : Type 0} (of : Y → X) (within any : Bool) → IsWriteStatic (λ y. is_valid (of y)) of (λ v. Unit {0}) (λ v. s) (if within then Static s any else Dynamic)
   form_sized of true any = (λ y p. tt, λ v c. refl)
   form_sized of false any = tt
 
-  pub form_write_laws : {Y : Type 0} (of : Y → X) (any : Bool) (prealloc : ℕ) → WriteLaws (λ y. proper (of y)) of (form_write proper s form any prealloc)
+  pub form_write_laws : {Y : Type 0} (of : Y → X) (any : Bool) (prealloc : ℕ) → WriteLaws (λ y. is_valid (of y)) of (form_write is_valid s form any prealloc)
   form_write_laws of any prealloc = record {
-    has_text = λ v c. form_text v;
-    text_size = λ v b w. w.0;
+    has_encoding = λ v c. form_encoding v;
+    encoding_size = λ v b w. w.0;
     can_fit = λ v f. f;
     statics = form_sized of (nat_lt s (2 ^ 64)) any;
   }
 
-pub form_reads_back : {X Y : Type 0} {proper : X → Type 0} {s : ℕ} {form : X → List ℕ} (of : Y → X) (any : Bool) (prealloc asks : ℕ)
-    → ReadsBack (λ y. proper (of y)) of (form_write proper s form any prealloc) of (form_read proper s form any prealloc asks)
-form_reads_back of any prealloc asks = record {
+pub form_reads_back : {X Y : Type 0} {is_valid : X → Type 0} {s : ℕ} {form : X → List ℕ} {refusal : ReadRefusal} (of : Y → X) (any : Bool) (prealloc borrow : ℕ)
+    → ReadsBack (λ y. is_valid (of y)) of (form_write is_valid s form any prealloc) of (form_read is_valid s form any prealloc borrow refusal)
+form_reads_back of any prealloc borrow = record {
   back = λ y b p t f. (p, t.1 p);
   within = λ b y r. tt;
   same_prealloc = refl;
@@ -84,26 +84,26 @@ form_reads_back of any prealloc asks = record {
 
 -- ---- lists that are lent
 
-pub lent_read_laws : {V : Type 0} (asks : ℕ) (proper : V → Type 0) (g : ReadGrammar V) → ReadLaws proper g → ReadLaws (Each proper) (lent_read asks g)
-lent_read_laws asks proper g laws =
-    let l = list_read_laws (bincode byte_limit) (bincode_laws byte_limit) 16 (omega arith) proper g laws in
-    record { one_front = l.one_front; is_proper = l.is_proper; statics = tt; prealloc = omega arith }
+pub lent_read_laws : {V : Type 0} (borrow s : ℕ) (is_valid : V → Type 0) (g : ReadGrammar V) → ReadLaws is_valid g → ReadLaws (Each is_valid) (lent_read borrow s g)
+lent_read_laws borrow s is_valid g laws =
+    let l = list_read_laws (bincode byte_limit) (bincode_laws byte_limit) 16 (omega arith) is_valid g laws in
+    record { one_front = l.one_front; reads_valid = l.reads_valid; statics = tt; prealloc = omega arith }
 
 pub same_items : {V : Type 0} (vs : List V) → map (λ v. v) vs ≡ vs
 same_items [] = refl
 same_items (v ∷ vs) = ap (λ ws. v ∷ ws) (same_items vs)
 
 -- `items` are those that a Y has
-pub lent_write_laws : {Y V : Type 0} (items : Y → List V) (proper : V → Type 0) (g : WriteGrammar V) → WriteLaws proper (λ v. v) g → WriteLaws (λ y. Each proper (items y)) items (lent_write g)
-lent_write_laws items proper g laws =
-    let l = list_write_laws (bincode byte_limit) 16 items proper (λ v. v) g laws in
-    record { has_text = l.has_text; text_size = l.text_size; can_fit = l.can_fit; statics = tt }
+pub lent_write_laws : {Y V : Type 0} (items : Y → List V) (is_valid : V → Type 0) (g : WriteGrammar V) → WriteLaws is_valid (λ v. v) g → WriteLaws (λ y. Each is_valid (items y)) items (lent_write g)
+lent_write_laws items is_valid g laws =
+    let l = list_write_laws (bincode byte_limit) 16 items is_valid (λ v. v) g laws in
+    record { has_encoding = l.has_encoding; encoding_size = l.encoding_size; can_fit = l.can_fit; statics = tt }
 
-pub lent_reads_back : {Y V : Type 0} (asks : ℕ) (items : Y → List V) (proper : V → Type 0) (w : WriteGrammar V) (r : ReadGrammar V) → ReadsBack proper (λ v. v) w (λ v. v) r
-    → ReadsBack (λ y. Each proper (items y)) items (lent_write w) items (lent_read asks r)
-lent_reads_back {Y} {V} asks items proper w r law =
-    let l = list_reads_back (bincode byte_limit) (bincode_laws byte_limit) 16 items proper (λ v. v) w (λ v. v) r law in
-    let g = lent_write w in let h = lent_read asks r in
+pub lent_reads_back : {Y V : Type 0} (borrow s : ℕ) (items : Y → List V) (is_valid : V → Type 0) (w : WriteGrammar V) (r : ReadGrammar V) → ReadsBack is_valid (λ v. v) w (λ v. v) r
+    → ReadsBack (λ y. Each is_valid (items y)) items (lent_write w) items (lent_read borrow s r)
+lent_reads_back {Y} {V} borrow s items is_valid w r law =
+    let l = list_reads_back (bincode byte_limit) (bincode_laws byte_limit) 16 items is_valid (λ v. v) w (λ v. v) r law in
+    let g = lent_write w in let h = lent_read borrow s r in
     record {
       back = λ y b p t f. subst (h.reads b) (same_items (items y)) (l.back y b p (subst (λ vs. g.writes vs b) (sym (same_items (items y))) t) (subst g.fits (sym (same_items (items y))) f));
       within = λ b y t. subst g.fits (same_items (items y)) (l.within b y (subst (h.reads b) (sym (same_items (items y))) t));
@@ -112,11 +112,11 @@ lent_reads_back {Y} {V} asks items proper w r law =
     }
 
 -- the same, of a list that contracts see by the values that its items are
-pub lent_reads_back_seen : {Y V : Type 0} (asks : ℕ) (items : Y → List V) (proper : V → Type 0) (w : WriteGrammar V) (r : ReadGrammar V) → ReadsBack proper (λ v. v) w (λ v. v) r
-    → ReadsBack (λ y. Each proper (items y)) (λ y. map (λ v. v) (items y)) (lent_write w) items (lent_read asks r)
-lent_reads_back_seen {Y} {V} asks items proper w r law =
-    let l = list_reads_back (bincode byte_limit) (bincode_laws byte_limit) 16 items proper (λ v. v) w (λ v. v) r law in
-    let h = lent_read asks r in
+pub lent_reads_back_model : {Y V : Type 0} (borrow s : ℕ) (items : Y → List V) (is_valid : V → Type 0) (w : WriteGrammar V) (r : ReadGrammar V) → ReadsBack is_valid (λ v. v) w (λ v. v) r
+    → ReadsBack (λ y. Each is_valid (items y)) (λ y. map (λ v. v) (items y)) (lent_write w) items (lent_read borrow s r)
+lent_reads_back_model {Y} {V} borrow s items is_valid w r law =
+    let l = list_reads_back (bincode byte_limit) (bincode_laws byte_limit) 16 items is_valid (λ v. v) w (λ v. v) r law in
+    let h = lent_read borrow s r in
     record {
       back = λ y b p t f. subst (h.reads b) (same_items (items y)) (l.back y b p t f);
       within = λ b y t. l.within b y (subst (h.reads b) (sym (same_items (items y))) t);

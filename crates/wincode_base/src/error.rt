@@ -1,9 +1,10 @@
 //! Why reading or writing a value is refused.
 ghost use Rattle.std.specs.Prelude.{◌≡◌};
 ghost use Rattle.wincode_base.specs.declared.error.Error.TheVariants.{WriteError as EitherWrite, ReadError as EitherRead};
-ghost use Rattle.wincode_base.specs.declared.error.ReadError.TheVariants.{Io as ReadIo, InvalidUtf8Encoding as ReadUtf8};
-ghost use Rattle.wincode_base.specs.declared.error.WriteError.TheVariants.{Io as WriteIo, InvalidUtf8Encoding as WriteUtf8};
+ghost use Rattle.wincode_base.specs.declared.error.ReadError.TheVariants.{Io as ReadIo, InvalidUtf8Encoding as ReadUtf8, OutOfMemory as ReadMemory};
+ghost use Rattle.wincode_base.specs.declared.error.WriteError.TheVariants.{Io as WriteIo, InvalidUtf8Encoding as WriteUtf8, OutOfMemory as WriteMemory};
 
+use std::alloc::{AllocError, AllocFailed};
 use std::str::Utf8Error;
 use thiserror::Error;
 use wincode_io as io;
@@ -32,6 +33,23 @@ impl From<ReadError> for Error {
 
     fn from(error: ReadError) -> Error {
         Error::ReadError(error)
+    }
+}
+
+/// Memory that one of std's collections was refused. So one `?` serves for them and for this crate.
+impl From<AllocError> for Error {
+    ghost from_gives = { λ refused made. made ≡ EitherWrite WriteMemory };
+
+    fn from(_refused: AllocError) -> Error {
+        Error::WriteError(WriteError::OutOfMemory)
+    }
+}
+
+impl<T: Drop> From<AllocFailed<T>> for Error {
+    ghost from_gives = { λ refused made. made ≡ EitherWrite WriteMemory };
+
+    fn from(_refused: AllocFailed<T>) -> Error {
+        Error::WriteError(WriteError::OutOfMemory)
     }
 }
 
@@ -91,6 +109,23 @@ impl From<Utf8Error> for ReadError {
     }
 }
 
+/// Memory that one of std's collections was refused. So one `?` serves for them and for this crate.
+impl From<AllocError> for ReadError {
+    ghost from_gives = { λ refused made. made ≡ ReadMemory };
+
+    fn from(_refused: AllocError) -> ReadError {
+        ReadError::OutOfMemory
+    }
+}
+
+impl<T: Drop> From<AllocFailed<T>> for ReadError {
+    ghost from_gives = { λ refused made. made ≡ ReadMemory };
+
+    fn from(_refused: AllocFailed<T>) -> ReadError {
+        ReadError::OutOfMemory
+    }
+}
+
 /// Why a value is not written.
 #[derive(Debug, Drop, Error)]
 pub enum WriteError {
@@ -126,6 +161,23 @@ impl From<Utf8Error> for WriteError {
 
     fn from(error: Utf8Error) -> WriteError {
         WriteError::InvalidUtf8Encoding(error)
+    }
+}
+
+/// Memory that one of std's collections was refused. So one `?` serves for them and for this crate.
+impl From<AllocError> for WriteError {
+    ghost from_gives = { λ refused made. made ≡ WriteMemory };
+
+    fn from(_refused: AllocError) -> WriteError {
+        WriteError::OutOfMemory
+    }
+}
+
+impl<T: Drop> From<AllocFailed<T>> for WriteError {
+    ghost from_gives = { λ refused made. made ≡ WriteMemory };
+
+    fn from(_refused: AllocFailed<T>) -> WriteError {
+        WriteError::OutOfMemory
     }
 }
 

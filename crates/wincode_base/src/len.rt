@@ -1,8 +1,8 @@
 //! How the length of a list is written and read.
-ghost use Rattle.std.specs.Prelude.{◌≡◌, ℕ, true, IfOk, IfErr, OnOk, OnErr};
+ghost use Rattle.std.specs.Prelude.{◌≡◌, IfOk, IfErr};
 ghost use Rattle.wincode_base.specs.LengthLaws.{bincode_laws};
-ghost use Rattle.wincode_base.specs.Lengths.{Scheme, SchemeLaws, HasText, IsLength, text_len, length_write, bincode, IsLengthRefused, IsTextless};
-ghost use Rattle.wincode_base.specs.Outcomes.{Gives, Refuses, Refusal, Wrote, Unwritten};
+ghost use Rattle.wincode_base.specs.Lengths.{Scheme, SchemeLaws, HasEncoding, encoding_len, length_write, bincode, LengthSizeRefused, length_read};
+ghost use Rattle.wincode_base.specs.Outcomes.{WriteOutcome, GetOutcome};
 
 pub mod short_vec;
 
@@ -11,33 +11,31 @@ pub use crate::len::short_vec::{ShortU16, ShortU16Len};
 use crate::reader::take_number;
 use wincode_io::{Lending, Reader, Writer};
 
-/// A length scheme: the text of each length that it writes, and the lengths that it reads.
+/// What the items of a list may count together, in bytes, where no other limit is chosen: 4 MiB.
+pub const PREALLOCATION_LIMIT: usize = 4194304;
+
+/// No limit but that of memory.
+pub const NO_LIMIT: usize = usize::MAX;
+
+/// A length scheme: the encoding of each length that it writes, and the lengths that it reads.
 pub trait SeqLen {
     ghost scheme: { Scheme };
 
-    // What it says of each refused read beyond that, where an item counts so much.
-    ghost refusal: { ℕ → Refusal };
+    ghost scheme_laws: { SchemeLaws scheme };
 
     /// Reads a length, in items, where `prealloc` is what each of them counts against a limit. Refused,
     /// it has taken a front of what the reader had, as the scheme says.
     fn read<L: Lending, R: Reader<L>>(reader: &mut R, prealloc: usize) -> ReadResult<usize>
-        ensures ok { IfOk result (Gives (IsLength scheme prealloc) (R.state reader.old) (R.state reader.new)) }
-        ensures err { IfErr result (Refuses (IsLength scheme prealloc) 0 true (R.state reader.old) (R.state reader.new)) }
-        ensures refused { IfErr result (refusal prealloc (R.state reader.old) (R.state reader.new)) };
+        ensures { GetOutcome (length_read scheme prealloc) (λ n. n) (R.state reader.old) (R.state reader.new) result };
 
-    /// Writes the length of so many items. Refused, it has added a front of the text, or nothing where
-    /// the length has none.
+    /// Writes the length of so many items, in one piece. Refused, it has added nothing.
     fn write<W: Writer>(writer: &mut W, len: usize) -> WriteResult<()>
-        ensures ok { OnOk result (Wrote (length_write scheme) (W.state writer.old) (W.state writer.new) len) }
-        ensures err { IfErr result (Unwritten (length_write scheme) (W.state writer.old) (W.state writer.new) len) }
-        ensures none { OnErr result ((HasText scheme len → ⊥) → (W.state writer.new).content ≡ (W.state writer.old).content) };
+        ensures { WriteOutcome (length_write scheme) (W.state writer.old) (W.state writer.new) len (Unit {0}) result };
 
-    /// The length of that text, in bytes. It is refused where there is none.
+    /// The length of that encoding, in bytes. It is refused where there is none.
     fn write_bytes_needed(len: usize) -> WriteResult<usize>
-        ensures ok { IfOk result (λ n. HasText scheme len × (n ≡ text_len (scheme.text len))) }
-        ensures err { IfErr result (IsTextless scheme len) };
-
-    ghost scheme_laws: { SchemeLaws scheme };
+        ensures ok { IfOk result (λ n. HasEncoding scheme len × (n ≡ encoding_len (scheme.encoding len))) }
+        ensures err { IfErr result (LengthSizeRefused scheme len) };
 }
 
 /// The lengths of bincode 1: eight bytes, the lowest first. Reading refuses a length whose items count
@@ -46,8 +44,6 @@ pub struct BincodeLen<const MAX_SIZE: usize>;
 
 impl<const MAX_SIZE: usize> SeqLen for BincodeLen<MAX_SIZE> {
     ghost scheme = { bincode MAX_SIZE };
-
-    ghost refusal = { IsLengthRefused MAX_SIZE };
 
     /// With fewer than eight bytes left it is `ReadSizeLimit(8)`, and they stay. Over the limit it is
     /// `PreallocationSizeLimit`, behind the eight bytes; what is needed is at most `usize::MAX`.

@@ -1,12 +1,12 @@
 //! The size of a whole, from what is known of its parts.
 ghost use Rattle.std.specs.Prelude.{◌≡◌, ◌+◌, ◌^◌, ◌≤◌, false, IfOk, IfErr, true, ◌<◌};
 ghost use Rattle.wincode_base.specs.Arrays.{times_meta};
-ghost use Rattle.wincode_base.specs.JoinedSizes.{IsSum, IsSumRefused};
-ghost use Rattle.wincode_base.specs.Outcomes.{IsOverflow};
+ghost use Rattle.wincode_base.specs.JoinedSizes.{JoinedSize, JoinedSizeRefused};
+ghost use Rattle.wincode_base.specs.Outcomes.{IsLengthOverflow};
 ghost use Rattle.wincode_base.specs.Pairs.{pair_meta};
-ghost use Rattle.wincode_base.specs.Sizes.{item_size, pair_size, run_size, behind_size};
+ghost use Rattle.wincode_base.specs.ItemSizes.{item_size, pair_size, run_size, behind_size};
 ghost use Rattle.wincode_base.specs.Tags.{sides_meta};
-ghost use Rattle.wincode_base.specs.Text.{reference_meta};
+ghost use Rattle.wincode_base.specs.Strings.{reference_meta};
 ghost use Rattle.wincode_base.specs.Views.{form_meta};
 ghost use Rattle.wincode_base.specs.declared.meta.TypeMeta.TheVariants.{Dynamic};
 
@@ -17,11 +17,11 @@ use wincode_io::ZeroCopy;
 /// The size of each item of a list.
 #[derive(Clone, Copy)]
 pub enum ItemSize {
-    /// Every text has so many bytes.
+    /// Every encoding has so many bytes.
     Bytes(usize),
-    /// Every text has more bytes than `usize::MAX`.
+    /// Every encoding has more bytes than `usize::MAX`.
     Vast,
-    /// The texts may differ in size.
+    /// The encodings may differ in size.
     Unknown,
 }
 
@@ -86,7 +86,7 @@ pub fn size_of_items(n: usize, item: TypeMeta) -> TypeMeta
 }
 
 /// The size of what is held in memory of its own, which is no list of bytes.
-pub fn held_meta(meta: TypeMeta) -> TypeMeta
+pub fn boxed_meta(meta: TypeMeta) -> TypeMeta
     ensures { result ≡ reference_meta meta }
 {
     match meta {
@@ -117,9 +117,9 @@ pub fn joined_meta(first: TypeMeta, second: TypeMeta) -> TypeMeta
 }
 
 /// The size of a part and what stands behind it.
-pub fn add_size(first: usize, second: usize) -> WriteResult<usize>
+pub fn checked_sum(first: usize, second: usize) -> WriteResult<usize>
     ensures ok { IfOk result (λ n. n ≡ first + second) }
-    ensures err { IfErr result (λ e. (2 ^ 64 ≤ first + second) × IsOverflow e) }
+    ensures err { IfErr result (λ e. (2 ^ 64 ≤ first + second) × IsLengthOverflow e) }
 {
     match first.checked_add(second) {
         Some(size) => Ok(size),
@@ -130,10 +130,10 @@ pub fn add_size(first: usize, second: usize) -> WriteResult<usize>
 /// The size of two parts, one after the other, of whose sizes either may be refused: the refusal of the first
 /// that is. A caller without a branch of its own is checked in less than half of the time.
 pub fn joined_size(first: WriteResult<usize>, second: WriteResult<usize>) -> WriteResult<usize>
-    ensures ok { IfOk result (IsSum first second) }
-    ensures err { IfErr result (IsSumRefused first second) }
+    ensures ok { IfOk result (JoinedSize first second) }
+    ensures err { IfErr result (JoinedSizeRefused first second) }
 {
-    add_size(first?, second?)
+    checked_sum(first?, second?)
 }
 
 /// The size of a result with such a tag, whose sides have these sizes.

@@ -1,7 +1,7 @@
 //! How the tag is read that says which case of a value stands behind it.
-ghost use Rattle.std.specs.Prelude.{◌≡◌, ℕ, true, IfOk, IfErr};
+ghost use Rattle.std.specs.Prelude.{◌≡◌, ℕ, true};
 ghost use Rattle.wincode_base.specs.Leaves.{number_read};
-ghost use Rattle.wincode_base.specs.Outcomes.{Gives, Refuses, IsDenied};
+ghost use Rattle.wincode_base.specs.Outcomes.{GetOutcome};
 ghost use Rattle.wincode_base.specs.TagLaws.{one_byte, two_bytes, four_bytes, eight_bytes};
 ghost use Rattle.wincode_base.specs.Tags.{IsTagSize, greatest_tag};
 
@@ -84,9 +84,7 @@ impl TagCode for u64 {
 /// `Io(ReadSizeLimit)` of that size, and they stay; so they do where the reader's memory or its device
 /// refused.
 pub fn read_tag<Tag: TagCode, L: Lending, R: Reader<L>>(reader: &mut R) -> ReadResult<usize>
-    ensures ok { IfOk result (Gives (number_read Tag.size true).reads (R.state reader.old) (R.state reader.new)) }
-    ensures err { IfErr result (Refuses (number_read Tag.size true).reads 0 true (R.state reader.old) (R.state reader.new)) }
-    ensures refused { IfErr result (IsDenied Tag.size (R.state reader.old) (R.state reader.new)) }
+    ensures { GetOutcome (number_read Tag.size true) (λ t. t) (R.state reader.old) (R.state reader.new) result }
 {
     match Tag::tag_size() {
         1 => Ok(u8::from_le_bytes(take_array::<L, R, 1>(reader)?) as usize),

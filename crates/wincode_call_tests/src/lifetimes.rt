@@ -7,7 +7,7 @@ use wincode::io::{Lending, Lifetime, Reader};
 use wincode::schema::tuples::write_members_2;
 use wincode::{ReadResult, SchemaGet, SchemaRead, WriteResult, deserialize, serialize};
 
-/// Both texts live as long as the bytes.
+/// Both encodings live as long as the bytes.
 fn lent_texts<'a>(alloc: Global, bytes: &'a [u8]) -> ReadResult<(&'a str, &'a str)> {
     deserialize(alloc, bytes)
 }

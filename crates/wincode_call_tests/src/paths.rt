@@ -16,7 +16,9 @@ mod modules {
         BinaryHeap, BoxedSlice, Elem, Option, Pod, RcSlice, Result, Vec, VecDeque,
     };
     pub use wincode::laws::{edit_in_place, edit_one};
-    pub use wincode::len::{BincodeLen, SeqLen, ShortU16, ShortU16Len, short_vec};
+    pub use wincode::len::{
+        BincodeLen, NO_LIMIT, PREALLOCATION_LIMIT, SeqLen, ShortU16, ShortU16Len, short_vec,
+    };
     pub use wincode::markers::{OneText, SchemaReadOwned};
     pub use wincode::meta::TypeMeta;
     pub use wincode::schema::{RoundTrip, SchemaGet, SchemaRead, SchemaWrite};

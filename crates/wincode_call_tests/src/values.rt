@@ -1,4 +1,4 @@
-//! Values in Rust and their bytes, by each call once, and the texts of the errors.
+//! Values in Rust and their bytes, by each call once, and the encodings of the errors.
 
 use std::alloc::Global;
 use std::io::ErrorKind;

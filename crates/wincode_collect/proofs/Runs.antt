@@ -1,4 +1,4 @@
--- Runs of calls, one call at a time.
+-- GaveEach of calls, one call at a time.
 use mathlib.Core.Path.{◌≡◌, refl, sym, subst, ap, ◌∙◌}
 use mathlib.Core.List.{List, [], ◌∷◌, ◌++◌}
 use Prim.Native.Nat.{ℕ, suc, ◌+◌, ◌-◌, ◌<◌}
@@ -8,10 +8,10 @@ use native.Mathlib.Numerals.{add-one}
 use lib.ListN.{length, take, set}
 use lib.Seq.{take-suc-set}
 use Rattle.std.specs.Prelude.{Option, Some, None, Result, Ok}
-use Rattle.wincode_collect.specs.Runs.{Runs, Stops, Gave, Failed, Attempts}
+use Rattle.wincode_collect.specs.Calls.{GaveEach, Stops, Gave, Failed, Attempts}
 
 -- a run and one call more
-pub runs_more : {S A : Type 0} (R : S → Option A → S → Type 0) (s : S) (xs : List A) (j t : S) (x : A) → Runs R s xs j → R j (Some x) t → Runs R s (xs ++ x ∷ []) t
+pub runs_more : {S A : Type 0} (R : S → Option A → S → Type 0) (s : S) (xs : List A) (j t : S) (x : A) → GaveEach R s xs j → R j (Some x) t → GaveEach R s (xs ++ x ∷ []) t
 runs_more R s [] j t x run step = (t, subst (λ u. R u (Some x) t) (sym run) step, refl)
 runs_more R s (y ∷ xs) j t x run step = (run.0, run.1, runs_more R run.0 xs j t x run.2 step)
 
@@ -28,7 +28,7 @@ module _ {S F A E Name : Type 0} (R : F → Result A E → F → Type 0) (ahead 
   abbrev pub Step : S → Option A → S → Type 0
   Step s r t = (name t ≡ name s) × Attempts R (ahead s) (now s) r (ahead t) (now t) (error t)
 
-  pub plain : (s : S) (xs : List A) (t : S) → ahead s ≡ None → Runs Step s xs t → (name t ≡ name s) × (ahead t ≡ None) × Gave R (now s) xs (now t)
+  pub plain : (s : S) (xs : List A) (t : S) → ahead s ≡ None → GaveEach Step s xs t → (name t ≡ name s) × (ahead t ≡ None) × Gave R (now s) xs (now t)
   plain s [] t e run = (ap name (sym run), subst (λ u. ahead u ≡ None) run e, ap now run)
   plain s (x ∷ xs) t e run =
       let j = run.0 in let at = subst (λ a. Attempts R a (now s) (Some x) (ahead j) (now j) (error j)) e run.1.1 in
@@ -40,7 +40,7 @@ module _ {S F A E Name : Type 0} (R : F → Result A E → F → Type 0) (ahead 
     pub are : ys ≡ x ∷ more
     pub gave : Gave R (now s) more (now t)
 
-  pub ran : (s : S) (x : A) (ys : List A) (t : S) → ahead s ≡ Some x → 0 < length ys → Runs Step s ys t → Ran s x ys t
+  pub ran : (s : S) (x : A) (ys : List A) (t : S) → ahead s ≡ Some x → 0 < length ys → GaveEach Step s ys t → Ran s x ys t
   unfolding value_or
   ran s x [] t e some run = absurd (not-suc-le-zero some)
   ran s x (y ∷ ys) t e some run =
@@ -54,7 +54,7 @@ module _ {S F A E Name : Type 0} (R : F → Result A E → F → Type 0) (ahead 
     pub is : error t ≡ Some of
     pub failed : Failed R (now s) (n - 1) of (now t)
 
-  broke_at : (s : S) (x : A) (n : ℕ) (xs : List A) (u t : S) → ahead s ≡ Some x → length xs < n → Runs Step s xs u → Step u None t → Broke s n t
+  broke_at : (s : S) (x : A) (n : ℕ) (xs : List A) (u t : S) → ahead s ≡ Some x → length xs < n → GaveEach Step s xs u → Step u None t → Broke s n t
   unfolding Full
   broke_at s x n [] u t e fewer run step =
       let at = subst (λ a. Attempts R a (now u) None (ahead t) (now t) (error t)) (ap ahead (sym run) ∙ e) step.1 in

@@ -1,4 +1,4 @@
-pub mod Runs
+pub mod Calls
 pub mod Sourced
 pub mod Collections
 pub mod CollectionLaws

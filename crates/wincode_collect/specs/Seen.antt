@@ -17,9 +17,11 @@ HashSetSeen K A = (K → Option A) × ℕ
 abbrev pub HashMapSeen : Type 0 → Type 0 → Type 0 → Type 0
 HashMapSeen K A B = (K → Option A) × (K → Option B) × ℕ
 
+-- what contracts see of the keys of a hashed set
 abbrev pub hash_set_sees : {K A : Type 0} → (K → K → Bool) → (K → A) → List K → HashSetSeen K A
 hash_set_sees eq f ks = ((λ q. option_map f (find (eq q) ks)), length ks)
 
+-- what contracts see of the entries of a hashed map
 abbrev pub hash_map_sees : {K X A B : Type 0} → (K → K → Bool) → (K → A) → (X → B) → List (K × X) → HashMapSeen K A B
 hash_map_sees eq f g es = ((λ q. option_map f (find (eq q) (keys_of es))), (λ q. option_map g (lookup (eq q) es)), length es)
 
@@ -27,9 +29,10 @@ hash_map_sees eq f g es = ((λ q. option_map f (find (eq q) (keys_of es))), (λ 
 abbrev pub bag_of : {A : Type 0} → List A → (A → Bool) → ℕ
 bag_of xs test = count_by test xs
 
+-- what contracts see of the items of a heap
 abbrev pub heap_sees : {D A : Type 0} → (D → A) → List D → (A → Bool) → ℕ
 heap_sees see xs = bag_of (map see xs)
 
--- what is seen of what the list makes, by `made` and `seen` of the items of a collection
+-- what is seen of what the list makes, by `made` and `model` of the items of a collection
 abbrev pub Made : {D E W : Type 0} → (List D → List E → Type 0) → (List E → W) → List D → W → Type 0
 Made {E = E} made seen ds w = (es : List E) × made ds es × (w ≡ seen es)

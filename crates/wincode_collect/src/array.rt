@@ -1,7 +1,7 @@
 //! Arrays of any length, made item by item from a source that may fail.
 ghost use Rattle.std.specs.Prelude.{◌≡◌, ℕ, ◌<◌, ◌-◌, ◌∷◌, List, length, MatchResult, Option, Some, Result, Ok, Err, IfOk, IfErr, OnOk, OnErr};
 ghost use Rattle.wincode_collect.specs.Sourced.{inner_of};
-ghost use Rattle.wincode_collect.specs.Runs.{Runs, Stops, Gave, Failed, Attempts};
+ghost use Rattle.wincode_collect.specs.Calls.{GaveEach, Stops, Gave, Failed, Attempts};
 
 mod in_place;
 
@@ -158,7 +158,7 @@ impl<F> Filling<F> {
     where
         F: Fill<T>,
         requires { T }
-        ensures { MatchResult result (λ ys. (length ys ≡ N) × Runs F.gives self.old.source ys self.new.source) (λ _. Stops F.gives self.old.source N self.new.source) }
+        ensures { MatchResult result (λ ys. (length ys ≡ N) × GaveEach F.gives self.old.source ys self.new.source) (λ _. Stops F.gives self.old.source N self.new.source) }
     {
         filled(&mut self.source)
     }

@@ -5,7 +5,7 @@ use wincode::io::Lifetime;
 use wincode::len::{SeqLen, ShortU16};
 use wincode::{SchemaGet, SchemaWrite};
 
-/// The text of a number by the rule: 128 added to n mod 128, and then n div 128 in its turn, up to three bytes.
+/// The encoding of a number by the rule: 128 added to n mod 128, and then n div 128 in its turn, up to three bytes.
 fn text_by_rule(alloc: Global, n: u16) -> Result<Vec<u8>, Fail> {
     let mut text = Vec::new(alloc);
     if n >= 128 {

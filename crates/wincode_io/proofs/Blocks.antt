@@ -28,7 +28,7 @@ module _ {X : Type 0} (xs block more : List X) (d : ℕ) (left : drop d xs ≡ b
       let most : (length (take d xs) + length block) * s ≤ length xs * s = mul-le-mul_right s (omega (arith, ap length all, length-append (take d xs ++ block) more, length-append (take d xs) block)) in
       let long : length (take d xs) * s + length block * s ≤ length xs * s = omega (arith, most) in
       record {
-        same = record { kept = two.same.kept ∙ one.same.kept; steady = two.same.steady ∙ one.same.steady };
+        same = record { kept = two.same.kept ∙ one.same.kept; never_fails = two.same.never_fails ∙ one.same.never_fails };
         content = two.content ∙ ap (λ c. put c (flat_map form block)) one.content
             ∙ laws.join old.content (flat_map form (take d xs)) (flat_map form block) (omega (arith, length-joined form s (take d xs) before, length-joined form s block here, long, fits))
             ∙ ap (put old.content) (sym (ap (flat_map form) done_more ∙ flat_map-append form (take d xs) block));

@@ -66,8 +66,8 @@ edited_behind s k p q f e =
     ∙ ap (λ x. (p ++ take (k * s) q) ++ (f ++ drop s x)) back
     ∙ append_assoc p (take (k * s) q) (f ++ drop s (drop (k * s) q))
 
-module _ {X : Type 0} {proper : X → Type 0} {s : ℕ} {form : X → List ℕ} {value : List ℕ → X} (law : IsByteForm proper s form value) where
-  values_edited : (n : ℕ) (b : List ℕ) (k : ℕ) (v : X) → k < n → length b ≡ n * s → proper v → values value s n (edited s b k (form v)) ≡ slice_set (values value s n b) k v
+module _ {X : Type 0} {is_valid : X → Type 0} {s : ℕ} {form : X → List ℕ} {value : List ℕ → X} (law : IsByteForm is_valid s form value) where
+  values_edited : (n : ℕ) (b : List ℕ) (k : ℕ) (v : X) → k < n → length b ≡ n * s → is_valid v → values value s n (edited s b k (form v)) ≡ slice_set (values value s n b) k v
   unfolding values
   values_edited zero b k v h e p = absurd (omega (arith, h))
   values_edited (suc n) b zero v h e p =
@@ -88,27 +88,27 @@ module _ {X : Type 0} {proper : X → Type 0} {s : ℕ} {form : X → List ℕ} 
       ∙ ap (λ t. value (take s b) ∷ values value s n t) (drop_at (take s b) more s front)
       ∙ ap (λ ys. value (take s b) ∷ ys) (values_edited n (drop s b) k v (omega (arith, h)) rest p)
 
-  pub length-all_edited : (n : ℕ) (b : List ℕ) (es : List (ℕ × X)) → All (λ e. e.0 < n) es → All (λ e. proper e.1) es → length b ≡ n * s → length (all_edited s b (in_places form es)) ≡ n * s
+  pub length-all_edited : (n : ℕ) (b : List ℕ) (es : List (ℕ × X)) → All (λ e. e.0 < n) es → All (λ e. is_valid e.1) es → length b ≡ n * s → length (all_edited s b (in_places form es)) ≡ n * s
   unfolding all_edited
-  length-all_edited n b [] within proper_all e = e
-  length-all_edited n b (x ∷ es) within proper_all e =
+  length-all_edited n b [] within valid_all e = e
+  length-all_edited n b (x ∷ es) within valid_all e =
       let here = All-head (λ e. e.0 < n) x es within in
-      let p = All-head (λ e. proper e.1) x es proper_all in
+      let p = All-head (λ e. is_valid e.1) x es valid_all in
       let fits = place_fits x.0 n s here in
       let same : length (edited s b x.0 (form x.1)) ≡ n * s = length-edited s x.0 b (form x.1) (omega (arith, fits, e)) (law.long x.1 p) ∙ e in
-      length-all_edited n (edited s b x.0 (form x.1)) es (All-tail (λ e. e.0 < n) x es within) (All-tail (λ e. proper e.1) x es proper_all) same
+      length-all_edited n (edited s b x.0 (form x.1)) es (All-tail (λ e. e.0 < n) x es within) (All-tail (λ e. is_valid e.1) x es valid_all) same
 
   -- the values are those that were there, with each new one put in its place
-  pub values_all_edited : (n : ℕ) (b : List ℕ) (es : List (ℕ × X)) → All (λ e. e.0 < n) es → All (λ e. proper e.1) es → length b ≡ n * s
+  pub values_all_edited : (n : ℕ) (b : List ℕ) (es : List (ℕ × X)) → All (λ e. e.0 < n) es → All (λ e. is_valid e.1) es → length b ≡ n * s
       → values value s n (all_edited s b (in_places form es)) ≡ all_set (values value s n b) es
   unfolding all_edited all_set
-  values_all_edited n b [] within proper_all e = refl
-  values_all_edited n b (x ∷ es) within proper_all e =
+  values_all_edited n b [] within valid_all e = refl
+  values_all_edited n b (x ∷ es) within valid_all e =
       let here = All-head (λ e. e.0 < n) x es within in
-      let p = All-head (λ e. proper e.1) x es proper_all in
+      let p = All-head (λ e. is_valid e.1) x es valid_all in
       let fits = place_fits x.0 n s here in
       let same : length (edited s b x.0 (form x.1)) ≡ n * s = length-edited s x.0 b (form x.1) (omega (arith, fits, e)) (law.long x.1 p) ∙ e in
-      values_all_edited n (edited s b x.0 (form x.1)) es (All-tail (λ e. e.0 < n) x es within) (All-tail (λ e. proper e.1) x es proper_all) same
+      values_all_edited n (edited s b x.0 (form x.1)) es (All-tail (λ e. e.0 < n) x es within) (All-tail (λ e. is_valid e.1) x es valid_all) same
       ∙ ap (λ xs. all_set xs es) (values_edited n b x.0 x.1 here e p)
 
 -- ---- what holds of all edits so far

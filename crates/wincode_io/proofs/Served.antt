@@ -2,24 +2,24 @@
 use Rattle.std.proofs.Common.{◌≡◌, ℕ, ◌-◌, ◌<◌, ◌≤◌, true, List, ◌++◌, length, take, IsTrue, arith, ◌∙◌, ap, length-append, length-take}
 use Rattle.wincode_io.specs.declared.error.ReadError.{ReadError}
 use Rattle.wincode_io.specs.declared.error.ReadError.TheVariants.{ReadSizeLimit, UnsupportedZeroCopy, Io, OutOfMemory}
-use Rattle.wincode_io.specs.Readers.{ReaderState, Stays, Loses, Windowed, IsShort, IsRefusal}
+use Rattle.wincode_io.specs.Readers.{ReaderState, Stays, Loses, Windowed, IsShort, ReadRefusedFor}
 
 -- a told reader in memory, with n bytes left
 pub record Has (n : ℕ) (s : ReaderState) : Type 0 where
-  pub steady : s.steady ≡ true
-  pub told : IsTrue s.told
+  pub never_fails : s.never_fails ≡ true
+  pub is_known : IsTrue s.is_known
   pub size : length s.rest ≡ n
 
 -- a window has the bytes that it was cut for
 pub windowed : {n : ℕ} {old new window : ReaderState} → Windowed n old new window → Has n window
-windowed w = record { steady = w.steady; told = w.told; size = w.takes.size }
+windowed w = record { never_fails = w.never_fails; is_known = w.is_known; size = w.takes.size }
 
 -- it has as many after a call that stays
 pub stayed : {n : ℕ} {old new : ReaderState} → Has n old → Stays old new → Has n new
 stayed has stays = record {
-  steady = stays.kept.steady ∙ has.steady;
-  told = stays.kept.told ∙ has.told;
-  size = ap length (stays.rest has.told) ∙ has.size;
+  never_fails = stays.kept.never_fails ∙ has.never_fails;
+  is_known = stays.kept.is_known ∙ has.is_known;
+  size = ap length (stays.rest has.is_known) ∙ has.size;
 }
 
 -- how many bytes are left after a front of m
@@ -30,15 +30,15 @@ split_length n m xs ys size enough e =
 -- it has m fewer after a call that takes m
 pub lost : {n m : ℕ} {old new : ReaderState} → Has n old → Loses m old new → Has (n - m) new
 lost {n} {m} {old} {new} has loses = record {
-  steady = loses.kept.steady ∙ has.steady;
-  told = loses.kept.told ∙ has.told;
-  size = let h = loses.rest has.told in split_length n m old.rest new.rest has.size h.0 h.1;
+  never_fails = loses.kept.never_fails ∙ has.never_fails;
+  is_known = loses.kept.is_known ∙ has.is_known;
+  size = let h = loses.rest has.is_known in split_length n m old.rest new.rest has.size h.0 h.1;
 }
 
 -- such a reader serves a call for m of its bytes
 pub served : (m : ℕ) {n : ℕ} (old new : ReaderState) (e : ReadError) → Has n old → m ≤ n → Stays old new
-    → IsRefusal (IsShort m old) ⊥ m new e → ⊥
-served m old new (ReadSizeLimit k) has enough stays refusal = let short : length old.rest < m = refusal.0 has.told in omega arith
+    → ReadRefusedFor (IsShort m old) ⊥ m new e → ⊥
+served m old new (ReadSizeLimit k) has enough stays refusal = let short : length old.rest < m = refusal.0 has.is_known in omega arith
 served m old new UnsupportedZeroCopy has enough stays refusal = refusal
-served m old new OutOfMemory has enough stays refusal = let kept = stays.kept.steady in cc
-served m old new (Io e) has enough stays refusal = let kept = stays.kept.steady in let device = refusal.0 in cc
+served m old new OutOfMemory has enough stays refusal = let kept = stays.kept.never_fails in cc
+served m old new (Io e) has enough stays refusal = let kept = stays.kept.never_fails in let device = refusal.0 in cc

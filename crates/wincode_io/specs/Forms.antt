@@ -3,11 +3,11 @@ use Rattle.std.specs.Prelude.{◌≡◌, ℕ, zero, suc, ◌*◌, List, [], ◌�
 use Rattle.wincode_io.specs.Bytes.{IsBytes}
 
 -- Form and value are inverse to each other between the proper values and all lists of `size` bytes.
-pub record IsByteForm {X : Type 0} (proper : X → Type 0) (size : ℕ) (form : X → List ℕ) (value : List ℕ → X) : Type 0 where
-  pub long : (v : X) → proper v → length (form v) ≡ size
-  pub bytes : (v : X) → proper v → IsBytes (form v)
-  pub value_form : (v : X) → proper v → value (form v) ≡ v
-  pub proper_value : (b : List ℕ) → IsBytes b → length b ≡ size → proper (value b)
+pub record IsByteForm {X : Type 0} (is_valid : X → Type 0) (size : ℕ) (form : X → List ℕ) (value : List ℕ → X) : Type 0 where
+  pub long : (v : X) → is_valid v → length (form v) ≡ size
+  pub bytes : (v : X) → is_valid v → IsBytes (form v)
+  pub value_form : (v : X) → is_valid v → value (form v) ≡ v
+  pub valid_value : (b : List ℕ) → IsBytes b → length b ≡ size → is_valid (value b)
   pub form_value : (b : List ℕ) → IsBytes b → length b ≡ size → form (value b) ≡ b
 
 -- form k of forms of s bytes

@@ -1,4 +1,4 @@
--- The laws of texts joined in order.
+-- The laws of encodings joined in order.
 use Rattle.std.proofs.Common.{◌≡◌, ◌∙◌, sym, ap, subst, ℕ, ◌+◌, ◌<◌, ◌≤◌, List, [], ◌∷◌, ◌++◌, length, map, take, drop, get_or, suc, refl, arith, append_assoc, append-nil, take-append-drop}
 use Rattle.std.proofs.lemmas.List.{take_more, map-append}
 use Rattle.std.proofs.Math.Seq.{drop-cons}
@@ -25,7 +25,7 @@ module _ {V : Type 0} (reads : List ℕ → V → Type 0) (one : IsUnambiguous r
   pub items_one : (n : ℕ) → IsUnambiguous (AreItems n reads)
   items_one n a b x y vs ws p q e = joined_one vs ws a b x y (p.0 ∙ sym q.0) p.1 q.1 e
 
--- one text more, behind the others
+-- one encoding more, behind the others
 pub joined_snoc : {V : Type 0} (reads : List ℕ → V → Type 0) (vs : List V) (v : V) (a b : List ℕ) → Joined (λ u t. reads t u) vs a → reads b v → Joined (λ u t. reads t u) (vs ++ (v ∷ [])) (a ++ b)
 joined_snoc reads [] v a b p r = (b, [], r, refl, ap (λ t. t ++ b) p ∙ sym (append-nil b))
 joined_snoc reads (w ∷ vs) v a b p r = (p.0, p.1 ++ b, p.2, joined_snoc reads vs v p.1 b p.3 r, ap (λ t. t ++ b) p.4 ∙ append_assoc p.0 p.1 b)

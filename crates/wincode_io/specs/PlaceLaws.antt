@@ -4,15 +4,15 @@ use Rattle.wincode_io.specs.Places.{Placed, placed, onward}
 use Rattle.wincode_io.specs.Readers.{ReaderState, Kept, Stays, Loses, IsOnward}
 
 pub kept_trans : {a b c : ReaderState} → Kept a b → Kept b c → Kept a c
-kept_trans k l = record { lends = l.lends ∙ k.lends; steady = l.steady ∙ k.steady; told = l.told ∙ k.told }
+kept_trans k l = record { lends = l.lends ∙ k.lends; never_fails = l.never_fails ∙ k.never_fails; is_known = l.is_known ∙ k.is_known }
 
-pub told_kept : {a b : ReaderState} → Kept a b → IsTrue a.told → IsTrue b.told
-told_kept k t = rw k.told t
+pub known_kept : {a b : ReaderState} → Kept a b → IsTrue a.is_known → IsTrue b.is_known
+known_kept k t = rw k.is_known t
 
 pub stays_trans : {a b c : ReaderState} → Stays a b → Stays b c → Stays a c
 stays_trans s t = record {
   kept = kept_trans s.kept t.kept;
-  rest = λ told. t.rest (told_kept s.kept told) ∙ s.rest told;
+  rest = λ told. t.rest (known_kept s.kept told) ∙ s.rest told;
   ready = let a = s.ready in let b = t.ready in omega arith;
   place = t.place ∙ s.place;
 }
@@ -26,13 +26,13 @@ twice a b None = refl
 twice a b (Some p) = ap (λ n. Some (placed p.inner n)) (omega arith)
 
 -- a reader that stays stands where it stood
-pub stays_onward : (old new : ReaderState) → Stays old new → IsTrue old.told → IsOnward old new
+pub stays_onward : (old new : ReaderState) → Stays old new → IsTrue old.is_known → IsOnward old new
 stays_onward old new s t =
     let same : length new.rest ≡ length old.rest = ap length (s.rest t) in
     s.place ∙ sym (nowhere old.place) ∙ ap (λ n. onward n old.place) (omega arith)
 
 -- a reader that has lost n bytes stands n bytes further on
-pub loses_onward : (n : ℕ) (old new : ReaderState) → Loses n old new → IsTrue old.told → IsOnward old new
+pub loses_onward : (n : ℕ) (old new : ReaderState) → Loses n old new → IsTrue old.is_known → IsOnward old new
 loses_onward n old new l t =
     let r = l.rest t in
     let split = ap length r.1 ∙ length-append (take n old.rest) new.rest in

@@ -2,7 +2,7 @@
 use Rattle.std.proofs.Common.{◌≡◌, ◌∙◌, sym, ap, ℕ, ◌+◌, ◌-◌, ◌*◌, ◌/◌, ◌%◌, ◌<◌, ◌≤◌, ◌⊎◌, inl, inr, cond, List, [], ◌∷◌, ◌++◌, length, take, drop, zero, suc, refl, arith, length-append, append_assoc, take-append-drop}
 use Rattle.std.proofs.lemmas.Bool.{lt-ltb, le-ltb, cases_lt}
 use Rattle.std.proofs.Math.Seq.{take-append-add}
-use Rattle.wincode_io.specs.ShortNumbers.{groups, short_text, BeginsGrouped, BeginsShort}
+use Rattle.wincode_io.specs.ShortNumbers.{groups, short_encoding, BeginsGrouped, BeginsShort}
 
 -- ---- what a number begins with
 
@@ -21,13 +21,13 @@ groups_only n = refl
 
 -- ---- a short number by its bytes
 
-pub short_in_one : (n : ℕ) → n < 128 → short_text n ≡ n ∷ []
+pub short_in_one : (n : ℕ) → n < 128 → short_encoding n ≡ n ∷ []
 short_in_one n h = groups_last 2 n h
 
-pub short_in_two : (n : ℕ) → 128 ≤ n → n / 128 < 128 → short_text n ≡ (128 + n % 128) ∷ n / 128 ∷ []
+pub short_in_two : (n : ℕ) → 128 ≤ n → n / 128 < 128 → short_encoding n ≡ (128 + n % 128) ∷ n / 128 ∷ []
 short_in_two n l h = groups_next 1 n l ∙ ap (λ t. (128 + n % 128) ∷ t) (groups_last 1 (n / 128) h)
 
-pub short_in_three : (n : ℕ) → 128 ≤ n / 128 → short_text n ≡ (128 + n % 128) ∷ (128 + n / 128 % 128) ∷ n / 128 / 128 ∷ []
+pub short_in_three : (n : ℕ) → 128 ≤ n / 128 → short_encoding n ≡ (128 + n % 128) ∷ (128 + n / 128 % 128) ∷ n / 128 / 128 ∷ []
 short_in_three n l = groups_next 1 n (omega (arith, l)) ∙ ap (λ t. (128 + n % 128) ∷ t) (groups_next 0 (n / 128) l ∙ ap (λ t. (128 + n / 128 % 128) ∷ t) (groups_only (n / 128 / 128)))
 
 -- ---- how long a number is
@@ -114,18 +114,18 @@ grouped_one (suc k) m n (a ∷ rest) p q = by (grouped_one k (m / 128) (n / 128)
     by one (inr h) (inr i) = omega (arith, h.1, i.1, one h.2 i.2)
 
 -- of two short numbers neither begins the other
-pub short_one : (m n : ℕ) (x y : List ℕ) → short_text m ++ x ≡ short_text n ++ y → m ≡ n
-short_one m n x y e = grouped_one 2 m n (short_text m ++ x) (x, refl) (y, e)
+pub short_one : (m n : ℕ) (x y : List ℕ) → short_encoding m ++ x ≡ short_encoding n ++ y → m ≡ n
+short_one m n x y e = grouped_one 2 m n (short_encoding m ++ x) (x, refl) (y, e)
 
 -- what three bytes begin with, and what stands behind them
 pub short_whole : (bytes : List ℕ) (n : ℕ) → BeginsShort (take 3 bytes) n → BeginsShort bytes n
-short_whole bytes n b = (b.0, (b.1.0 ++ drop 3 bytes, sym (take-append-drop 3 bytes) ∙ ap (λ t. t ++ drop 3 bytes) b.1.1 ∙ append_assoc (short_text n) b.1.0 (drop 3 bytes)))
+short_whole bytes n b = (b.0, (b.1.0 ++ drop 3 bytes, sym (take-append-drop 3 bytes) ∙ ap (λ t. t ++ drop 3 bytes) b.1.1 ∙ append_assoc (short_encoding n) b.1.0 (drop 3 bytes)))
 
 -- three bytes show what the bytes begin with
 pub short_shown : (bytes : List ℕ) (n : ℕ) → BeginsShort bytes n → BeginsShort (take 3 bytes) n
 short_shown bytes n b =
     let size = groups_most 2 n in
-    let spare : length (short_text n) + (3 - length (short_text n)) ≡ 3 = omega (arith, size) in
-    let front : take (length (short_text n) + (3 - length (short_text n))) bytes ≡ short_text n ++ take (3 - length (short_text n)) b.1.0 =
-    ap (take (length (short_text n) + (3 - length (short_text n)))) b.1.1 ∙ take-append-add (short_text n) b.1.0 (3 - length (short_text n)) in
-    (b.0, (take (3 - length (short_text n)) b.1.0, ap (λ k. take k bytes) (sym spare) ∙ front))
+    let spare : length (short_encoding n) + (3 - length (short_encoding n)) ≡ 3 = omega (arith, size) in
+    let front : take (length (short_encoding n) + (3 - length (short_encoding n))) bytes ≡ short_encoding n ++ take (3 - length (short_encoding n)) b.1.0 =
+    ap (take (length (short_encoding n) + (3 - length (short_encoding n)))) b.1.1 ∙ take-append-add (short_encoding n) b.1.0 (3 - length (short_encoding n)) in
+    (b.0, (take (3 - length (short_encoding n)) b.1.0, ap (λ k. take k bytes) (sym spare) ∙ front))

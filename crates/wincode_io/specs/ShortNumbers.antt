@@ -7,8 +7,8 @@ groups zero n = n ∷ []
 groups (suc k) n = if nat_lt n 128 then n ∷ [] else ((128 + n % 128) ∷ groups k (n / 128))
 
 -- A short number: n below 2 to the 16 in one byte, in two from 128 on, in three from 16384 on.
-abbrev pub short_text : ℕ → List ℕ
-short_text n = groups 2 n
+abbrev pub short_encoding : ℕ → List ℕ
+short_encoding n = groups 2 n
 
 -- the groups of n stand in front
 abbrev pub BeginsGrouped : ℕ → List ℕ → ℕ → Type 0

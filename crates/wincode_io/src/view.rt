@@ -65,9 +65,10 @@ impl<'de, T: ZeroCopy> View<&'de mut [u8], T> {
     pub fn set(&mut self, value: T)
         ensures same_reference { self.new.bytes.ghost_name ≡ self.old.bytes.ghost_name }
         ensures form { self.new.bytes.now ≡ T.form value }
-        ensures proper { T.proper value }
+        ensures is_valid { T.is_valid value }
     {
         let bytes = &mut *self.bytes;
+        // No effect at run time: the proof learns from it that the length fits `usize`.
         let _len = bytes.len();
         value.put_form(bytes);
     }
@@ -170,9 +171,10 @@ impl<'de, T: ZeroCopy> SliceView<&'de mut [u8], T> {
         ensures same_reference { self.new.forms.ghost_name ≡ self.old.forms.ghost_name }
         ensures n { self.new.n ≡ self.old.n }
         ensures forms { self.new.forms.now ≡ edited T.size self.old.forms.now i (T.form value) }
-        ensures proper { T.proper value }
+        ensures is_valid { T.is_valid value }
     {
         let forms = &mut *self.forms;
+        // No effect at run time: the proof learns from it that the length fits `usize`.
         let _len = forms.len();
         let size = size_of_form::<T>();
         let at = i * size;

@@ -18,7 +18,7 @@ use super::view::{Ref, RefMut, View};
 /// An implementation writes `form_size`, `of_form` and `put_form`.
 pub trait ZeroCopy: Copy {
     // What each value of the type is.
-    ghost proper: { Self → Type 0 };
+    ghost is_valid: { Self → Type 0 };
 
     // How many bytes a form has.
     ghost size: { ℕ };
@@ -28,6 +28,8 @@ pub trait ZeroCopy: Copy {
 
     // The value of so many bytes.
     ghost value: { List ℕ → Self };
+
+    ghost byte_form: { IsByteForm is_valid size form value };
 
     /// How many bytes a form has; `None` where `usize` can't count them, as an array's alone may be.
     fn form_size() -> Option<usize>
@@ -42,7 +44,7 @@ pub trait ZeroCopy: Copy {
     fn put_form(&self, dst: &mut [u8])
         requires { length dst.old ≡ size }
         ensures form { dst.new ≡ form self.now }
-        ensures proper { proper self.now };
+        ensures is_valid { is_valid self.now };
 
     /// A view of the form that the bytes begin with; those behind it are left out. Where there are fewer
     /// it is `ReadSizeLimit` of the form's size in bytes, or of `usize::MAX` where the size is more.
@@ -73,8 +75,6 @@ pub trait ZeroCopy: Copy {
         }
         Ok(View::<&'de mut [u8], Self>::new(&mut bytes[..size]))
     }
-
-    ghost byte_form: { IsByteForm proper size form value };
 }
 
 /// How many bytes a form has, where `usize` counts them.
@@ -106,6 +106,7 @@ pub fn form_at<T: ZeroCopy>(bytes: &[u8], n: usize, i: usize) -> T
     requires within { i < n }
     ensures { result ≡ T.value (part T.size bytes.now i) }
 {
+    // No effect at run time: the proof learns from it that the length fits `usize`.
     let _len = bytes.len();
     let size = size_of_form::<T>();
     let at = i * size;
@@ -127,7 +128,7 @@ fn size_within<T: ZeroCopy>(n: usize, len: usize) -> usize
 pub(crate) fn put_forms<T: ZeroCopy>(values: &[T], dst: &mut [u8])
     requires { length dst.old ≡ length values.now * T.size }
     ensures forms { dst.new ≡ flat_map T.form values.now }
-    ensures proper { All T.proper values.now }
+    ensures is_valid { All T.is_valid values.now }
 {
     if values.is_empty() {
         return;
@@ -160,8 +161,9 @@ pub(crate) fn put_form_at<T: ZeroCopy>(bytes: &mut [u8], at: usize, src: &T)
     requires { at + T.size ≤ length bytes.old }
     ensures bytes { bytes.new ≡ take at bytes.old ++ (T.form src.now ++ drop (at + T.size) bytes.old) }
     ensures long { length (T.form src.now) ≡ T.size }
-    ensures proper { T.proper src.now }
+    ensures is_valid { T.is_valid src.now }
 {
+    // No effect at run time: the proof learns from it that the length fits `usize`.
     let _len = bytes.len();
     let end = at + size_of_form::<T>();
     src.put_form(&mut bytes[at..end]);
@@ -174,8 +176,9 @@ pub(crate) fn put_form_in_slice<T: ZeroCopy>(bytes: &mut [u8], position: usize, 
     requires { T.size ≤ length bytes.old - position }
     ensures place { placed bytes.new result ≡ cursor_put (placed bytes.old position) (T.form src.now) }
     ensures long { length (T.form src.now) ≡ T.size }
-    ensures proper { T.proper src.now }
+    ensures is_valid { T.is_valid src.now }
 {
+    // No effect at run time: the proof learns from it that the length fits `usize`.
     let _len = bytes.len();
     let size = size_of_form::<T>();
     if size == 0 {

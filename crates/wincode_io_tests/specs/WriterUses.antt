@@ -2,13 +2,13 @@
 use Rattle.std.specs.Prelude.{◌≡◌, ℕ, ◌<◌, ◌⊎◌, List, length}
 use Rattle.wincode_io.specs.declared.error.WriteError.{WriteError}
 use Rattle.wincode_io.specs.declared.error.WriteError.TheVariants.{WriteSizeLimit}
-use Rattle.wincode_io.specs.Writers.{WriterState, Added, IsWriteRefused, IsWriteRefusal}
+use Rattle.wincode_io.specs.Writers.{WriterState, Added, BytesWriteRefused, WriteRefusedFor}
 
 -- Two parts were refused: the first was, or it was added and then the second was refused.
-abbrev pub IsBothRefused : {S K : Type 0} {put : S → List ℕ → S} {room : S → ℕ} → List ℕ → List ℕ → WriterState put room K → WriterState put room K → WriteError → Type 0
-IsBothRefused {room = room} first second old new e =
-    IsWriteRefused (length first) old new e
-    ⊎ (Added first old new × IsWriteRefusal (room new.content < length second) (length second) new e)
+abbrev pub BothWriteRefused : {S K : Type 0} {put : S → List ℕ → S} {room : S → ℕ} → List ℕ → List ℕ → WriterState put room K → WriterState put room K → WriteError → Type 0
+BothWriteRefused {room = room} first second old new e =
+    BytesWriteRefused (length first) old new e
+    ⊎ (Added first old new × WriteRefusedFor (room new.content < length second) (length second) new e)
 
 -- n bytes were refused where room bytes are left
 abbrev pub IsOverrun : ℕ → ℕ → WriteError → Type 0

@@ -70,7 +70,7 @@ impl Writer for Counted {
     ghost state = { λ c. record {
       content = c.bytes.items;
       kept = tt;
-      steady = false;
+      never_fails = false;
       failures = c.failures;
       ready = min (vec_capacity c.bytes - length c.bytes.items) (byte_limit - length c.bytes.items);
     } };

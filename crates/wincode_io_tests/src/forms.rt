@@ -13,7 +13,7 @@ use wincode_io::{ReadResult, RefMut, SliceRefMut, ZeroCopy, size_of_form};
 pub struct Address(pub [u8; 32]);
 
 impl ZeroCopy for Address {
-    ghost proper = { λ v. ⟦<[u8; 32] as ZeroCopy>⟧.proper v.0 };
+    ghost is_valid = { λ v. ⟦<[u8; 32] as ZeroCopy>⟧.is_valid v.0 };
 
     ghost size = { ⟦<[u8; 32] as ZeroCopy>⟧.size };
 

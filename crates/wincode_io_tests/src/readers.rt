@@ -1,7 +1,7 @@
 //! Readers and their windows.
 ghost use Rattle.std.specs.Prelude.{◌≡◌, if◌then◌else◌, ◌+◌, ◌<◌, ◌≤◌, ◌++◌, false, length, take, IfOk, IfErr, IsTrue};
 ghost use Rattle.wincode_io.specs.Cursors.{inner_of, position_of, reading};
-ghost use Rattle.wincode_io.specs.Readers.{Loses, IsRefused, IsShort};
+ghost use Rattle.wincode_io.specs.Readers.{Loses, BytesReadRefused, IsShort};
 
 use wincode_io::{Cursor, Lending, ReadResult, ReadWindow, Reader, copy_into_array};
 
@@ -11,8 +11,8 @@ use wincode_io::{Cursor, Lending, ReadResult, ReadWindow, Reader, copy_into_arra
 /// then the reader stays where it is.
 pub fn pairs<L: Lending, R: Reader<L>>(reader: &mut R) -> ReadResult<([u8; 2], [u8; 2])>
     ensures loses { IfOk result (λ v. Loses 6 (R.state reader.old) (R.state reader.new)) }
-    ensures value { IfOk result (λ v. IsTrue (R.state reader.old).told → v.0 ++ v.1 ≡ take 4 (R.state reader.old).rest) }
-    ensures err { IfErr result (IsRefused (IsShort 6 (R.state reader.old)) ⊥ 6 (R.state reader.old) (R.state reader.new)) }
+    ensures value { IfOk result (λ v. IsTrue (R.state reader.old).is_known → v.0 ++ v.1 ≡ take 4 (R.state reader.old).rest) }
+    ensures err { IfErr result (BytesReadRefused (IsShort 6 (R.state reader.old)) ⊥ 6 (R.state reader.old) (R.state reader.new)) }
 {
     let mut outer = reader.as_trusted_for(6)?;
     let mut first = [0; 2];

@@ -1,16 +1,16 @@
 //! Writing in parts and in windows, through any writer.
 ghost use Rattle.std.specs.Prelude.{◌≡◌, ℕ, ◌+◌, ◌-◌, ◌^◌, ◌<◌, ◌≤◌, ◌⊎◌, ◌/◌, List, length, take, drop, ◌++◌, OnOk, IfErr};
-ghost use Rattle.wincode_io.specs.Writers.{Took, Added, IsUnmoved, IsWriteRefused, byte_limit};
-ghost use Rattle.wincode_io.specs.CursorWriters.{cursor_put, IsGrowthRefused};
+ghost use Rattle.wincode_io.specs.Writers.{Took, Added, IsUnmoved, BytesWriteRefused, byte_limit};
+ghost use Rattle.wincode_io.specs.CursorWriters.{cursor_put, GrowthRefused};
 ghost use Rattle.wincode_io.specs.Places.{placed};
-ghost use Rattle.wincode_io_tests.specs.WriterUses.{IsBothRefused, IsOverrun};
+ghost use Rattle.wincode_io_tests.specs.WriterUses.{BothWriteRefused, IsOverrun};
 
 use wincode_io::{Cursor, SliceWriter, TrustedSliceWriter, WriteResult, WriteWindow, Writer};
 
 /// Writes two parts, each by itself. Where the second is refused, the first stays written.
 pub fn write_both<W: Writer>(writer: &mut W, first: &[u8], second: &[u8]) -> WriteResult<()>
     ensures ok { OnOk result (Added (first.now ++ second.now) (W.state writer.old) (W.state writer.new)) }
-    ensures err { IfErr result (IsBothRefused first.now second.now (W.state writer.old) (W.state writer.new)) }
+    ensures err { IfErr result (BothWriteRefused first.now second.now (W.state writer.old) (W.state writer.new)) }
 {
     writer.write(first)?;
     writer.write(second)
@@ -19,7 +19,7 @@ pub fn write_both<W: Writer>(writer: &mut W, first: &[u8], second: &[u8]) -> Wri
 /// Writes the bytes through a window of `n`. What the window doesn't take isn't skipped.
 pub fn write_in_window<W: Writer>(writer: &mut W, n: usize, src: &[u8]) -> WriteResult<()>
     ensures ok { OnOk result ((length src.now ≤ n) × (n ≤ W.room (W.state writer.old).content) × Took src.now (W.state writer.old) (W.state writer.new)) }
-    ensures err { IfErr result (λ e. IsWriteRefused n (W.state writer.old) (W.state writer.new) e
+    ensures err { IfErr result (λ e. BytesWriteRefused n (W.state writer.old) (W.state writer.new) e
         ⊎ (IsUnmoved (W.state writer.old) (W.state writer.new) × IsOverrun (length src.now) n e)) }
 {
     writer.make_room(n)?;
@@ -41,7 +41,7 @@ pub fn write_within<W: Writer>(
     requires { length outer.now + length inner.now + length after.now + spare < 2 ^ 64 }
     ensures room { let n = length outer.now + length inner.now + length after.now + spare in OnOk result (n ≤ W.room (W.state writer.old).content) }
     ensures ok { OnOk result (Took ((outer.now ++ inner.now) ++ after.now) (W.state writer.old) (W.state writer.new)) }
-    ensures err { let n = length outer.now + length inner.now + length after.now + spare in IfErr result (IsWriteRefused n (W.state writer.old) (W.state writer.new)) }
+    ensures err { let n = length outer.now + length inner.now + length after.now + spare in IfErr result (BytesWriteRefused n (W.state writer.old) (W.state writer.new)) }
 {
     let n = outer.len() + inner.len() + after.len() + spare;
     writer.make_room(n)?;
@@ -56,7 +56,7 @@ pub fn write_within<W: Writer>(
 /// window in it. Where the window is refused, the first half stays written.
 pub fn write_in_parts<W: Writer>(writer: &mut W, bytes: &[u8]) -> WriteResult<()>
     ensures ok { OnOk result (Added bytes.now (W.state writer.old) (W.state writer.new)) }
-    ensures err { let half = length bytes.now / 2 in IfErr result (IsBothRefused (take half bytes.now) (drop half bytes.now) (W.state writer.old) (W.state writer.new)) }
+    ensures err { let half = length bytes.now / 2 in IfErr result (BothWriteRefused (take half bytes.now) (drop half bytes.now) (W.state writer.old) (W.state writer.new)) }
 {
     let half = bytes.len() / 2;
     let first = &bytes[..half];
@@ -89,7 +89,7 @@ pub fn overwrite_at(bytes: &mut [u8], position: usize, src: &[u8]) -> WriteResul
 /// Writes over the vector at a position, through a window, and grows it.
 pub fn grow_at(bytes: &mut Vec<u8>, position: usize, src: &[u8]) -> WriteResult<()>
     ensures ok { OnOk result ((length src.now ≤ byte_limit - position) × (bytes.new.items ≡ (cursor_put (placed bytes.old.items position) src.now).inner)) }
-    ensures err { IfErr result (λ e. (bytes.new.items ≡ bytes.old.items) × IsGrowthRefused position (length src.now) e) }
+    ensures err { IfErr result (λ e. (bytes.new.items ≡ bytes.old.items) × GrowthRefused position (length src.now) e) }
 {
     let mut cursor = Cursor::new_at(bytes, position);
     write_within(&mut cursor, &[], src, &[], 0)

@@ -1,9 +1,8 @@
 //! How values of a type are read.
-ghost use Rattle.std.specs.Prelude.{◌≡◌, false, IfOk, IfErr, OnOk, OnErr};
-ghost use Rattle.wincode_io.specs.Joins.{AreItems};
+ghost use Rattle.std.specs.Prelude.{◌≡◌};
 ghost use Rattle.wincode_base.specs.Grammar.{ReadGrammar, ReadLaws};
-ghost use Rattle.wincode_base.specs.Lists.{AreRefused};
-ghost use Rattle.wincode_base.specs.Outcomes.{Gives, Puts, Adds, Refuses, Refusal};
+ghost use Rattle.wincode_base.specs.Lists.{AddOutcome};
+ghost use Rattle.wincode_base.specs.Outcomes.{ReadOutcome, GetOutcome};
 
 mod arrays;
 mod as_forms;
@@ -32,17 +31,14 @@ pub trait SchemaRead<L: Lending> {
     // What contracts see of a value.
     ghost Value: { Type 0 };
 
-    ghost seen: { Self.Dst → Value };
+    ghost model: { Self.Dst → Value };
 
     // Which are its values.
-    ghost proper: { Value → Type 0 };
+    ghost is_valid: { Value → Type 0 };
 
     ghost reading: { ReadGrammar Value };
 
-    // What it says of each refusal beyond that: the error, and where the reader then stands.
-    ghost refusal: { Refusal };
-
-    /// The size that every text has, or none.
+    /// The size that every encoding has, or none.
     fn type_meta() -> TypeMeta
         ensures { result ≡ reading.meta };
 
@@ -58,10 +54,7 @@ pub trait SchemaRead<L: Lending> {
         reader: &mut R,
         dst: &mut Option<Self::Dst>,
     ) -> ReadResult<()>
-        ensures ok { OnOk result (Puts reading.reads seen (R.state reader.old) (R.state reader.new) dst.new) }
-        ensures err { IfErr result (Refuses reading.reads reading.asks reading.sparing (R.state reader.old) (R.state reader.new)) }
-        ensures refused { IfErr result (refusal (R.state reader.old) (R.state reader.new)) }
-        ensures same { OnErr result (dst.new ≡ dst.old) };
+        ensures { ReadOutcome reading model (R.state reader.old) (R.state reader.new) dst.old dst.new result };
 
     /// Reads `n` values, one after another, and adds them to the list. Refused, the list holds what it
     /// held, and the reader has an end of what it had.
@@ -71,10 +64,7 @@ pub trait SchemaRead<L: Lending> {
         n: usize,
         into: &mut Vec<Self::Dst>,
     ) -> ReadResult<()>
-        ensures ok { OnOk result (Adds n reading.reads seen (R.state reader.old) (R.state reader.new) into.old.items into.new.items) }
-        ensures err { IfErr result (Refuses (AreItems n reading.reads) reading.asks false (R.state reader.old) (R.state reader.new)) }
-        ensures refused { IfErr result (AreRefused n reading refusal (R.state reader.old) (R.state reader.new)) }
-        ensures same { OnErr result (into.new.items ≡ into.old.items) }
+        ensures { AddOutcome n reading model (R.state reader.old) (R.state reader.new) into.old.items into.new.items result }
     {
         let before = into.len();
         if into.reserve(n).is_err() {
@@ -99,7 +89,7 @@ pub trait SchemaRead<L: Lending> {
         Ok(())
     }
 
-    ghost read_laws: { ReadLaws proper reading };
+    ghost read_laws: { ReadLaws is_valid reading };
 }
 
 /// `get`, for every schema. It is no method of `SchemaRead`, which an implementation has to meet at its
@@ -108,9 +98,7 @@ pub trait SchemaRead<L: Lending> {
 pub trait SchemaGet<L: Lending>: SchemaRead<L> {
     /// As `read`, and gives the value.
     fn get<R: Reader<L>>(alloc: Global, reader: &mut R) -> ReadResult<Self::Dst>
-        ensures ok { IfOk result (λ v. Gives Self.SchemaRead.reading.reads (R.state reader.old) (R.state reader.new) (Self.SchemaRead.seen v)) }
-        ensures err { IfErr result (Refuses Self.SchemaRead.reading.reads Self.SchemaRead.reading.asks Self.SchemaRead.reading.sparing (R.state reader.old) (R.state reader.new)) }
-        ensures refused { IfErr result (Self.SchemaRead.refusal (R.state reader.old) (R.state reader.new)) };
+        ensures { GetOutcome Self.SchemaRead.reading Self.SchemaRead.model (R.state reader.old) (R.state reader.new) result };
 }
 
 impl<L: Lending, T: SchemaRead<L>> SchemaGet<L> for T {

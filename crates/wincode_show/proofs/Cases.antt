@@ -1,19 +1,20 @@
 -- Reading and writing one of three cases, by its tag.
-use Rattle.std.proofs.Common.{◌≡◌, ◌∙◌, sym, subst, ℕ, ◌<◌, ◌≤◌, ◌^◌, ◌&&◌, true, List, max, refl, arith, Ok, Err}
+use Rattle.std.proofs.Common.{◌≡◌, ◌∙◌, sym, ap, subst, ℕ, ◌+◌, ◌<◌, ◌≤◌, ◌^◌, ◌&&◌, true, List, [], max, refl, arith, append-nil, inl, Ok, Err}
 use Rattle.wincode_io.specs.Readers.{ReaderState}
+use Rattle.wincode_io.specs.Numbers.{le}
 use Rattle.wincode_io.specs.Writers.{WriterState, WriterLaws}
 use Rattle.wincode_base.specs.Grammar.{ReadGrammar, WriteGrammar, WriteLaws}
 use Rattle.wincode_base.specs.Leaves.{number_read, number_write}
-use Rattle.wincode_base.specs.Outcomes.{Gives, Refuses, Wrote, Unwritten}
+use Rattle.wincode_base.specs.Outcomes.{Gives, ReadRefused, Wrote, WriteRefused, Stopped, unsaid}
 use Rattle.wincode_base.specs.PairLaws.{le_max_left, le_max_right, both_left, both_right}
 use Rattle.wincode_base.specs.Sequences.{gives_map, refuses_map}
 use Rattle.wincode_base.specs.Tags.{counted_read, counted_write, sides_read, sides_write}
 use Rattle.wincode_base.specs.TagLaws.{IsCase, tagged_gives, case_refused, bad_tag}
-use Rattle.wincode_base.specs.WriteSequences.{wrote_map, unwritten_map}
+use Rattle.wincode_base.specs.WriteSequences.{wrote_map, unwritten_map, stopped_map}
 use Rattle.wincode_base.specs.declared.error.ReadError.{ReadError}
 use Rattle.wincode_base.specs.declared.error.ReadError.TheVariants as reading
 use Rattle.wincode_base.specs.declared.error.WriteError.{WriteError}
-use Rattle.wincode_base.proofs.Tags.{tagged_wrote, tag_unwritten, part_unwritten}
+use Rattle.wincode_base.proofs.Tags.{tagged_wrote, tag_unwritten, part_unwritten, tag_halted, part_halted}
 use Rattle.wincode_show.specs.Cases.{Three, three_tag, AreTags, IsNoTag, three_read, three_write}
 
 module _ {A B C : Type 0} {k a b c : ℕ} (n : ℕ) (t : AreTags k a b c) (g : ReadGrammar A) (h : ReadGrammar B) (i : ReadGrammar C) where
@@ -21,7 +22,7 @@ module _ {A B C : Type 0} {k a b c : ℕ} (n : ℕ) (t : AreTags k a b c) (g : R
   Part = (sides_read g (sides_read h i)).reads
 
   abbrev Whole : List ℕ → Three A B C → Type 0
-  Whole = (three_read k a b c n g h i).reads
+  Whole = (three_read k a b c n unsaid g h i).reads
 
   small : (v : Three A B C) → three_tag a b c v < 256 ^ k
   small (Ok v) = t.first
@@ -48,18 +49,18 @@ module _ {A B C : Type 0} {k a b c : ℕ} (n : ℕ) (t : AreTags k a b c) (g : R
   of_second u e x (Err (Err v)) r = absurd (t.second_third (sym e ∙ sym r.0))
 
   abbrev Refused : ReaderState → ReaderState → ReadError → Type 0
-  Refused old new e = Refuses Whole (max g.asks (max h.asks i.asks)) (g.sparing && (h.sparing && i.sparing)) old new e
+  Refused old new e = ReadRefused Whole (max g.borrow (max h.borrow i.borrow)) (g.takes_no_memory && (h.takes_no_memory && i.takes_no_memory)) old new e
 
-  pub first_refused : (old mid new : ReaderState) (u : ℕ) (e : ReadError) → u ≡ a → Gives (number_read k true).reads old mid u → Refuses g.reads g.asks g.sparing mid new e → Refused old new e
+  pub first_refused : (old mid new : ReaderState) (u : ℕ) (e : ReadError) → u ≡ a → Gives (number_read k true).reads old mid u → ReadRefused g.reads g.borrow g.takes_no_memory mid new e → Refused old new e
   first_refused old mid new u e is r s =
-      case_refused k (three_tag a b c) small (counted_read n (sides_read g (sides_read h i))) g.asks g.sparing old mid new u e (le_max_left g.asks (max h.asks i.asks)) (both_left g.sparing (h.sparing && i.sparing)) r
-      (refuses_map g.reads (IsCase (three_tag a b c) Part u) g.asks g.sparing mid new e (of_first u is) s)
+      case_refused k (three_tag a b c) small (counted_read n (sides_read g (sides_read h i))) g.borrow g.takes_no_memory old mid new u e (le_max_left g.borrow (max h.borrow i.borrow)) (both_left g.takes_no_memory (h.takes_no_memory && i.takes_no_memory)) r
+      (refuses_map g.reads (IsCase (three_tag a b c) Part u) g.borrow g.takes_no_memory mid new e (of_first u is) s)
 
-  pub second_refused : (old mid new : ReaderState) (u : ℕ) (e : ReadError) → u ≡ b → Gives (number_read k true).reads old mid u → Refuses h.reads h.asks h.sparing mid new e → Refused old new e
+  pub second_refused : (old mid new : ReaderState) (u : ℕ) (e : ReadError) → u ≡ b → Gives (number_read k true).reads old mid u → ReadRefused h.reads h.borrow h.takes_no_memory mid new e → Refused old new e
   second_refused old mid new u e is r s =
-      let asks : h.asks ≤ max g.asks (max h.asks i.asks) = omega (arith, le_max_left h.asks i.asks, le_max_right g.asks (max h.asks i.asks)) in
-      case_refused k (three_tag a b c) small (counted_read n (sides_read g (sides_read h i))) h.asks h.sparing old mid new u e asks (λ x. both_right g.sparing (h.sparing && i.sparing) (both_left h.sparing i.sparing x)) r
-      (refuses_map h.reads (IsCase (three_tag a b c) Part u) h.asks h.sparing mid new e (of_second u is) s)
+      let borrow : h.borrow ≤ max g.borrow (max h.borrow i.borrow) = omega (arith, le_max_left h.borrow i.borrow, le_max_right g.borrow (max h.borrow i.borrow)) in
+      case_refused k (three_tag a b c) small (counted_read n (sides_read g (sides_read h i))) h.borrow h.takes_no_memory old mid new u e borrow (λ x. both_right g.takes_no_memory (h.takes_no_memory && i.takes_no_memory) (both_left h.takes_no_memory i.takes_no_memory x)) r
+      (refuses_map h.reads (IsCase (three_tag a b c) Part u) h.borrow h.takes_no_memory mid new e (of_second u is) s)
 
   nothing : (u : ℕ) → IsNoTag a b c u → (v : Three A B C) → three_tag a b c v ≡ u → ⊥
   nothing u z (Ok v) e = z.first (sym e)
@@ -69,10 +70,10 @@ module _ {A B C : Type 0} {k a b c : ℕ} (n : ℕ) (t : AreTags k a b c) (g : R
   pub none_refused : (old new : ReaderState) (u m : ℕ) → IsNoTag a b c u → Gives (number_read k true).reads old new u → Refused old new (reading.InvalidTagEncoding m)
   none_refused old new u m z r = bad_tag k (three_tag a b c) small (counted_read n (sides_read g (sides_read h i))) old new u m (nothing u z) r
 
-module _ {S K : Type 0} {put : S → List ℕ → S} {room : S → ℕ} (laws : WriterLaws put room) {X A B C : Type 0} {p : X → Type 0} {seen : X → Three A B C}
-    (k a b c n : ℕ) (g : WriteGrammar A) (h : WriteGrammar B) (i : WriteGrammar C) (l : WriteLaws p seen (counted_write n (sides_write g (sides_write h i)))) {old : WriterState put room K} where
-  pub case_tag_unwritten : (v : Three A B C) (u : ℕ) {new : WriterState put room K} {e : WriteError} → u ≡ three_tag a b c v → Unwritten (number_write k true) old new u e → Unwritten (three_write k a b c n g h i) old new v e
-  case_tag_unwritten v u {new} {e} is w = tag_unwritten laws k (three_tag a b c) (counted_write n (sides_write g (sides_write h i))) l v (subst (λ m. Unwritten (number_write k true) old new m e) is w)
+module _ {S K : Type 0} {put : S → List ℕ → S} {room : S → ℕ} (laws : WriterLaws put room) {X A B C : Type 0} {p : X → Type 0} {model : X → Three A B C}
+    (k a b c n : ℕ) (g : WriteGrammar A) (h : WriteGrammar B) (i : WriteGrammar C) (l : WriteLaws p model (counted_write n (sides_write g (sides_write h i)))) {old : WriterState put room K} where
+  pub case_tag_unwritten : (v : Three A B C) (u : ℕ) {new : WriterState put room K} {e : WriteError} → u ≡ three_tag a b c v → WriteRefused (number_write k true) old new u e → WriteRefused (three_write k a b c n g h i) old new v e
+  case_tag_unwritten v u {new} {e} is w = tag_unwritten laws k (three_tag a b c) (counted_write n (sides_write g (sides_write h i))) l v (subst (λ m. WriteRefused (number_write k true) old new m e) is w)
 
   tagged : (v : Three A B C) (u : ℕ) {mid : WriterState put room K} → u ≡ three_tag a b c v → Wrote (number_write k true) old mid u → Wrote (number_write k true) old mid (three_tag a b c v)
   tagged v u {mid} is w = subst (λ m. Wrote (number_write k true) old mid m) is w
@@ -83,8 +84,33 @@ module _ {S K : Type 0} {put : S → List ℕ → S} {room : S → ℕ} (laws : 
   pub second_wrote : (v : B) (u : ℕ) {mid new : WriterState put room K} → u ≡ b → Wrote (number_write k true) old mid u → Wrote h mid new v → Wrote (three_write k a b c n g h i) old new (Err (Ok v))
   second_wrote v u is r s = tagged_wrote laws k (three_tag a b c) (counted_write n (sides_write g (sides_write h i))) l (Err (Ok v)) (tagged (Err (Ok v)) u is r) (wrote_map h (counted_write n (sides_write g (sides_write h i))) v (Err (Ok v)) (λ d. d) refl (λ x w. w) s)
 
-  pub first_unwritten : (v : A) (u : ℕ) {mid new : WriterState put room K} {e : WriteError} → u ≡ a → Wrote (number_write k true) old mid u → Unwritten g mid new v e → Unwritten (three_write k a b c n g h i) old new (Ok v) e
+  pub first_unwritten : (v : A) (u : ℕ) {mid new : WriterState put room K} {e : WriteError} → u ≡ a → Wrote (number_write k true) old mid u → WriteRefused g mid new v e → WriteRefused (three_write k a b c n g h i) old new (Ok v) e
   first_unwritten v u is r w = part_unwritten laws k (three_tag a b c) (counted_write n (sides_write g (sides_write h i))) l (Ok v) (tagged (Ok v) u is r) (unwritten_map g (counted_write n (sides_write g (sides_write h i))) v (Ok v) (λ d. d) refl (λ x t. t) w)
 
-  pub second_unwritten : (v : B) (u : ℕ) {mid new : WriterState put room K} {e : WriteError} → u ≡ b → Wrote (number_write k true) old mid u → Unwritten h mid new v e → Unwritten (three_write k a b c n g h i) old new (Err (Ok v)) e
+  pub second_unwritten : (v : B) (u : ℕ) {mid new : WriterState put room K} {e : WriteError} → u ≡ b → Wrote (number_write k true) old mid u → WriteRefused h mid new v e → WriteRefused (three_write k a b c n g h i) old new (Err (Ok v)) e
   second_unwritten v u is r w = part_unwritten laws k (three_tag a b c) (counted_write n (sides_write g (sides_write h i))) l (Err (Ok v)) (tagged (Err (Ok v)) u is r) (unwritten_map h (counted_write n (sides_write g (sides_write h i))) v (Err (Ok v)) (λ d. d) refl (λ x t. t) w)
+
+  pub case_tag_halted : (v : Three A B C) (u : ℕ) {new : WriterState put room K} {e : WriteError} → u ≡ three_tag a b c v → Stopped (number_write k true) old new u e → Stopped (three_write k a b c n g h i) old new v e
+  case_tag_halted v u {new} {e} is s = tag_halted laws k (three_tag a b c) (counted_write n (sides_write g (sides_write h i))) l v (subst (λ m. Stopped (number_write k true) old new m e) is s)
+
+  pub first_halted : (v : A) (u : ℕ) {mid new : WriterState put room K} {e : WriteError} → u ≡ a → Wrote (number_write k true) old mid u → Stopped g mid new v e → Stopped (three_write k a b c n g h i) old new (Ok v) e
+  first_halted v u is r s = part_halted laws k (three_tag a b c) (counted_write n (sides_write g (sides_write h i))) l (Ok v) (tagged (Ok v) u is r) (stopped_map g (counted_write n (sides_write g (sides_write h i))) v (Ok v) (λ x d. d) s)
+
+  pub second_halted : (v : B) (u : ℕ) {mid new : WriterState put room K} {e : WriteError} → u ≡ b → Wrote (number_write k true) old mid u → Stopped h mid new v e → Stopped (three_write k a b c n g h i) old new (Err (Ok v)) e
+  second_halted v u is r s = part_halted laws k (three_tag a b c) (counted_write n (sides_write g (sides_write h i))) l (Err (Ok v)) (tagged (Err (Ok v)) u is r) (stopped_map h (counted_write n (sides_write g (sides_write h i))) v (Err (Ok v)) (λ x d. d) s)
+
+alone_texts : {A B C : Type 0} (k a b c n : ℕ) (g : WriteGrammar A) (h : WriteGrammar B) (i : WriteGrammar C) (v : Three A B C) (u : ℕ) → u ≡ three_tag a b c v → (sides_write g (sides_write h i)).writes v []
+    → (x : List ℕ) → (number_write k true).writes u x → (three_write k a b c n g h i).writes v x
+alone_texts k a b c n g h i v u is none x w = ([], none, w ∙ ap (le k) is ∙ sym (append-nil (le k (three_tag a b c v))))
+
+-- a value that has its tag alone
+module _ {S K : Type 0} {put : S → List ℕ → S} {room : S → ℕ} {A B C : Type 0} (k a b c n : ℕ) (g : WriteGrammar A) (h : WriteGrammar B) (i : WriteGrammar C) (v : Three A B C) (u : ℕ) (is : u ≡ three_tag a b c v)
+    (can : (sides_write g (sides_write h i)).can v) (size : (sides_write g (sides_write h i)).size v ≡ 0) (none : (sides_write g (sides_write h i)).writes v []) {old new : WriterState put room K} where
+  pub alone_wrote : Wrote (number_write k true) old new u → Wrote (three_write k a b c n g h i) old new v
+  alone_wrote r = wrote_map (number_write k true) (three_write k a b c n g h i) u v (λ d. can) (omega (arith, size)) (alone_texts k a b c n g h i v u is none) r
+
+  pub alone_unwritten : {e : WriteError} → WriteRefused (number_write k true) old new u e → WriteRefused (three_write k a b c n g h i) old new v e
+  alone_unwritten w = unwritten_map (number_write k true) (three_write k a b c n g h i) u v (λ d. tt) (omega (arith, size)) (alone_texts k a b c n g h i v u is none) w
+
+  pub alone_halted : {e : WriteError} → Stopped (number_write k true) old new u e → Stopped (three_write k a b c n g h i) old new v e
+  alone_halted s = stopped_map (number_write k true) (three_write k a b c n g h i) u v (λ x d. inl d) s

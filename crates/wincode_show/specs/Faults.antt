@@ -20,7 +20,7 @@ HasFailed old new = (old.sound ≡ 0) × (new ≡ record { sound = 0; failures =
 
 -- a reader of these bytes, all of them at hand, over a device
 abbrev pub over_device : List ℕ → DeviceState → ReaderState
-over_device bytes device = record { rest = bytes; ready = length bytes; lends = nothing; steady = false; failures = device.failures; told = true; place = None }
+over_device bytes device = record { rest = bytes; ready = length bytes; lends = nothing; never_fails = false; failures = device.failures; is_known = true; place = None }
 
 -- what a reader over a device has left
 pub record ReadFrom : Type 0 where
@@ -35,4 +35,4 @@ pub record WrittenTo : Type 0 where
 
 -- a writer of this content, over a device
 abbrev pub slice_over : WrittenTo → WriterState slice_put slice_room GName
-slice_over w = record { content = w.content; kept = w.slice; steady = false; failures = w.device.failures; ready = slice_room w.content }
+slice_over w = record { content = w.content; kept = w.slice; never_fails = false; failures = w.device.failures; ready = slice_room w.content }

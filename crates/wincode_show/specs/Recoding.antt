@@ -2,13 +2,13 @@
 use Rattle.std.specs.Prelude.{⊤, ◌≡◌, ℕ, List, ◌++◌, Option, IfSome, IsTrue}
 use Rattle.std.specs.Io.KnownBytes.{Keeps, Appends}
 use Rattle.wincode_base.specs.Grammar.{ReadGrammar, WriteGrammar}
-use Rattle.wincode_base.specs.Outcomes.{Found, Refusal, IsUnread, IsUnserialized}
+use Rattle.wincode_base.specs.Outcomes.{Found, FrontReadRefused, SerializeRefused}
 use Rattle.wincode_base.specs.declared.error.ReadError.{ReadError}
 use Rattle.wincode_base.specs.declared.error.ReadError.TheVariants as reading
 use Rattle.wincode_base.specs.declared.error.WriteError.{WriteError}
 use Rattle.wincode_base.specs.declared.error.WriteError.TheVariants as writing
 use Rattle.wincode_io.specs.Readers.{ReaderState, memory, shared}
-use Rattle.wincode_show.specs.Shapes.{IsKnown, word_of, read_of, write_of, refusal_of}
+use Rattle.wincode_show.specs.Shapes.{IsKnown, word_of, read_of, write_of}
 use Rattle.wincode_show.specs.declared.recoding.RelayError.{RelayError}
 use Rattle.wincode_show.specs.declared.recoding.RelayError.TheVariants as relay
 use Rattle.wincode_show.specs.declared.recoding.KnownShape.{KnownShape}
@@ -16,35 +16,35 @@ use Rattle.wincode_show.specs.declared.recoding.KnownShape.TheVariants.{Pairs}
 
 -- ---- one schema
 
--- A front of the input reads as a value, and the text is written for it.
+-- A front of the input reads as a value, and the encoding is written for it.
 pub record Recoded {V : Type 0} (r : ReadGrammar V) (w : WriteGrammar V) (input text : List ℕ) : Type 0 where
   pub value : V
   pub rest : List ℕ
   pub found : Found r.reads input value rest
-  pub is_text : w.writes value text
+  pub is_encoding : w.writes value text
 
--- A front of the input reads as a value, which reading sees by `rs` and writing by `ws`; the text is written for it, and
+-- A front of the input reads as a value, which reading sees by `rs` and writing by `ws`; the encoding is written for it, and
 -- reads as it.
 pub record Reread {X V W : Type 0} (rs : X → V) (r : ReadGrammar V) (ws : X → W) (w : WriteGrammar W) (input text : List ℕ) : Type 0 where
   pub value : X
   pub rest : List ℕ
   pub found : Found r.reads input (rs value) rest
-  pub is_text : w.writes (ws value) text
+  pub is_encoding : w.writes (ws value) text
   pub reads_back : r.reads text (rs value)
 
 -- a value was read from the input, within its limits, and serializing it was refused
-pub record IsUnwritten {X V W : Type 0} (rs : X → V) (r : ReadGrammar V) (ws : X → W) (w : WriteGrammar W) (input : List ℕ) (e : WriteError) : Type 0 where
+pub record RereadWriteRefused {X V W : Type 0} (rs : X → V) (r : ReadGrammar V) (ws : X → W) (w : WriteGrammar W) (input : List ℕ) (e : WriteError) : Type 0 where
   pub value : X
   pub rest : List ℕ
   pub found : Found r.reads input (rs value) rest
   pub fits : w.fits (ws value)
-  pub refused : IsUnserialized w (ws value) e
+  pub refused : SerializeRefused w (ws value) e
 
 -- Why the front of the bytes was not recoded by a schema: it was not read, as the schema says; or its value was not written.
-abbrev pub IsUnreread : {X V W : Type 0} → (X → V) → ReadGrammar V → Refusal → (X → W) → WriteGrammar W → ReaderState → RelayError → Type 0
-IsUnreread rs r refusal ws w old (relay.Read e) = IsUnread r refusal old e
-IsUnreread rs r refusal ws w old (relay.Write e) = IsTrue old.told → IsUnwritten rs r ws w old.rest e
-IsUnreread rs r refusal ws w old _ = ⊥
+abbrev pub RereadRefused : {X V W : Type 0} → (X → V) → ReadGrammar V → (X → W) → WriteGrammar W → ReaderState → RelayError → Type 0
+RereadRefused rs r ws w old (relay.Read e) = FrontReadRefused r old e
+RereadRefused rs r ws w old (relay.Write e) = IsTrue old.is_known → RereadWriteRefused rs r ws w old.rest e
+RereadRefused rs r ws w old _ = ⊥
 
 -- ---- a shape
 
@@ -53,7 +53,7 @@ abbrev pub IsReadMemory : ReadError → Type 0
 IsReadMemory reading.OutOfMemory = ⊤
 IsReadMemory _ = ⊥
 
--- the text is that of the shape's value at the front of the input
+-- the encoding is that of the shape's value at the front of the input
 abbrev pub IsRecodedAs : KnownShape → List ℕ → List ℕ → Type 0
 IsRecodedAs shape input text = Recoded (read_of shape) (write_of shape) input text
 
@@ -63,44 +63,44 @@ IsKept Pairs input text = ⊤
 IsKept _ input text = (rest : List ℕ) × (input ≡ text ++ rest)
 
 -- Why the front of the bytes was not recoded as the shape: no front reads, or memory for its value was wanted; or one
--- reads, and memory for its text was wanted.
-abbrev pub IsUnrecodedAs : KnownShape → List ℕ → RelayError → Type 0
-IsUnrecodedAs shape bytes (relay.Read e) = IsUnread (read_of shape) (refusal_of shape) (memory shared bytes) e × ((text : List ℕ) → IsRecodedAs shape bytes text → IsReadMemory e)
-IsUnrecodedAs shape bytes (relay.Write e) = ((text : List ℕ) × IsRecodedAs shape bytes text) × (e ≡ writing.OutOfMemory)
-IsUnrecodedAs shape bytes _ = ⊥
+-- reads, and memory for its encoding was wanted.
+abbrev pub RecodeAsRefused : KnownShape → List ℕ → RelayError → Type 0
+RecodeAsRefused shape bytes (relay.Read e) = FrontReadRefused (read_of shape) (memory shared bytes) e × ((text : List ℕ) → IsRecodedAs shape bytes text → IsReadMemory e)
+RecodeAsRefused shape bytes (relay.Write e) = ((text : List ℕ) × IsRecodedAs shape bytes text) × (e ≡ writing.OutOfMemory)
+RecodeAsRefused shape bytes _ = ⊥
 
 -- ---- a shape's word
 
--- the word is a shape's, and the text is that of the shape's value at the front of the input; but for a map, it is that
+-- the word is a shape's, and the encoding is that of the shape's value at the front of the input; but for a map, it is that
 -- front itself
 abbrev pub IsRecoded : List ℕ → List ℕ → List ℕ → Type 0
 IsRecoded word input text = (shape : KnownShape) × (word ≡ word_of shape) × IsRecodedAs shape input text × IsKept shape input text
 
 -- the word is no shape's; or the bytes were not recoded as the shape
-abbrev pub IsUnrecoded : List ℕ → List ℕ → RelayError → Type 0
-IsUnrecoded word bytes relay.UnknownShape = IsKnown word → ⊥
-IsUnrecoded word bytes e = (shape : KnownShape) × (word ≡ word_of shape) × IsUnrecodedAs shape bytes e
+abbrev pub RecodeRefused : List ℕ → List ℕ → RelayError → Type 0
+RecodeRefused word bytes relay.UnknownShape = IsKnown word → ⊥
+RecodeRefused word bytes e = (shape : KnownShape) × (word ≡ word_of shape) × RecodeAsRefused shape bytes e
 
 -- ---- an input and an output
 
--- what the input had, where it tells, was recoded, and its text and nothing else was written
+-- what the input had, where it tells, was recoded, and its encoding and nothing else was written
 abbrev pub IsRelayed : List ℕ → Option (List ℕ) → Option (List ℕ) → Option (List ℕ) → Type 0
 IsRelayed word input old new = IsKnown word × IfSome input (λ bytes. (text : List ℕ) × IsRecoded word bytes text × Appends old new text)
 
 -- Why relaying was refused, and that but for an output that failed nothing was written.
-abbrev pub IsUnrelayed : List ℕ → Option (List ℕ) → Option (List ℕ) → Option (List ℕ) → Option (List ℕ) → RelayError → Type 0
-IsUnrelayed word input left old new relay.UnknownShape = (IsKnown word → ⊥) × Keeps input left × Keeps old new
-IsUnrelayed word input left old new (relay.Input e) = IsKnown word × Keeps old new
-IsUnrelayed word input left old new (relay.Read e) = IsKnown word × Keeps old new × IfSome input (λ bytes. IsUnrecoded word bytes (relay.Read e))
-IsUnrelayed word input left old new (relay.Write e) = IsKnown word × Keeps old new × IfSome input (λ bytes. IsUnrecoded word bytes (relay.Write e))
-IsUnrelayed word input left old new (relay.Output e) = IsKnown word × IfSome input (λ bytes. (text : List ℕ) × IsRecoded word bytes text)
-IsUnrelayed word input left old new relay.OutOfMemory = IsKnown word × Keeps old new
+abbrev pub RelayRefused : List ℕ → Option (List ℕ) → Option (List ℕ) → Option (List ℕ) → Option (List ℕ) → RelayError → Type 0
+RelayRefused word input left old new relay.UnknownShape = (IsKnown word → ⊥) × Keeps input left × Keeps old new
+RelayRefused word input left old new (relay.Input e) = IsKnown word × Keeps old new
+RelayRefused word input left old new (relay.Read e) = IsKnown word × Keeps old new × IfSome input (λ bytes. RecodeRefused word bytes (relay.Read e))
+RelayRefused word input left old new (relay.Write e) = IsKnown word × Keeps old new × IfSome input (λ bytes. RecodeRefused word bytes (relay.Write e))
+RelayRefused word input left old new (relay.Output e) = IsKnown word × IfSome input (λ bytes. (text : List ℕ) × IsRecoded word bytes text)
+RelayRefused word input left old new relay.OutOfMemory = IsKnown word × Keeps old new
 
 -- the input failed, or memory was wanted
-abbrev pub IsUngathered : RelayError → Type 0
-IsUngathered (relay.Input e) = ⊤
-IsUngathered relay.OutOfMemory = ⊤
-IsUngathered _ = ⊥
+abbrev pub GatherRefused : RelayError → Type 0
+GatherRefused (relay.Input e) = ⊤
+GatherRefused relay.OutOfMemory = ⊤
+GatherRefused _ = ⊥
 
 abbrev pub status_of : RelayError → ℕ
 status_of relay.UnknownShape = 2

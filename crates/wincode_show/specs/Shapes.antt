@@ -1,23 +1,23 @@
 -- The shapes: the word, the values and the schema of each.
-use Rattle.std.specs.Prelude.{◌≡◌, ⊤, ℕ, Bool, true, false, List, map, codes}
+use Rattle.std.specs.Prelude.{◌≡◌, ℕ, Bool, true, false, List, map, codes}
 use Rattle.std.specs.Ordering.{nat_cmp}
 use Rattle.wincode_collect.specs.Collections.{IsMapOf}
 use Rattle.wincode_collect.specs.Seen.{sees, Made}
-use Rattle.wincode_base.specs.Arrays.{times_meta, array_read, array_write}
+use Rattle.wincode_base.specs.Arrays.{array_read, array_write}
 use Rattle.wincode_base.specs.Gathered.{gathered_read}
 use Rattle.wincode_base.specs.Grammar.{ReadGrammar, WriteGrammar}
-use Rattle.wincode_base.specs.InWindow.{IsStaticRefused}
-use Rattle.wincode_base.specs.Leaves.{number_read, number_write, bool_read, bool_write, IsBoolRefused}
-use Rattle.wincode_base.specs.Lengths.{bincode, IsLengthRefused}
-use Rattle.wincode_base.specs.Lists.{list_read, list_write, AreRefused, IsListRefused}
-use Rattle.wincode_base.specs.Outcomes.{Refusal, IsDenied}
-use Rattle.wincode_base.specs.Pairs.{pair_read, pair_write, IsPairRefused}
-use Rattle.wincode_base.specs.Short.{short_scheme, IsShortRefused}
-use Rattle.wincode_base.specs.Sizes.{item_size, pair_size}
-use Rattle.wincode_base.specs.Text.{text_read, text_write, IsTextRefused}
+use Rattle.wincode_base.specs.InWindow.{windowed_write, windowed_read}
+use Rattle.wincode_base.specs.Leaves.{number_read, number_write, bool_read, bool_write}
+use Rattle.wincode_base.specs.Lengths.{bincode, preallocation_limit}
+use Rattle.wincode_base.specs.Lists.{list_read, list_write_of, list_write}
+use Rattle.wincode_base.specs.Pairs.{pair_read, pair_write}
+use Rattle.wincode_base.specs.Short.{short_scheme}
+use Rattle.wincode_base.specs.ItemSizes.{pair_size}
+use Rattle.wincode_base.specs.Strings.{str_read, str_write}
 use Rattle.wincode_show.specs.declared.recoding.KnownShape.{KnownShape}
 use Rattle.wincode_show.specs.declared.recoding.KnownShape.TheVariants.{Nested, Text, Short, Record, Pairs}
 
+-- the word by which the command line names a shape
 abbrev pub word_of : KnownShape → List ℕ
 word_of Nested = codes "nested"
 word_of Text = codes "text"
@@ -40,55 +40,44 @@ Value Pairs = List (ℕ × ℕ)
 
 -- ---- reading
 
+-- one byte
 abbrev pub byte_read : ReadGrammar ℕ
 byte_read = number_read 1 true
 
+-- a list of numbers of eight bytes
 abbrev pub numbers_read : ReadGrammar (List ℕ)
-numbers_read = list_read (bincode 4194304) 24 (number_read 8 true)
+numbers_read = list_read (bincode preallocation_limit) 24 (number_read 8 true)
 
+-- 32 bytes
 abbrev pub bytes_read : ReadGrammar (List ℕ)
-bytes_read = array_read 32 byte_read
+bytes_read = windowed_read (array_read 32 byte_read)
 
+-- a number, a flag and 32 bytes
 abbrev pub record_read : ReadGrammar (ℕ × (Bool × List ℕ))
-record_read = pair_read (number_read 8 true) (pair_read bool_read bytes_read)
+record_read = windowed_read (pair_read (number_read 8 true) (pair_read bool_read bytes_read))
 
+-- a map of bytes, in the order of its keys
 abbrev pub pairs_read : ReadGrammar (List (ℕ × ℕ))
-pairs_read = gathered_read (sees (λ k. k) (λ v. v)) (Made (IsMapOf nat_cmp) (map (sees (λ k. k) (λ v. v)))) (bincode 4194304) (pair_read byte_read byte_read)
+pairs_read = gathered_read (sees (λ k. k) (λ v. v)) (Made (IsMapOf nat_cmp) (map (sees (λ k. k) (λ v. v)))) (bincode preallocation_limit) (pair_size byte_read.meta byte_read.meta) (pair_read byte_read byte_read)
 
+-- how the values of a shape are read
 abbrev pub read_of : (shape : KnownShape) → ReadGrammar (Value shape)
-read_of Nested = list_read (bincode 4194304) 24 numbers_read
-read_of Text = text_read 24 0 false
+read_of Nested = list_read (bincode preallocation_limit) 24 numbers_read
+read_of Text = str_read 24 0 false
 read_of Short = list_read short_scheme 24 byte_read
 read_of Record = record_read
 read_of Pairs = pairs_read
 
 -- ---- writing
 
+-- one byte, written
 abbrev pub byte_write : WriteGrammar ℕ
 byte_write = number_write 1 true
 
+-- how the values of a shape are written
 abbrev pub write_of : (shape : KnownShape) → WriteGrammar (Value shape)
-write_of Nested = list_write (bincode 4194304) 24 (list_write (bincode 4194304) 24 (number_write 8 true))
-write_of Text = text_write 24
+write_of Nested = list_write (bincode preallocation_limit) 24 (list_write (bincode preallocation_limit) 24 (number_write 8 true))
+write_of Text = str_write 24
 write_of Short = list_write short_scheme 24 byte_write
-write_of Record = pair_write (number_write 8 true) (pair_write bool_write (array_write 32 byte_write))
-write_of Pairs = list_write (bincode 4194304) 24 (pair_write byte_write byte_write)
-
--- ---- how reading is refused
-
-abbrev pub numbers_refusal : Refusal
-numbers_refusal = IsListRefused (bincode 4194304) (IsLengthRefused 4194304) (item_size (number_read 8 true).meta) (number_read 8 true) (IsDenied 8)
-
-abbrev pub bytes_refusal : Refusal
-bytes_refusal = IsStaticRefused (times_meta 32 byte_read.meta) (AreRefused 32 byte_read (IsDenied 1))
-
-abbrev pub record_refusal : Refusal
-record_refusal = IsStaticRefused record_read.meta (IsPairRefused (number_read 8 true) (IsDenied 8) (pair_read bool_read bytes_read) (IsPairRefused bool_read IsBoolRefused bytes_read bytes_refusal))
-
-abbrev pub refusal_of : KnownShape → Refusal
-refusal_of Nested = IsListRefused (bincode 4194304) (IsLengthRefused 4194304) (item_size numbers_read.meta) numbers_read numbers_refusal
-refusal_of Text = IsTextRefused (λ _. ⊥) ⊤
-refusal_of Short = IsListRefused short_scheme (λ _. IsShortRefused) (item_size byte_read.meta) byte_read (IsDenied 1)
-refusal_of Record = record_refusal
-refusal_of Pairs =
-    IsListRefused (bincode 4194304) (IsLengthRefused 4194304) (pair_size byte_read.meta byte_read.meta) (pair_read byte_read byte_read) (IsPairRefused byte_read (IsDenied 1) byte_read (IsDenied 1))
+write_of Record = windowed_write (pair_write (number_write 8 true) (pair_write bool_write (windowed_write (array_write 32 byte_write))))
+write_of Pairs = list_write_of (bincode preallocation_limit) 24 (pair_size byte_write.meta byte_write.meta) (pair_write byte_write byte_write)

@@ -1,13 +1,13 @@
 //! A struct of the repository's own, with its schema by hand.
 ghost use Rattle.std.specs.Prelude.{◌<◌, ◌^◌, true, refl};
 ghost use Rattle.std.proofs.Common.{lit≤};
-ghost use Rattle.wincode_base.specs.Lengths.{bincode};
+ghost use Rattle.wincode_base.specs.Lengths.{bincode, preallocation_limit};
 ghost use Rattle.wincode_base.specs.LengthLaws.{bincode_laws};
 ghost use Rattle.wincode_base.specs.Leaves.{number_read, number_write};
-ghost use Rattle.wincode_base.specs.LeafLaws.{number_read_laws, number_write_laws, number_reads_back};
-ghost use Rattle.wincode_base.specs.ListLaws.{list_read_laws, list_write_laws, list_reads_back};
-ghost use Rattle.wincode.specs.OneTextLaws.{number_one_text, list_one_text, pair_one_text};
-ghost use Rattle.wincode_base.specs.PairLaws.{pair_read_laws, pair_write_laws, pair_reads_back, write_laws_by, reads_back_by};
+ghost use Rattle.wincode_base.specs.LeafLaws.{number_reads_back, number_read_laws};
+ghost use Rattle.wincode_base.specs.ListLaws.{list_reads_back, list_read_laws};
+ghost use Rattle.wincode.specs.OneTextLaws.{number_one_text, list_one_text, pair_one_text, windowed_one_text};
+ghost use Rattle.wincode_base.specs.PairLaws.{pair_reads_back, write_laws_by, reads_back_by, windowed_reads_back, pair_read_laws, windowed_read_laws};
 
 use std::alloc::Global;
 use wincode::io::{Lending, Reader, Writer};
@@ -25,7 +25,7 @@ pub struct Entry {
 }
 
 /// An entry is written and read as the tuple of its fields: its schema has that one's ghost members, by
-/// quotes, and the laws of the parts, put together.
+/// quotes, its laws for writing among them, and for reading the laws of the parts, put together.
 type Fields = (u64, Vec<u8>);
 
 impl SchemaWrite for Entry {
@@ -33,13 +33,11 @@ impl SchemaWrite for Entry {
 
     ghost Value = { ⟦<Fields as SchemaWrite>⟧.Value };
 
-    ghost seen = { λ e. ⟦<Fields as SchemaWrite>⟧.seen (e.id, e.tags) };
+    ghost model = { λ e. ⟦<Fields as SchemaWrite>⟧.model (e.id, e.tags) };
 
-    ghost proper = { λ e. ⟦<Fields as SchemaWrite>⟧.proper (e.id, e.tags) };
+    ghost is_valid = { λ e. ⟦<Fields as SchemaWrite>⟧.is_valid (e.id, e.tags) };
 
     ghost writing = { ⟦<Fields as SchemaWrite>⟧.writing };
-
-    ghost in_one_piece = { ⟦<Fields as SchemaWrite>⟧.in_one_piece };
 
     fn type_meta() -> TypeMeta {
         <Fields as SchemaWrite>::type_meta()
@@ -53,8 +51,7 @@ impl SchemaWrite for Entry {
         write_members_2::<u64, Vec<u8>, W>(writer, &src.id, &src.tags)
     }
 
-    ghost write_laws = { write_laws_by (λ e. (e.id, e.tags)) (pair_write_laws (number_write_laws 8 true)
-        (list_write_laws (bincode 4194304) 24 (λ t. t.items) (λ n. n < 256 ^ 1) (λ n. n) (number_write 1 true) (number_write_laws 1 true))) };
+    ghost write_laws = { write_laws_by (λ e. (e.id, e.tags)) ⟦<Fields as SchemaWrite>⟧.write_laws };
 }
 
 impl<L: Lending> SchemaRead<L> for Entry {
@@ -62,13 +59,11 @@ impl<L: Lending> SchemaRead<L> for Entry {
 
     ghost Value = { ⟦<Fields as SchemaRead<L>>⟧.Value };
 
-    ghost seen = { λ e. ⟦<Fields as SchemaRead<L>>⟧.seen (e.id, e.tags) };
+    ghost model = { λ e. ⟦<Fields as SchemaRead<L>>⟧.model (e.id, e.tags) };
 
-    ghost proper = { ⟦<Fields as SchemaRead<L>>⟧.proper };
+    ghost is_valid = { ⟦<Fields as SchemaRead<L>>⟧.is_valid };
 
     ghost reading = { ⟦<Fields as SchemaRead<L>>⟧.reading };
-
-    ghost refusal = { ⟦<Fields as SchemaRead<L>>⟧.refusal };
 
     fn type_meta() -> TypeMeta {
         <Fields as SchemaRead<L>>::type_meta()
@@ -88,17 +83,17 @@ impl<L: Lending> SchemaRead<L> for Entry {
         Ok(())
     }
 
-    ghost read_laws = { pair_read_laws (number_read_laws 8 true (lit≤ tt))
-        (list_read_laws (bincode 4194304) (bincode_laws 4194304) 24 (lit≤ tt) (λ n. n < 256 ^ 1) (number_read 1 true) (number_read_laws 1 true (lit≤ tt))) };
+    ghost read_laws = { windowed_read_laws (pair_read_laws (number_read_laws 8 true (lit≤ tt))
+        (list_read_laws (bincode preallocation_limit) (bincode_laws preallocation_limit) 24 (lit≤ tt) (λ n. n < 256 ^ 1) (number_read 1 true) (number_read_laws 1 true (lit≤ tt)))) };
 }
 
 impl<L: Lending> RoundTrip<L> for Entry {
-    ghost reads_back = { reads_back_by (λ e. (e.id, e.tags)) (pair_reads_back (number_reads_back 8 true)
-        (list_reads_back (bincode 4194304) (bincode_laws 4194304) 24 (λ t. t.items) (λ n. n < 256 ^ 1) (λ n. n) (number_write 1 true) (λ n. n) (number_read 1 true) (number_reads_back 1 true))) };
+    ghost reads_back = { reads_back_by (λ e. (e.id, e.tags)) (windowed_reads_back (pair_reads_back (number_reads_back 8 true)
+        (list_reads_back (bincode preallocation_limit) (bincode_laws preallocation_limit) 24 (λ t. t.items) (λ n. n < 256 ^ 1) (λ n. n) (number_write 1 true) (λ n. n) (number_read 1 true) (number_reads_back 1 true)))) };
 }
 
 impl<L: Lending> OneText<L> for Entry {
-    ghost one_text = { pair_one_text (number_one_text 8 true) (list_one_text (bincode 4194304) 24 (number_one_text 1 true)) };
+    ghost one_text = { windowed_one_text (pair_one_text (number_one_text 8 true) (list_one_text (bincode preallocation_limit) 24 (number_one_text 1 true))) };
 }
 
 impl<L: Lending> SchemaReadOwned<L> for Entry {

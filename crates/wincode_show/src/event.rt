@@ -1,10 +1,9 @@
 //! An enum of three cases with schemas by hand, which differ in their tags alone; and one of cases that hold
 //! nothing.
 ghost use Rattle.std.specs.Prelude.{◌≡◌, ℕ, ◌+◌, ◌≤◌, ◌^◌, true, false, IfOk, IfErr, refl};
-ghost use Rattle.wincode_base.specs.Outcomes.{Gives, Refuses, IsOverflow};
-ghost use Rattle.wincode_base.specs.Tags.{IsTagRefused};
-ghost use Rattle.wincode_show.specs.Cases.{Three, AreTags, IsNoTag};
-ghost use Rattle.wincode_show.specs.Events.{SeenEvent, event_seen, IsEvent, IsSeenEvent, event_read, event_write, IsEventRefused, mark_seen, mark_read, mark_write};
+ghost use Rattle.wincode_base.specs.Outcomes.{IsLengthOverflow, GetOutcome};
+ghost use Rattle.wincode_show.specs.Cases.{Three, AreTags};
+ghost use Rattle.wincode_show.specs.Events.{SeenEvent, event_seen, IsEvent, IsSeenEvent, event_read, event_write, mark_seen, mark_read, mark_write};
 ghost use Rattle.wincode_show.specs.EventLaws.{event_read_laws, event_write_laws, event_reads_back, event_one_text};
 ghost use Rattle.wincode_show.specs.EventLaws.{first_tags, spread_tags, mark_read_laws, mark_write_laws, mark_reads_back, mark_one_text};
 
@@ -125,7 +124,7 @@ pub type EventU32 = EventBy<SpreadTags>;
 /// `LengthEncodingOverflow`.
 fn behind_tag<Tag: TagCode>(size: usize) -> WriteResult<usize>
     ensures ok { IfOk result (λ n. n ≡ Tag.size + size) }
-    ensures err { IfErr result (λ e. (2 ^ 64 ≤ Tag.size + size) × IsOverflow e) }
+    ensures err { IfErr result (λ e. (2 ^ 64 ≤ Tag.size + size) × IsLengthOverflow e) }
 {
     match Tag::tag_size().checked_add(size) {
         Some(size) => Ok(size),
@@ -138,13 +137,11 @@ impl<Tags: EventTags> SchemaWrite for EventBy<Tags> {
 
     ghost Value = { SeenEvent };
 
-    ghost seen = { event_seen };
+    ghost model = { event_seen };
 
-    ghost proper = { IsEvent };
+    ghost is_valid = { IsEvent };
 
     ghost writing = { event_write Tags.Tag.size Tags.named_tag Tags.blob_tag Tags.empty_tag };
-
-    ghost in_one_piece = { false };
 
     fn type_meta() -> TypeMeta {
         TypeMeta::Dynamic
@@ -181,12 +178,7 @@ fn get_event<Tags: EventTags, L: Lending, R: Reader<L>>(
     alloc: Global,
     reader: &mut R,
 ) -> ReadResult<Event>
-    ensures ok { let grammar = event_read Tags.Tag.size Tags.named_tag Tags.blob_tag Tags.empty_tag in
-        IfOk result (λ event. Gives grammar.reads (R.state reader.old) (R.state reader.new) (event_seen event)) }
-    ensures err { let grammar = event_read Tags.Tag.size Tags.named_tag Tags.blob_tag Tags.empty_tag in
-        IfErr result (Refuses grammar.reads grammar.asks grammar.sparing (R.state reader.old) (R.state reader.new)) }
-    ensures refused { IfErr result (IsEventRefused Tags.Tag.size Tags.named_tag Tags.blob_tag Tags.empty_tag
-        ⟦<Named as SchemaRead<L>>⟧.refusal ⟦<Blob as SchemaRead<L>>⟧.refusal (R.state reader.old) (R.state reader.new)) }
+    ensures { GetOutcome (event_read Tags.Tag.size Tags.named_tag Tags.blob_tag Tags.empty_tag) event_seen (R.state reader.old) (R.state reader.new) result }
 {
     let tag = read_tag::<Tags::Tag, L, R>(reader)?;
     if tag == Tags::named() {
@@ -207,14 +199,11 @@ impl<L: Lending, Tags: EventTags> SchemaRead<L> for EventBy<Tags> {
 
     ghost Value = { SeenEvent };
 
-    ghost seen = { event_seen };
+    ghost model = { event_seen };
 
-    ghost proper = { IsSeenEvent };
+    ghost is_valid = { IsSeenEvent };
 
     ghost reading = { event_read Tags.Tag.size Tags.named_tag Tags.blob_tag Tags.empty_tag };
-
-    ghost refusal = { IsEventRefused Tags.Tag.size Tags.named_tag Tags.blob_tag Tags.empty_tag
-        ⟦<Named as SchemaRead<L>>⟧.refusal ⟦<Blob as SchemaRead<L>>⟧.refusal };
 
     fn type_meta() -> TypeMeta {
         TypeMeta::Dynamic
@@ -266,13 +255,11 @@ impl SchemaWrite for MarkU8 {
 
     ghost Value = { Three Unit Unit Unit };
 
-    ghost seen = { mark_seen };
+    ghost model = { mark_seen };
 
-    ghost proper = { λ m. Unit {0} };
+    ghost is_valid = { λ m. Unit {0} };
 
     ghost writing = { mark_write };
-
-    ghost in_one_piece = { false };
 
     fn type_meta() -> TypeMeta {
         TypeMeta::Static {
@@ -298,9 +285,7 @@ impl SchemaWrite for MarkU8 {
 
 /// The mark of the tag.
 fn get_mark<L: Lending, R: Reader<L>>(reader: &mut R) -> ReadResult<Mark>
-    ensures ok { IfOk result (λ mark. Gives mark_read.reads (R.state reader.old) (R.state reader.new) (mark_seen mark)) }
-    ensures err { IfErr result (Refuses mark_read.reads 0 true (R.state reader.old) (R.state reader.new)) }
-    ensures refused { IfErr result (IsTagRefused 1 (IsNoTag 0 1 2) (R.state reader.old) (R.state reader.new)) }
+    ensures { GetOutcome mark_read mark_seen (R.state reader.old) (R.state reader.new) result }
 {
     let tag = read_tag::<u8, L, R>(reader)?;
     match tag {
@@ -316,13 +301,11 @@ impl<L: Lending> SchemaRead<L> for MarkU8 {
 
     ghost Value = { Three Unit Unit Unit };
 
-    ghost seen = { mark_seen };
+    ghost model = { mark_seen };
 
-    ghost proper = { λ v. Unit {0} };
+    ghost is_valid = { λ v. Unit {0} };
 
     ghost reading = { mark_read };
-
-    ghost refusal = { IsTagRefused 1 (IsNoTag 0 1 2) };
 
     fn type_meta() -> TypeMeta {
         TypeMeta::Static {

@@ -1,7 +1,7 @@
 //! Devices that serve so many calls and then fail each time: a reader and a writer over one.
 ghost use Rattle.std.specs.Prelude.{◌≡◌, ℕ, List, IfOk, IfErr, OnOk};
-ghost use Rattle.wincode_base.specs.Outcomes.{Found, IsUnread};
-ghost use Rattle.wincode_show.specs.Shapes.{read_of, refusal_of};
+ghost use Rattle.wincode_base.specs.Outcomes.{Found, FrontReadRefused};
+ghost use Rattle.wincode_show.specs.Shapes.{read_of};
 ghost use Rattle.wincode_show.specs.declared.recoding.KnownShape.TheVariants.{Record};
 ghost use Rattle.wincode_show.specs.Faults.{HasServed, HasFailed, over_device};
 
@@ -20,7 +20,7 @@ use wincode::{ReadResult, SchemaGet};
 /// there. It is refused as its schema says, and by the device.
 pub fn read_record(alloc: Global, bytes: &[u8], sound: usize) -> ReadResult<(u64, bool, [u8; 32])>
     ensures ok { IfOk result (λ v. (rest : List ℕ) × Found (read_of Record).reads bytes.now (v.0, (v.1, v.2)) rest) }
-    ensures err { IfErr result (IsUnread (read_of Record) (refusal_of Record) (over_device bytes.now (record { sound = sound; failures = 0 }))) }
+    ensures err { IfErr result (FrontReadRefused (read_of Record) (over_device bytes.now (record { sound = sound; failures = 0 }))) }
 {
     let mut reader = FailingReader::new(bytes, sound);
     <(u64, bool, [u8; 32]) as SchemaGet<Lifetime>>::get(alloc, &mut reader)

@@ -56,7 +56,7 @@ fn run(rt: &(impl Env + Input + Print + AllocGlobal)) -> Result<(), RelayError> 
     )
 }
 
-/// Runs, prints why it failed, and gives the status.
+/// GaveEach, prints why it failed, and gives the status.
 fn status(rt: &(impl Env + Input + Print + Eprint + AllocGlobal)) -> u8 {
     match run(rt) {
         Ok(()) => 0,

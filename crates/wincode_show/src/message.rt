@@ -1,16 +1,16 @@
 //! A message of the repository's own, with its schema by hand: the worked example of a schema of one's own.
 ghost use Rattle.std.specs.Prelude.{◌<◌, ◌^◌, true, false, IsUtf8, string_bytes, refl};
+ghost use Rattle.wincode_base.specs.LeafLaws.{number_reads_back, number_read_laws};
 ghost use Rattle.std.proofs.Common.{lit≤};
-ghost use Rattle.wincode_base.specs.LeafLaws.{number_read_laws, number_write_laws, number_reads_back};
 ghost use Rattle.wincode_base.specs.Leaves.{number_read, number_write};
-ghost use Rattle.wincode_base.specs.ListLaws.{list_read_laws, list_write_laws, list_reads_back};
-ghost use Rattle.wincode.specs.OneTextLaws.{number_one_text, list_one_text, text_one_text, option_one_text, pair_one_text};
-ghost use Rattle.wincode_base.specs.PairLaws.{pair_read_laws, pair_write_laws, pair_reads_back, write_laws_by, reads_back_by};
+ghost use Rattle.wincode_base.specs.ListLaws.{list_reads_back, list_read_laws};
+ghost use Rattle.wincode.specs.OneTextLaws.{number_one_text, list_one_text, str_one_text, option_one_text, pair_one_text, windowed_one_text};
+ghost use Rattle.wincode_base.specs.PairLaws.{pair_reads_back, write_laws_by, reads_back_by, windowed_reads_back, pair_read_laws, windowed_read_laws};
 ghost use Rattle.wincode_base.specs.Short.{short_scheme};
 ghost use Rattle.wincode_base.specs.ShortLaws.{short_scheme_laws};
-ghost use Rattle.wincode_base.specs.TagLaws.{option_read_laws, option_write_laws, option_reads_back};
-ghost use Rattle.wincode_base.specs.Text.{text_read, text_write};
-ghost use Rattle.wincode_base.specs.TextLaws.{text_read_laws, text_write_laws, text_reads_back};
+ghost use Rattle.wincode_base.specs.TagLaws.{option_reads_back, option_read_laws};
+ghost use Rattle.wincode_base.specs.Strings.{str_read, str_write};
+ghost use Rattle.wincode_base.specs.StringLaws.{str_reads_back, str_read_laws};
 
 use std::alloc::Global;
 use wincode::io::{Lending, Reader, Writer};
@@ -40,13 +40,11 @@ impl SchemaWrite for Message {
 
     ghost Value = { ⟦<Fields as SchemaWrite>⟧.Value };
 
-    ghost seen = { λ m. ⟦<Fields as SchemaWrite>⟧.seen (m.id, m.tags, m.note) };
+    ghost model = { λ m. ⟦<Fields as SchemaWrite>⟧.model (m.id, m.tags, m.note) };
 
-    ghost proper = { λ m. ⟦<Fields as SchemaWrite>⟧.proper (m.id, m.tags, m.note) };
+    ghost is_valid = { λ m. ⟦<Fields as SchemaWrite>⟧.is_valid (m.id, m.tags, m.note) };
 
     ghost writing = { ⟦<Fields as SchemaWrite>⟧.writing };
-
-    ghost in_one_piece = { ⟦<Fields as SchemaWrite>⟧.in_one_piece };
 
     fn type_meta() -> TypeMeta {
         <Fields as SchemaWrite>::type_meta()
@@ -60,9 +58,7 @@ impl SchemaWrite for Message {
         write_members_3::<u64, Tags, Option<String>, W>(writer, &src.id, &src.tags, &src.note)
     }
 
-    ghost write_laws = { write_laws_by (λ m. (m.id, (m.tags, m.note))) (pair_write_laws (number_write_laws 8 true) (pair_write_laws
-        (list_write_laws short_scheme 24 (λ t. t.items) (λ n. n < 256 ^ 1) (λ n. n) (number_write 1 true) (number_write_laws 1 true))
-        (option_write_laws 1 (λ s. IsUtf8 (string_bytes s)) (λ s. string_bytes s) (text_write 24) (text_write_laws 24 (λ s. IsUtf8 (string_bytes s)) (λ s. string_bytes s))))) };
+    ghost write_laws = { write_laws_by (λ m. (m.id, m.tags, m.note)) ⟦<Fields as SchemaWrite>⟧.write_laws };
 }
 
 impl<L: Lending> SchemaRead<L> for Message {
@@ -70,13 +66,11 @@ impl<L: Lending> SchemaRead<L> for Message {
 
     ghost Value = { ⟦<Fields as SchemaRead<L>>⟧.Value };
 
-    ghost seen = { λ m. ⟦<Fields as SchemaRead<L>>⟧.seen (m.id, m.tags, m.note) };
+    ghost model = { λ m. ⟦<Fields as SchemaRead<L>>⟧.model (m.id, m.tags, m.note) };
 
-    ghost proper = { ⟦<Fields as SchemaRead<L>>⟧.proper };
+    ghost is_valid = { ⟦<Fields as SchemaRead<L>>⟧.is_valid };
 
     ghost reading = { ⟦<Fields as SchemaRead<L>>⟧.reading };
-
-    ghost refusal = { ⟦<Fields as SchemaRead<L>>⟧.refusal };
 
     fn type_meta() -> TypeMeta {
         <Fields as SchemaRead<L>>::type_meta()
@@ -96,22 +90,22 @@ impl<L: Lending> SchemaRead<L> for Message {
         Ok(())
     }
 
-    ghost read_laws = { pair_read_laws (number_read_laws 8 true (lit≤ tt)) (pair_read_laws
+    ghost read_laws = { windowed_read_laws (pair_read_laws (number_read_laws 8 true (lit≤ tt)) (pair_read_laws
         (list_read_laws short_scheme short_scheme_laws 24 (lit≤ tt) (λ n. n < 256 ^ 1) (number_read 1 true) (number_read_laws 1 true (lit≤ tt)))
-        (option_read_laws 1 (lit≤ tt) IsUtf8 (text_read 24 0 false) (text_read_laws 24 0 false (lit≤ tt)))) };
+        (option_read_laws 1 (lit≤ tt) IsUtf8 (str_read 24 0 false) (str_read_laws 24 0 false (lit≤ tt))))) };
 }
 
 /// What is written reads back.
 impl<L: Lending> RoundTrip<L> for Message {
-    ghost reads_back = { reads_back_by (λ m. (m.id, (m.tags, m.note))) (pair_reads_back (number_reads_back 8 true) (pair_reads_back
+    ghost reads_back = { reads_back_by (λ m. (m.id, (m.tags, m.note))) (windowed_reads_back (pair_reads_back (number_reads_back 8 true) (pair_reads_back
         (list_reads_back short_scheme short_scheme_laws 24 (λ t. t.items) (λ n. n < 256 ^ 1) (λ n. n) (number_write 1 true) (λ n. n) (number_read 1 true) (number_reads_back 1 true))
-        (option_reads_back 1 (λ s. IsUtf8 (string_bytes s)) (λ s. string_bytes s) (text_write 24) (λ s. string_bytes s) (text_read 24 0 false) (text_reads_back 24 0 false (λ s. string_bytes s))))) };
+        (option_reads_back 1 (λ s. IsUtf8 (string_bytes s)) (λ s. string_bytes s) (str_write 24) (λ s. string_bytes s) (str_read 24 0 false) (str_reads_back 24 0 false (λ s. string_bytes s)))))) };
 }
 
-/// Each message has one text.
+/// Each message has one encoding.
 impl<L: Lending> OneText<L> for Message {
-    ghost one_text = { pair_one_text (number_one_text 8 true) (pair_one_text (list_one_text short_scheme 24 (number_one_text 1 true))
-        (option_one_text 1 (text_one_text 24 0 false))) };
+    ghost one_text = { windowed_one_text (pair_one_text (number_one_text 8 true) (pair_one_text (list_one_text short_scheme 24 (number_one_text 1 true))
+        (option_one_text 1 (str_one_text 24 0 false)))) };
 }
 
 /// A message holds all that it was read from.

@@ -1,6 +1,6 @@
 //! Recoding: a value read from bytes and written again.
 ghost use Rattle.std.specs.Prelude.{◌≡◌, IfOk, IfErr, IsTrue, MatchOption};
-ghost use Rattle.wincode_show.specs.Recoding.{Reread, IsUnreread, IsRecodedAs, IsKept, IsUnrecodedAs, IsRecoded, IsUnrecoded, status_of};
+ghost use Rattle.wincode_show.specs.Recoding.{Reread, RereadRefused, IsRecodedAs, IsKept, RecodeAsRefused, IsRecoded, RecodeRefused, status_of};
 ghost use Rattle.wincode_show.specs.Shapes.{IsKnown, word_of};
 
 use std::alloc::Global;
@@ -21,13 +21,13 @@ pub enum RelayError {
     /// Reading the input failed.
     #[error(transparent)]
     Input(io::Error),
-    /// No front of the input is a text of the shape, or memory for its value was refused.
+    /// No front of the input is an encoding of the shape, or memory for its value was refused.
     #[error(transparent)]
     Read(ReadError),
-    /// Memory for the text was refused.
+    /// Memory for the encoding was refused.
     #[error(transparent)]
     Write(WriteError),
-    /// Writing the output failed; a part of the text may have gone out.
+    /// Writing the output failed; a part of the encoding may have gone out.
     #[error(transparent)]
     Output(io::Error),
     /// Memory for the input was refused.
@@ -73,16 +73,16 @@ impl KnownShape {
     }
 }
 
-/// Reads one value by the schema from the front of the bytes, and forms its text again.
+/// Reads one value by the schema from the front of the bytes, and forms its encoding again.
 fn recode_by<I: Input, T: RoundTrip<I::Lends>>(
     alloc: Global,
     bytes: I,
 ) -> Result<Vec<u8>, RelayError>
 where
     T::Src: Drop,
-    ensures ok { IfOk result (λ text. IsTrue (I.begins bytes).told
-        → Reread T.SchemaRead.seen T.SchemaRead.reading T.SchemaWrite.seen T.SchemaWrite.writing (I.begins bytes).rest text.items) }
-    ensures err { IfErr result (IsUnreread T.SchemaRead.seen T.SchemaRead.reading T.SchemaRead.refusal T.SchemaWrite.seen T.SchemaWrite.writing (I.begins bytes)) }
+    ensures ok { IfOk result (λ text. IsTrue (I.begins bytes).is_known
+        → Reread T.SchemaRead.model T.SchemaRead.reading T.SchemaWrite.model T.SchemaWrite.writing (I.begins bytes).rest text.items) }
+    ensures err { IfErr result (RereadRefused T.SchemaRead.model T.SchemaRead.reading T.SchemaWrite.model T.SchemaWrite.writing (I.begins bytes)) }
 {
     let value = match <T as Deserialize<I::Lends>>::deserialize::<I>(alloc, bytes) {
         Ok(value) => value,
@@ -94,12 +94,12 @@ where
     }
 }
 
-/// Reads one value of the shape from the front of the bytes, and forms its text again. What follows the
+/// Reads one value of the shape from the front of the bytes, and forms its encoding again. What follows the
 /// value is never looked at.
 pub fn recode_as(alloc: Global, shape: KnownShape, bytes: &[u8]) -> Result<Vec<u8>, RelayError>
     ensures ok { IfOk result (λ text. IsRecodedAs shape bytes.now text.items) }
     ensures kept { IfOk result (λ text. IsKept shape bytes.now text.items) }
-    ensures err { IfErr result (IsUnrecodedAs shape bytes.now) }
+    ensures err { IfErr result (RecodeAsRefused shape bytes.now) }
 {
     match shape {
         KnownShape::Nested => recode_by::<&[u8], Vec<Vec<u64>>>(alloc, bytes),
@@ -110,11 +110,11 @@ pub fn recode_as(alloc: Global, shape: KnownShape, bytes: &[u8]) -> Result<Vec<u
     }
 }
 
-/// Reads one value of the shape that the word names from the front of the bytes, and forms its text again.
+/// Reads one value of the shape that the word names from the front of the bytes, and forms its encoding again.
 /// What follows the value is never looked at.
 pub fn recode(alloc: Global, shape: &str, bytes: &[u8]) -> Result<Vec<u8>, RelayError>
     ensures ok { IfOk result (λ text. IsRecoded shape.now bytes.now text.items) }
-    ensures err { IfErr result (IsUnrecoded shape.now bytes.now) }
+    ensures err { IfErr result (RecodeRefused shape.now bytes.now) }
 {
     match KnownShape::of(shape) {
         Some(known) => recode_as(alloc, known, bytes),

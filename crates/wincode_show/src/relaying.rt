@@ -1,6 +1,6 @@
 //! Relaying: a value read from an input, and written again to an output.
 ghost use Rattle.std.specs.Prelude.{IfOk, IfErr, OnOk, IfSome, ◌≡◌};
-ghost use Rattle.wincode_show.specs.Recoding.{IsRelayed, IsUnrelayed, IsUngathered};
+ghost use Rattle.wincode_show.specs.Recoding.{IsRelayed, RelayRefused, GatherRefused};
 
 use crate::recoding::{KnownShape, RelayError, recode_as};
 use std::alloc::Global;
@@ -9,7 +9,7 @@ use std::io::{Read, Write};
 /// All that the input gives.
 pub fn gather<R: Read>(alloc: Global, input: &mut R) -> Result<Vec<u8>, RelayError>
     ensures ok { IfOk result (λ v. IfSome (R.remaining input.old) (λ all. v.items ≡ all)) }
-    ensures err { IfErr result IsUngathered }
+    ensures err { IfErr result GatherRefused }
 {
     let mut bytes = Vec::new(alloc);
     let mut piece = [0u8; 4096];
@@ -24,8 +24,8 @@ pub fn gather<R: Read>(alloc: Global, input: &mut R) -> Result<Vec<u8>, RelayErr
     }
 }
 
-/// Reads all input, recodes it as `recode` does, and writes the text. Nothing is written before the
-/// whole text is there. The shape is looked at first.
+/// Reads all input, recodes it as `recode` does, and writes the encoding. Nothing is written before the
+/// whole encoding is there. The shape is looked at first.
 pub fn relay<R: Read, W: Write>(
     alloc: Global,
     shape: &str,
@@ -33,7 +33,7 @@ pub fn relay<R: Read, W: Write>(
     output: &mut W,
 ) -> Result<(), RelayError>
     ensures ok { OnOk result (IsRelayed shape.now (R.remaining input.old) (W.contents output.old) (W.contents output.new)) }
-    ensures err { IfErr result (IsUnrelayed shape.now (R.remaining input.old) (R.remaining input.new) (W.contents output.old) (W.contents output.new)) }
+    ensures err { IfErr result (RelayRefused shape.now (R.remaining input.old) (R.remaining input.new) (W.contents output.old) (W.contents output.new)) }
 {
     let Some(known) = KnownShape::of(shape) else {
         return Err(RelayError::UnknownShape);

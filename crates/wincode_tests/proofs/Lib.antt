@@ -1,1 +1,2 @@
 mod Zeros
+pub mod ByteLengths

@@ -1,6 +1,5 @@
 //! A length scheme of the repository's own: a length below 256 in one byte.
 ghost use Rattle.std.specs.Prelude.{◌≡◌};
-ghost use Rattle.wincode_base.specs.Outcomes.{IsDenied};
 ghost use Rattle.wincode_tests.specs.ByteLengths.{byte_scheme, byte_scheme_laws};
 
 use wincode::io::{Lending, Reader, Writer, fill_array};
@@ -13,8 +12,6 @@ pub struct ByteLen;
 
 impl SeqLen for ByteLen {
     ghost scheme = { byte_scheme };
-
-    ghost refusal = { λ prealloc. IsDenied 1 };
 
     /// With no byte left it is `ReadSizeLimit(1)`.
     fn read<L: Lending, R: Reader<L>>(reader: &mut R, _prealloc: usize) -> ReadResult<usize> {

@@ -2,6 +2,7 @@
 //! a caller's own, and what tests share.
 #![tactic(auto)]
 
+pub mod asked;
 pub mod block;
 pub mod byte_len;
 pub mod copying;

@@ -1,6 +1,5 @@
 //! A schema that refuses every input and its one value, as a member of others.
-ghost use Rattle.std.specs.Prelude.{false};
-ghost use Rattle.wincode_tests.specs.Refusing.{nothing_read, nothing_read_laws, IsRefusing, nothing_write, nothing_write_laws};
+ghost use Rattle.wincode_tests.specs.Refusing.{nothing_read, nothing_read_laws, nothing_write, nothing_write_laws};
 
 use std::alloc::Global;
 use wincode::io::{Lending, Reader, Writer};
@@ -14,13 +13,11 @@ impl SchemaWrite for Refusing {
 
     ghost Value = { Unit };
 
-    ghost seen = { λ _. tt };
+    ghost model = { λ _. tt };
 
-    ghost proper = { λ _. Unit {0} };
+    ghost is_valid = { λ _. Unit {0} };
 
     ghost writing = { nothing_write };
-
-    ghost in_one_piece = { false };
 
     fn type_meta() -> TypeMeta {
         TypeMeta::Dynamic
@@ -45,13 +42,11 @@ impl<L: Lending> SchemaRead<L> for Refusing {
 
     ghost Value = { Unit };
 
-    ghost seen = { λ _. tt };
+    ghost model = { λ _. tt };
 
-    ghost proper = { λ _. Unit {0} };
+    ghost is_valid = { λ _. Unit {0} };
 
     ghost reading = { nothing_read };
-
-    ghost refusal = { IsRefusing };
 
     fn type_meta() -> TypeMeta {
         TypeMeta::Dynamic

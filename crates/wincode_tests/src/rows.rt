@@ -1,4 +1,4 @@
-//! What tests of several crates share: rows as digits of base 16, and outcomes as text.
+//! What tests of several crates share: rows as digits of base 16, and outcomes as encoding.
 ghost use Rattle.std.specs.Prelude.{◌<◌, IfOk};
 
 use crate::rewriting::rewrite;
@@ -50,7 +50,7 @@ pub fn outcome(alloc: Global, text: wincode::Result<Vec<u8>>, left: usize) -> Re
     }
 }
 
-/// What reading these bytes answers, and what is left of them: the text that the value has, or the error.
+/// What reading these bytes answers, and what is left of them: the encoding that the value has, or the error.
 pub fn read_as<'a, T: RoundTrip<Lifetime<'a>>>(
     alloc: Global,
     bytes: &'a [u8],
@@ -64,7 +64,7 @@ where
     outcome(alloc, text, left)
 }
 
-/// The error as text.
+/// The error as encoding.
 pub fn printed<E: std::error::Error>(alloc: Global, error: E) -> Result<String, Fail> {
     Ok(format!(in alloc; "{error}")?)
 }

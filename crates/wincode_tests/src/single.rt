@@ -12,13 +12,11 @@ impl<T: SchemaWrite> SchemaWrite for Single<T> {
 
     ghost Value = { T.Value };
 
-    ghost seen = { T.seen };
+    ghost model = { T.model };
 
-    ghost proper = { T.proper };
+    ghost is_valid = { T.is_valid };
 
     ghost writing = { T.writing };
-
-    ghost in_one_piece = { T.in_one_piece };
 
     fn type_meta() -> TypeMeta {
         T::type_meta()
@@ -40,13 +38,11 @@ impl<L: Lending, T: SchemaRead<L>> SchemaRead<L> for Single<T> {
 
     ghost Value = { T.Value };
 
-    ghost seen = { T.seen };
+    ghost model = { T.model };
 
-    ghost proper = { T.proper };
+    ghost is_valid = { T.is_valid };
 
     ghost reading = { T.reading };
-
-    ghost refusal = { T.refusal };
 
     fn type_meta() -> TypeMeta {
         T::type_meta()

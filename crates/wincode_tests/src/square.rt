@@ -2,9 +2,9 @@
 ghost use Rattle.std.specs.Prelude.{true, refl};
 ghost use Rattle.std.proofs.Common.{lit≤};
 ghost use Rattle.wincode_base.specs.KeyLaws.{nat_alike, pair_alike};
-ghost use Rattle.wincode_base.specs.LeafLaws.{number_read_laws, number_write_laws, number_reads_back};
-ghost use Rattle.wincode.specs.OneTextLaws.{number_one_text, pair_one_text};
-ghost use Rattle.wincode_base.specs.PairLaws.{pair_read_laws, pair_write_laws, pair_reads_back, write_laws_by, reads_back_by};
+ghost use Rattle.wincode_base.specs.LeafLaws.{number_reads_back, number_read_laws};
+ghost use Rattle.wincode.specs.OneTextLaws.{number_one_text, pair_one_text, windowed_one_text};
+ghost use Rattle.wincode_base.specs.PairLaws.{pair_reads_back, write_laws_by, reads_back_by, windowed_reads_back, pair_read_laws, windowed_read_laws};
 
 use std::alloc::Global;
 use wincode::io::{Lending, Reader, Writer};
@@ -29,13 +29,11 @@ impl SchemaWrite for Square {
 
     ghost Value = { ⟦<Fields as SchemaWrite>⟧.Value };
 
-    ghost seen = { λ s. ⟦<Fields as SchemaWrite>⟧.seen (s.row, s.column) };
+    ghost model = { λ s. ⟦<Fields as SchemaWrite>⟧.model (s.row, s.column) };
 
-    ghost proper = { λ s. ⟦<Fields as SchemaWrite>⟧.proper (s.row, s.column) };
+    ghost is_valid = { λ s. ⟦<Fields as SchemaWrite>⟧.is_valid (s.row, s.column) };
 
     ghost writing = { ⟦<Fields as SchemaWrite>⟧.writing };
-
-    ghost in_one_piece = { ⟦<Fields as SchemaWrite>⟧.in_one_piece };
 
     fn type_meta() -> TypeMeta {
         <Fields as SchemaWrite>::type_meta()
@@ -49,7 +47,7 @@ impl SchemaWrite for Square {
         write_members_2::<u8, u8, W>(writer, &src.row, &src.column)
     }
 
-    ghost write_laws = { write_laws_by (λ s. (s.row, s.column)) (pair_write_laws (number_write_laws 1 true) (number_write_laws 1 true)) };
+    ghost write_laws = { write_laws_by (λ s. (s.row, s.column)) ⟦<Fields as SchemaWrite>⟧.write_laws };
 }
 
 impl<L: Lending> SchemaRead<L> for Square {
@@ -57,13 +55,11 @@ impl<L: Lending> SchemaRead<L> for Square {
 
     ghost Value = { ⟦<Fields as SchemaRead<L>>⟧.Value };
 
-    ghost seen = { λ s. ⟦<Fields as SchemaRead<L>>⟧.seen (s.row, s.column) };
+    ghost model = { λ s. ⟦<Fields as SchemaRead<L>>⟧.model (s.row, s.column) };
 
-    ghost proper = { ⟦<Fields as SchemaRead<L>>⟧.proper };
+    ghost is_valid = { ⟦<Fields as SchemaRead<L>>⟧.is_valid };
 
     ghost reading = { ⟦<Fields as SchemaRead<L>>⟧.reading };
-
-    ghost refusal = { ⟦<Fields as SchemaRead<L>>⟧.refusal };
 
     fn type_meta() -> TypeMeta {
         <Fields as SchemaRead<L>>::type_meta()
@@ -83,11 +79,11 @@ impl<L: Lending> SchemaRead<L> for Square {
         Ok(())
     }
 
-    ghost read_laws = { pair_read_laws (number_read_laws 1 true (lit≤ tt)) (number_read_laws 1 true (lit≤ tt)) };
+    ghost read_laws = { windowed_read_laws (pair_read_laws (number_read_laws 1 true (lit≤ tt)) (number_read_laws 1 true (lit≤ tt))) };
 }
 
 impl<L: Lending> RoundTrip<L> for Square {
-    ghost reads_back = { reads_back_by (λ s. (s.row, s.column)) (pair_reads_back (number_reads_back 1 true) (number_reads_back 1 true)) };
+    ghost reads_back = { reads_back_by (λ s. (s.row, s.column)) (windowed_reads_back (pair_reads_back (number_reads_back 1 true) (number_reads_back 1 true))) };
 }
 
 /// Squares of which the same is seen are equal: row by row, and column by column.
@@ -96,7 +92,7 @@ impl<L: Lending> Key<L> for Square {
 }
 
 impl<L: Lending> OneText<L> for Square {
-    ghost one_text = { pair_one_text (number_one_text 1 true) (number_one_text 1 true) };
+    ghost one_text = { windowed_one_text (pair_one_text (number_one_text 1 true) (number_one_text 1 true)) };
 }
 
 impl<L: Lending> SchemaReadOwned<L> for Square {

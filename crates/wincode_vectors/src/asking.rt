@@ -4,6 +4,7 @@
 #[derive(Clone, Copy)]
 pub enum Asked {
     Read,
+    Furthest,
     Room(usize),
     Size,
     Meta,
@@ -15,6 +16,7 @@ pub enum Asked {
 #[derive(Clone, Copy)]
 pub enum Call {
     Schema(Asked),
+    Many(usize),
     Calls,
     Shown,
     Tag(Option<usize>),
@@ -28,6 +30,7 @@ impl Call {
     fn of_word(text: &str) -> Option<Call> {
         match text {
             "read" => Some(Call::Schema(Asked::Read)),
+            "furthest" => Some(Call::Schema(Asked::Furthest)),
             "size" => Some(Call::Schema(Asked::Size)),
             "meta" => Some(Call::Schema(Asked::Meta)),
             "calls" => Some(Call::Calls),
@@ -45,6 +48,7 @@ impl Call {
             "room" => Some(Call::Schema(Asked::Room(number))),
             "items" => Some(Call::Schema(Asked::Items(number))),
             "at once" => Some(Call::Schema(Asked::AtOnce(number))),
+            "many" => Some(Call::Many(number)),
             "tag room" => Some(Call::Tag(Some(number))),
             "length of" => Some(Call::LengthOf(number)),
             _ => None,

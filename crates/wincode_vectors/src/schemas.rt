@@ -2,6 +2,7 @@
 pub mod calls;
 mod lengths;
 mod lists;
+pub mod many;
 mod maps;
 mod numbers;
 mod parts;

@@ -169,7 +169,7 @@ fn edits_stand_in_the_bytes(rt: HostRuntime) -> Result<(), Fail> {
 struct Address([u8; 32]);
 
 impl ZeroCopy for Address {
-    ghost proper = { λ v. ⟦<[u8; 32] as ZeroCopy>⟧.proper v.0 };
+    ghost is_valid = { λ v. ⟦<[u8; 32] as ZeroCopy>⟧.is_valid v.0 };
 
     ghost size = { ⟦<[u8; 32] as ZeroCopy>⟧.size };
 

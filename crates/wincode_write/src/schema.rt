@@ -1,9 +1,9 @@
 //! How values of a type are written.
-ghost use Rattle.std.specs.Prelude.{◌≡◌, map, Bool, IfOk, IfErr, OnOk};
+ghost use Rattle.std.specs.Prelude.{◌≡◌, map, IfOk, IfErr};
 ghost use Rattle.wincode_io.specs.Joins.{Each};
 ghost use Rattle.wincode_base.specs.Grammar.{WriteGrammar, WriteLaws};
 ghost use Rattle.wincode_base.specs.Lists.{items_write};
-ghost use Rattle.wincode_base.specs.Outcomes.{IsSized, Wrote, Unwritten, IsSizeRefused, IsPieceRefused};
+ghost use Rattle.wincode_base.specs.Outcomes.{IsSized, SizeRefused, WriteOutcome};
 
 mod arrays;
 mod as_forms;
@@ -31,47 +31,41 @@ pub trait SchemaWrite {
     // What contracts see of a value.
     ghost Value: { Type 0 };
 
-    ghost seen: { Self.Src → Value };
+    ghost model: { Self.Src → Value };
 
     // Which are its values.
-    ghost proper: { Self.Src → Type 0 };
+    ghost is_valid: { Self.Src → Type 0 };
 
     ghost writing: { WriteGrammar Value };
 
-    // Whether it is written in one piece: a refused write of a value that can be written adds nothing.
-    ghost in_one_piece: { Bool };
+    // What stands above the last function can be named by a quote, as in the laws of a struct.
+    ghost write_laws: { WriteLaws is_valid model writing };
 
-    /// The size that every text has, or none.
+    /// The size that every encoding has, or none.
     fn type_meta() -> TypeMeta
         ensures { result ≡ writing.meta };
 
-    /// The length, in bytes, of every text that may be written for the value. It is refused where the
+    /// The length, in bytes, of every encoding that may be written for the value. It is refused where the
     /// value can't be written or its size is past `usize::MAX`, by this crate's own schemas as
     /// `LengthEncodingOverflow`.
     fn size_of(src: &Self::Src) -> WriteResult<usize>
-        ensures ok { IfOk result (IsSized writing (seen src.now)) }
-        ensures err { IfErr result (IsSizeRefused writing (seen src.now)) };
+        ensures ok { IfOk result (IsSized writing (model src.now)) }
+        ensures err { IfErr result (SizeRefused writing (model src.now)) };
 
-    /// Writes one text of the value, where the value can be written and its size fits the room. A
-    /// refused write of a value that can be written has added a beginning of one of its texts.
+    /// Writes one encoding of the value, where the value can be written and its size fits the room. A
+    /// refused write has added what the schema's grammar says, of a value that can be written a beginning
+    /// of one of its encodings.
     fn write<W: Writer>(writer: &mut W, src: &Self::Src) -> WriteResult<()>
-        ensures ok { OnOk result (Wrote writing (W.state writer.old) (W.state writer.new) (seen src.now)) }
-        ensures value { OnOk result (proper src.now) }
-        ensures err { IfErr result (Unwritten writing (W.state writer.old) (W.state writer.new) (seen src.now)) }
-        ensures piece { IfErr result (IsPieceRefused in_one_piece writing (W.state writer.old) (W.state writer.new) (seen src.now)) };
+        ensures { WriteOutcome writing (W.state writer.old) (W.state writer.new) (model src.now) (is_valid src.now) result };
 
-    /// Writes one text of each item, one after another. Refused, where all of them can be written, it
-    /// has added a beginning of these texts joined.
+    /// Writes one encoding of each item, one after another. Refused, where all of them can be written, it
+    /// has added a beginning of these encodings joined.
     fn write_items<W: Writer>(writer: &mut W, items: &[Self::Src]) -> WriteResult<()>
-        ensures ok { OnOk result (Wrote (items_write writing) (W.state writer.old) (W.state writer.new) (map seen items.now)) }
-        ensures value { OnOk result (Each proper items.now) }
-        ensures err { IfErr result (Unwritten (items_write writing) (W.state writer.old) (W.state writer.new) (map seen items.now)) }
+        ensures { WriteOutcome (items_write writing) (W.state writer.old) (W.state writer.new) (map model items.now) (Each is_valid items.now) result }
     {
         for item in items {
             Self::write(writer, item)?;
         }
         Ok(())
     }
-
-    ghost write_laws: { WriteLaws proper seen writing };
 }

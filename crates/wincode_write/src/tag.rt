@@ -1,7 +1,7 @@
 //! How the tag is written that says which case of a value stands behind it.
-ghost use Rattle.std.specs.Prelude.{◌≤◌, true, IfErr, OnOk};
+ghost use Rattle.std.specs.Prelude.{◌≤◌, true};
 ghost use Rattle.wincode_base.specs.Leaves.{number_write};
-ghost use Rattle.wincode_base.specs.Outcomes.{Wrote, Unwritten, IsWriteDenied};
+ghost use Rattle.wincode_base.specs.Outcomes.{WriteOutcome};
 ghost use Rattle.wincode_base.specs.Tags.{greatest_tag};
 
 use crate::schema::SchemaWrite;
@@ -14,9 +14,7 @@ use wincode_io::Writer;
 /// nothing is added.
 pub fn write_tag<Tag: TagCode, W: Writer>(writer: &mut W, tag: usize) -> WriteResult<()>
     requires { tag ≤ greatest_tag Tag.size }
-    ensures ok { OnOk result (Wrote (number_write Tag.size true) (W.state writer.old) (W.state writer.new) tag) }
-    ensures err { IfErr result (Unwritten (number_write Tag.size true) (W.state writer.old) (W.state writer.new) tag) }
-    ensures refused { IfErr result (IsWriteDenied Tag.size (W.state writer.old) (W.state writer.new)) }
+    ensures { WriteOutcome (number_write Tag.size true) (W.state writer.old) (W.state writer.new) tag (Unit {0}) result }
 {
     match Tag::tag_size() {
         1 => <u8 as SchemaWrite>::write::<W>(writer, &(tag as u8)),

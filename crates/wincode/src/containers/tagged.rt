@@ -1,8 +1,8 @@
 //! `Option` and `Result` behind a tag by a scheme of choice.
-ghost use Rattle.std.specs.Prelude.{◌≡◌, false, Option, Result};
+ghost use Rattle.std.specs.Prelude.{◌≡◌, Option, Result};
 ghost use Rattle.std.specs.Option.{option_map};
 ghost use Rattle.std.specs.Result.{result_map_both};
-ghost use Rattle.wincode_base.specs.Tags.{option_read, option_write, IfPart, IsOptionRefused, result_read, result_write, IfSide, IsResultRefused};
+ghost use Rattle.wincode_base.specs.Tags.{option_read, option_write, IfPart, result_read, result_write, IfSide};
 ghost use Rattle.wincode_base.specs.TagLaws.{some_bytes, option_read_laws, option_write_laws, option_reads_back, result_read_laws, result_write_laws, result_reads_back};
 
 use crate::io::{Lending, Reader, Writer};
@@ -25,13 +25,11 @@ impl<T: SchemaWrite, Tag: TagCode> SchemaWrite for Option<T, Tag> {
 
     ghost Value = { Option T.Value };
 
-    ghost seen = { option_map T.seen };
+    ghost model = { option_map T.model };
 
-    ghost proper = { IfPart T.proper };
+    ghost is_valid = { IfPart T.is_valid };
 
     ghost writing = { option_write Tag.size T.writing };
-
-    ghost in_one_piece = { false };
 
     fn type_meta() -> TypeMeta {
         TypeMeta::Dynamic
@@ -45,7 +43,7 @@ impl<T: SchemaWrite, Tag: TagCode> SchemaWrite for Option<T, Tag> {
         write_option::<Tag, T, W>(writer, src)
     }
 
-    ghost write_laws = { option_write_laws Tag.size T.proper T.seen T.writing T.write_laws };
+    ghost write_laws = { option_write_laws Tag.size T.is_valid T.model T.writing T.write_laws };
 }
 
 impl<L: Lending, T: SchemaRead<L>, Tag: TagCode> SchemaRead<L> for Option<T, Tag> {
@@ -53,13 +51,11 @@ impl<L: Lending, T: SchemaRead<L>, Tag: TagCode> SchemaRead<L> for Option<T, Tag
 
     ghost Value = { Option T.Value };
 
-    ghost seen = { option_map T.seen };
+    ghost model = { option_map T.model };
 
-    ghost proper = { IfPart T.proper };
+    ghost is_valid = { IfPart T.is_valid };
 
     ghost reading = { option_read Tag.size T.reading };
-
-    ghost refusal = { IsOptionRefused Tag.size T.reading T.refusal };
 
     fn type_meta() -> TypeMeta {
         TypeMeta::Dynamic
@@ -80,14 +76,14 @@ impl<L: Lending, T: SchemaRead<L>, Tag: TagCode> SchemaRead<L> for Option<T, Tag
         Ok(())
     }
 
-    ghost read_laws = { option_read_laws Tag.size (some_bytes Tag.tag_law) T.proper T.reading T.read_laws };
+    ghost read_laws = { option_read_laws Tag.size (some_bytes Tag.tag_law) T.is_valid T.reading T.read_laws };
 }
 
 impl<L: Lending, T: RoundTrip<L>, Tag: TagCode> RoundTrip<L> for Option<T, Tag>
 where
     T::Src: Drop,
 {
-    ghost reads_back = { option_reads_back Tag.size T.SchemaWrite.proper T.SchemaWrite.seen T.SchemaWrite.writing T.SchemaRead.seen T.SchemaRead.reading T.reads_back };
+    ghost reads_back = { option_reads_back Tag.size T.SchemaWrite.is_valid T.SchemaWrite.model T.SchemaWrite.writing T.SchemaRead.model T.SchemaRead.reading T.reads_back };
 }
 
 /// A `Result` is such a tag, 0 for `Ok` and 1 for `Err`, and then the value or the error.
@@ -98,13 +94,11 @@ impl<T: SchemaWrite, E: SchemaWrite, Tag: TagCode> SchemaWrite for Result<T, E, 
 
     ghost Value = { Result T.Value E.Value };
 
-    ghost seen = { result_map_both T.seen E.seen };
+    ghost model = { result_map_both T.model E.model };
 
-    ghost proper = { IfSide T.proper E.proper };
+    ghost is_valid = { IfSide T.is_valid E.is_valid };
 
     ghost writing = { result_write Tag.size T.writing E.writing };
-
-    ghost in_one_piece = { false };
 
     fn type_meta() -> TypeMeta {
         result_meta(Tag::tag_size(), T::type_meta(), E::type_meta())
@@ -118,7 +112,7 @@ impl<T: SchemaWrite, E: SchemaWrite, Tag: TagCode> SchemaWrite for Result<T, E, 
         write_result::<Tag, T, E, W>(writer, src)
     }
 
-    ghost write_laws = { result_write_laws Tag.size T.proper E.proper T.seen E.seen T.writing E.writing T.write_laws E.write_laws };
+    ghost write_laws = { result_write_laws Tag.size T.is_valid E.is_valid T.model E.model T.writing E.writing T.write_laws E.write_laws };
 }
 
 impl<L: Lending, T: SchemaRead<L>, E: SchemaRead<L>, Tag: TagCode> SchemaRead<L>
@@ -127,13 +121,11 @@ impl<L: Lending, T: SchemaRead<L>, E: SchemaRead<L>, Tag: TagCode> SchemaRead<L>
 
     ghost Value = { Result T.Value E.Value };
 
-    ghost seen = { result_map_both T.seen E.seen };
+    ghost model = { result_map_both T.model E.model };
 
-    ghost proper = { IfSide T.proper E.proper };
+    ghost is_valid = { IfSide T.is_valid E.is_valid };
 
     ghost reading = { result_read Tag.size T.reading E.reading };
-
-    ghost refusal = { IsResultRefused Tag.size T.reading T.refusal E.reading E.refusal };
 
     fn type_meta() -> TypeMeta {
         result_meta(Tag::tag_size(), T::type_meta(), E::type_meta())
@@ -154,7 +146,7 @@ impl<L: Lending, T: SchemaRead<L>, E: SchemaRead<L>, Tag: TagCode> SchemaRead<L>
         Ok(())
     }
 
-    ghost read_laws = { result_read_laws Tag.size (some_bytes Tag.tag_law) T.proper E.proper T.reading E.reading T.read_laws E.read_laws };
+    ghost read_laws = { result_read_laws Tag.size (some_bytes Tag.tag_law) T.is_valid E.is_valid T.reading E.reading T.read_laws E.read_laws };
 }
 
 impl<L: Lending, T: RoundTrip<L>, E: RoundTrip<L>, Tag: TagCode> RoundTrip<L> for Result<T, E, Tag>
@@ -162,7 +154,7 @@ where
     T::Src: Drop,
     E::Src: Drop,
 {
-    ghost reads_back = { result_reads_back Tag.size T.SchemaWrite.proper E.SchemaWrite.proper T.SchemaWrite.seen
-        T.SchemaWrite.writing T.SchemaRead.seen T.SchemaRead.reading E.SchemaWrite.seen E.SchemaWrite.writing
-        E.SchemaRead.seen E.SchemaRead.reading T.reads_back E.reads_back };
+    ghost reads_back = { result_reads_back Tag.size T.SchemaWrite.is_valid E.SchemaWrite.is_valid T.SchemaWrite.model
+        T.SchemaWrite.writing T.SchemaRead.model T.SchemaRead.reading E.SchemaWrite.model E.SchemaWrite.writing
+        E.SchemaRead.model E.SchemaRead.reading T.reads_back E.reads_back };
 }

@@ -1,11 +1,11 @@
-//! One text for each value: every schema but those of maps, sets and heaps, which take their items in any order.
+//! One encoding for each value: every schema but those of maps, sets and heaps, which take their items in any order.
 ghost use Rattle.std.specs.Prelude.{true, false, max};
 ghost use Rattle.std.specs.Int.{w8, w16, w32, w64, w128};
 ghost use Rattle.wincode_io.specs.Readers.{shared, for_writing};
-ghost use Rattle.wincode_base.specs.Lengths.{bincode};
-ghost use Rattle.wincode_base.specs.Views.{form_prealloc};
-ghost use Rattle.wincode.specs.OneTextLaws.{number_one_text, signed_one_text, bool_one_text, unit_one_text, char_one_text, text_one_text, short_one_text};
-ghost use Rattle.wincode.specs.OneTextLaws.{pair_one_text, array_one_text, list_one_text, option_one_text, result_one_text, held_one_text, form_one_text, lent_one_text};
+ghost use Rattle.wincode_base.specs.Lengths.{bincode, preallocation_limit};
+ghost use Rattle.wincode_base.specs.Views.{form_prealloc, ViewReadRefused, PodReadRefused};
+ghost use Rattle.wincode.specs.OneTextLaws.{number_one_text, signed_one_text, bool_one_text, unit_one_text, char_one_text, str_one_text, short_one_text};
+ghost use Rattle.wincode.specs.OneTextLaws.{pair_one_text, windowed_one_text, array_one_text, list_one_text, option_one_text, result_one_text, boxed_one_text, form_one_text, lent_one_text};
 
 use crate::containers::{self, Pod};
 use crate::io::{Borrowed, Lending, SliceView, View, ZeroCopy};
@@ -81,11 +81,11 @@ impl<L: Lending, T> OneText<L> for PhantomData<T> {
 }
 
 impl<L: Lending> OneText<L> for String {
-    ghost one_text = { text_one_text 24 0 false };
+    ghost one_text = { str_one_text 24 0 false };
 }
 
 impl<'s, L: Lending> OneText<L> for &'s str {
-    ghost one_text = { text_one_text 16 1 true };
+    ghost one_text = { str_one_text 16 1 true };
 }
 
 impl<L: Lending> OneText<L> for ShortU16 {
@@ -110,23 +110,23 @@ impl<L: Lending, T: OneText<L>, E: OneText<L>, Tag: TagCode> OneText<L>
 }
 
 impl<L: Lending, T: OneText<L>> OneText<L> for Box<T> {
-    ghost one_text = { held_one_text T.one_text };
+    ghost one_text = { boxed_one_text T.one_text };
 }
 
 impl<L: Lending, T: OneText<L>> OneText<L> for Rc<T> {
-    ghost one_text = { held_one_text T.one_text };
+    ghost one_text = { boxed_one_text T.one_text };
 }
 
 impl<L: Lending, T: OneText<L>> OneText<L> for Vec<T> {
-    ghost one_text = { list_one_text (bincode 4194304) 24 T.one_text };
+    ghost one_text = { list_one_text (bincode preallocation_limit) 24 T.one_text };
 }
 
 impl<L: Lending, T: OneText<L>> OneText<L> for VecDeque<T> {
-    ghost one_text = { list_one_text (bincode 4194304) 24 T.one_text };
+    ghost one_text = { list_one_text (bincode preallocation_limit) 24 T.one_text };
 }
 
 impl<L: Lending, T: OneText<L>> OneText<L> for LinkedList<T> {
-    ghost one_text = { list_one_text (bincode 4194304) 24 T.one_text };
+    ghost one_text = { list_one_text (bincode preallocation_limit) 24 T.one_text };
 }
 
 impl<L: Lending, T: OneText<L>, Len: SeqLen> OneText<L> for containers::Vec<T, Len> {
@@ -150,26 +150,26 @@ impl<L: Lending, T: OneText<L>> OneText<L> for containers::Elem<T> {
 }
 
 impl<L: Lending, T: OneText<L>, const N: usize> OneText<L> for [T; N] {
-    ghost one_text = { array_one_text N T.one_text };
+    ghost one_text = { windowed_one_text (array_one_text N T.one_text) };
 }
 
 impl<L: Lending, A: OneText<L>, B: OneText<L>> OneText<L> for (A, B) {
-    ghost one_text = { pair_one_text A.one_text B.one_text };
+    ghost one_text = { windowed_one_text (pair_one_text A.one_text B.one_text) };
 }
 
 impl<L: Lending, A: OneText<L>, B: OneText<L>, C: OneText<L>> OneText<L> for (A, B, C) {
-    ghost one_text = { pair_one_text A.one_text (pair_one_text B.one_text C.one_text) };
+    ghost one_text = { windowed_one_text (pair_one_text A.one_text (pair_one_text B.one_text C.one_text)) };
 }
 
 impl<L: Lending, A: OneText<L>, B: OneText<L>, C: OneText<L>, D: OneText<L>> OneText<L>
     for (A, B, C, D) {
-    ghost one_text = { pair_one_text A.one_text (pair_one_text B.one_text (pair_one_text C.one_text D.one_text)) };
+    ghost one_text = { windowed_one_text (pair_one_text A.one_text (pair_one_text B.one_text (pair_one_text C.one_text D.one_text))) };
 }
 
 impl<L: Lending, A: OneText<L>, B: OneText<L>, C: OneText<L>, D: OneText<L>, E: OneText<L>> OneText<
     L,
 > for (A, B, C, D, E) {
-    ghost one_text = { pair_one_text A.one_text (pair_one_text B.one_text (pair_one_text C.one_text (pair_one_text D.one_text E.one_text))) };
+    ghost one_text = { windowed_one_text (pair_one_text A.one_text (pair_one_text B.one_text (pair_one_text C.one_text (pair_one_text D.one_text E.one_text)))) };
 }
 
 impl<
@@ -181,7 +181,7 @@ impl<
     E: OneText<L>,
     F: OneText<L>,
 > OneText<L> for (A, B, C, D, E, F) {
-    ghost one_text = { pair_one_text A.one_text (pair_one_text B.one_text (pair_one_text C.one_text (pair_one_text D.one_text (pair_one_text E.one_text F.one_text)))) };
+    ghost one_text = { windowed_one_text (pair_one_text A.one_text (pair_one_text B.one_text (pair_one_text C.one_text (pair_one_text D.one_text (pair_one_text E.one_text F.one_text))))) };
 }
 
 impl<
@@ -194,8 +194,8 @@ impl<
     F: OneText<L>,
     G: OneText<L>,
 > OneText<L> for (A, B, C, D, E, F, G) {
-    ghost one_text = { pair_one_text A.one_text (pair_one_text B.one_text (pair_one_text C.one_text (pair_one_text D.one_text (pair_one_text E.one_text
-        (pair_one_text F.one_text G.one_text))))) };
+    ghost one_text = { windowed_one_text (pair_one_text A.one_text (pair_one_text B.one_text (pair_one_text C.one_text (pair_one_text D.one_text (pair_one_text E.one_text
+        (pair_one_text F.one_text G.one_text)))))) };
 }
 
 impl<
@@ -209,8 +209,8 @@ impl<
     G: OneText<L>,
     H: OneText<L>,
 > OneText<L> for (A, B, C, D, E, F, G, H) {
-    ghost one_text = { pair_one_text A.one_text (pair_one_text B.one_text (pair_one_text C.one_text (pair_one_text D.one_text (pair_one_text E.one_text
-        (pair_one_text F.one_text (pair_one_text G.one_text H.one_text)))))) };
+    ghost one_text = { windowed_one_text (pair_one_text A.one_text (pair_one_text B.one_text (pair_one_text C.one_text (pair_one_text D.one_text (pair_one_text E.one_text
+        (pair_one_text F.one_text (pair_one_text G.one_text H.one_text))))))) };
 }
 
 impl<
@@ -225,8 +225,8 @@ impl<
     H: OneText<L>,
     I: OneText<L>,
 > OneText<L> for (A, B, C, D, E, F, G, H, I) {
-    ghost one_text = { pair_one_text A.one_text (pair_one_text B.one_text (pair_one_text C.one_text (pair_one_text D.one_text (pair_one_text E.one_text
-        (pair_one_text F.one_text (pair_one_text G.one_text (pair_one_text H.one_text I.one_text))))))) };
+    ghost one_text = { windowed_one_text (pair_one_text A.one_text (pair_one_text B.one_text (pair_one_text C.one_text (pair_one_text D.one_text (pair_one_text E.one_text
+        (pair_one_text F.one_text (pair_one_text G.one_text (pair_one_text H.one_text I.one_text)))))))) };
 }
 
 impl<
@@ -242,8 +242,8 @@ impl<
     I: OneText<L>,
     J: OneText<L>,
 > OneText<L> for (A, B, C, D, E, F, G, H, I, J) {
-    ghost one_text = { pair_one_text A.one_text (pair_one_text B.one_text (pair_one_text C.one_text (pair_one_text D.one_text (pair_one_text E.one_text
-        (pair_one_text F.one_text (pair_one_text G.one_text (pair_one_text H.one_text (pair_one_text I.one_text J.one_text)))))))) };
+    ghost one_text = { windowed_one_text (pair_one_text A.one_text (pair_one_text B.one_text (pair_one_text C.one_text (pair_one_text D.one_text (pair_one_text E.one_text
+        (pair_one_text F.one_text (pair_one_text G.one_text (pair_one_text H.one_text (pair_one_text I.one_text J.one_text))))))))) };
 }
 
 impl<
@@ -260,8 +260,8 @@ impl<
     J: OneText<L>,
     K: OneText<L>,
 > OneText<L> for (A, B, C, D, E, F, G, H, I, J, K) {
-    ghost one_text = { pair_one_text A.one_text (pair_one_text B.one_text (pair_one_text C.one_text (pair_one_text D.one_text (pair_one_text E.one_text
-        (pair_one_text F.one_text (pair_one_text G.one_text (pair_one_text H.one_text (pair_one_text I.one_text (pair_one_text J.one_text K.one_text))))))))) };
+    ghost one_text = { windowed_one_text (pair_one_text A.one_text (pair_one_text B.one_text (pair_one_text C.one_text (pair_one_text D.one_text (pair_one_text E.one_text
+        (pair_one_text F.one_text (pair_one_text G.one_text (pair_one_text H.one_text (pair_one_text I.one_text (pair_one_text J.one_text K.one_text)))))))))) };
 }
 
 impl<
@@ -279,26 +279,26 @@ impl<
     K: OneText<L>,
     M: OneText<L>,
 > OneText<L> for (A, B, C, D, E, F, G, H, I, J, K, M) {
-    ghost one_text = { pair_one_text A.one_text (pair_one_text B.one_text (pair_one_text C.one_text (pair_one_text D.one_text (pair_one_text E.one_text
-        (pair_one_text F.one_text (pair_one_text G.one_text (pair_one_text H.one_text (pair_one_text I.one_text (pair_one_text J.one_text (pair_one_text K.one_text M.one_text)))))))))) };
+    ghost one_text = { windowed_one_text (pair_one_text A.one_text (pair_one_text B.one_text (pair_one_text C.one_text (pair_one_text D.one_text (pair_one_text E.one_text
+        (pair_one_text F.one_text (pair_one_text G.one_text (pair_one_text H.one_text (pair_one_text I.one_text (pair_one_text J.one_text (pair_one_text K.one_text M.one_text))))))))))) };
 }
 
 impl<L: Lending, T: ZeroCopy> OneText<L> for Pod<T> {
-    ghost one_text = { form_one_text T.proper T.size T.form true (form_prealloc T.size) 0 };
+    ghost one_text = { form_one_text T.is_valid T.size T.form true (form_prealloc T.size) 0 (PodReadRefused T.size) };
 }
 
 impl<L: Lending, B: Borrowed<L>, T: ZeroCopy> OneText<L> for View<B, T> {
-    ghost one_text = { form_one_text T.proper T.size T.form false 8 B.asks };
+    ghost one_text = { form_one_text T.is_valid T.size T.form false 8 B.borrow (ViewReadRefused B.borrow T.size) };
 }
 
 impl<L: Lending, B: Borrowed<L>, T: ZeroCopy> OneText<L> for SliceView<B, T> {
-    ghost one_text = { lent_one_text B.asks (form_one_text T.proper T.size T.form true (max T.size 1) 0) };
+    ghost one_text = { lent_one_text B.borrow T.size (form_one_text T.is_valid T.size T.form true (max T.size 1) 0 (ViewReadRefused 0 T.size)) };
 }
 
 impl<'s, L: Lending> OneText<L> for &'s [u8] {
-    ghost one_text = { lent_one_text shared (number_one_text 1 true) };
+    ghost one_text = { lent_one_text shared 1 (number_one_text 1 true) };
 }
 
 impl<'s, L: Lending> OneText<L> for &'s mut [u8] {
-    ghost one_text = { lent_one_text for_writing (number_one_text 1 true) };
+    ghost one_text = { lent_one_text for_writing 1 (number_one_text 1 true) };
 }

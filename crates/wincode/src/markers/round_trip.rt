@@ -6,18 +6,19 @@ ghost use Rattle.wincode_io.specs.Readers.{shared};
 ghost use Rattle.wincode_io.specs.Viewed.{value_seen, values_seen};
 ghost use Rattle.wincode_base.specs.ArrayLaws.{array_reads_back};
 ghost use Rattle.wincode_base.specs.BackLaws.{map_reads_back, set_reads_back, hash_map_reads_back, hash_set_reads_back, heap_reads_back};
-ghost use Rattle.wincode_base.specs.HeldLaws.{held_reads_back};
+ghost use Rattle.wincode_base.specs.BoxedLaws.{boxed_reads_back};
 ghost use Rattle.wincode_base.specs.LeafLaws.{bool_reads_back, unit_reads_back, number_reads_back, signed_reads_back};
 ghost use Rattle.wincode_base.specs.Leaves.{number_read, number_write};
 ghost use Rattle.wincode_base.specs.LengthLaws.{bincode_laws};
-ghost use Rattle.wincode_base.specs.Lengths.{bincode};
+ghost use Rattle.wincode_base.specs.Lengths.{bincode, preallocation_limit};
 ghost use Rattle.wincode_base.specs.ListLaws.{list_reads_back};
-ghost use Rattle.wincode_base.specs.PairLaws.{pair_reads_back, reads_back_by};
+ghost use Rattle.wincode_base.specs.PairLaws.{pair_reads_back, reads_back_by, windowed_reads_back};
 ghost use Rattle.wincode_base.specs.ShortLaws.{short_reads_back};
+ghost use Rattle.wincode_base.specs.ItemSizes.{item_size, pair_size};
 ghost use Rattle.wincode_base.specs.TagLaws.{option_reads_back, result_reads_back};
-ghost use Rattle.wincode_base.specs.TextLaws.{char_reads_back, text_reads_back};
-ghost use Rattle.wincode_base.specs.ViewLaws.{form_reads_back, lent_reads_back, lent_reads_back_seen};
-ghost use Rattle.wincode_base.specs.Views.{form_prealloc, counted_read, counted_write};
+ghost use Rattle.wincode_base.specs.StringLaws.{char_reads_back, str_reads_back};
+ghost use Rattle.wincode_base.specs.ViewLaws.{form_reads_back, lent_reads_back, lent_reads_back_model};
+ghost use Rattle.wincode_base.specs.Views.{form_prealloc, form_item_read, form_item_write};
 
 use crate::markers::RoundTrip;
 use std::collections::{BTreeMap, BTreeSet, BinaryHeap, HashMap, HashSet, LinkedList, VecDeque};
@@ -96,34 +97,34 @@ impl<L: Lending> RoundTrip<L> for char {
 }
 
 impl<L: Lending> RoundTrip<L> for String {
-    ghost reads_back = { text_reads_back 24 0 false (λ s. string_bytes s) };
+    ghost reads_back = { str_reads_back 24 0 false (λ s. string_bytes s) };
 }
 
 impl<'a> RoundTrip<Lifetime<'a>> for &'a str {
-    ghost reads_back = { text_reads_back 16 1 true (λ s. s.now) };
+    ghost reads_back = { str_reads_back 16 1 true (λ s. s.now) };
 }
 
 impl<L: Lending, T: RoundTrip<L>> RoundTrip<L> for Box<T>
 where
     T::Src: Drop,
 {
-    ghost reads_back = { held_reads_back (λ held. held.value) T.SchemaWrite.proper T.SchemaWrite.seen
-        T.SchemaWrite.writing T.SchemaRead.seen T.SchemaRead.reading T.reads_back };
+    ghost reads_back = { boxed_reads_back (λ held. held.value) T.SchemaWrite.is_valid T.SchemaWrite.model
+        T.SchemaWrite.writing T.SchemaRead.model T.SchemaRead.reading T.reads_back };
 }
 
 impl<L: Lending, T: RoundTrip<L>> RoundTrip<L> for Rc<T>
 where
     T::Src: Drop,
 {
-    ghost reads_back = { held_reads_back (λ held. held.value) T.SchemaWrite.proper T.SchemaWrite.seen
-        T.SchemaWrite.writing T.SchemaRead.seen T.SchemaRead.reading T.reads_back };
+    ghost reads_back = { boxed_reads_back (λ held. held.value) T.SchemaWrite.is_valid T.SchemaWrite.model
+        T.SchemaWrite.writing T.SchemaRead.model T.SchemaRead.reading T.reads_back };
 }
 
 impl<L: Lending, T: RoundTrip<L>> RoundTrip<L> for Option<T>
 where
     T::Src: Drop,
 {
-    ghost reads_back = { option_reads_back 1 T.SchemaWrite.proper T.SchemaWrite.seen T.SchemaWrite.writing T.SchemaRead.seen T.SchemaRead.reading T.reads_back };
+    ghost reads_back = { option_reads_back 1 T.SchemaWrite.is_valid T.SchemaWrite.model T.SchemaWrite.writing T.SchemaRead.model T.SchemaRead.reading T.reads_back };
 }
 
 impl<L: Lending, T: RoundTrip<L>, E: RoundTrip<L>> RoundTrip<L> for Result<T, E>
@@ -131,16 +132,16 @@ where
     T::Src: Drop,
     E::Src: Drop,
 {
-    ghost reads_back = { result_reads_back 4 T.SchemaWrite.proper E.SchemaWrite.proper T.SchemaWrite.seen
-        T.SchemaWrite.writing T.SchemaRead.seen T.SchemaRead.reading E.SchemaWrite.seen E.SchemaWrite.writing
-        E.SchemaRead.seen E.SchemaRead.reading T.reads_back E.reads_back };
+    ghost reads_back = { result_reads_back 4 T.SchemaWrite.is_valid E.SchemaWrite.is_valid T.SchemaWrite.model
+        T.SchemaWrite.writing T.SchemaRead.model T.SchemaRead.reading E.SchemaWrite.model E.SchemaWrite.writing
+        E.SchemaRead.model E.SchemaRead.reading T.reads_back E.reads_back };
 }
 
 impl<L: Lending, T: RoundTrip<L>, const N: usize> RoundTrip<L> for [T; N]
 where
     T::Src: Drop,
 {
-    ghost reads_back = { array_reads_back N T.SchemaWrite.proper T.SchemaWrite.seen T.SchemaWrite.writing T.SchemaRead.seen T.SchemaRead.reading T.reads_back };
+    ghost reads_back = { windowed_reads_back (array_reads_back N T.SchemaWrite.is_valid T.SchemaWrite.model T.SchemaWrite.writing T.SchemaRead.model T.SchemaRead.reading T.reads_back) };
 }
 
 impl<L: Lending, A: RoundTrip<L>, B: RoundTrip<L>> RoundTrip<L> for (A, B)
@@ -148,7 +149,7 @@ where
     A::Src: Drop,
     B::Src: Drop,
 {
-    ghost reads_back = { reads_back_by (λ t. (t.0, t.1)) (pair_reads_back A.reads_back B.reads_back) };
+    ghost reads_back = { reads_back_by (λ t. (t.0, t.1)) (windowed_reads_back (pair_reads_back A.reads_back B.reads_back)) };
 }
 
 impl<L: Lending, A: RoundTrip<L>, B: RoundTrip<L>, C: RoundTrip<L>> RoundTrip<L> for (A, B, C)
@@ -157,8 +158,8 @@ where
     B::Src: Drop,
     C::Src: Drop,
 {
-    ghost reads_back = { reads_back_by (λ t. (t.0, (t.1, t.2))) (pair_reads_back A.reads_back (pair_reads_back
-        B.reads_back C.reads_back)) };
+    ghost reads_back = { reads_back_by (λ t. (t.0, (t.1, t.2))) (windowed_reads_back (pair_reads_back A.reads_back (pair_reads_back
+        B.reads_back C.reads_back))) };
 }
 
 impl<L: Lending, A: RoundTrip<L>, B: RoundTrip<L>, C: RoundTrip<L>, D: RoundTrip<L>> RoundTrip<L>
@@ -169,8 +170,8 @@ where
     C::Src: Drop,
     D::Src: Drop,
 {
-    ghost reads_back = { reads_back_by (λ t. (t.0, (t.1, (t.2, t.3)))) (pair_reads_back A.reads_back (pair_reads_back
-        B.reads_back (pair_reads_back C.reads_back D.reads_back))) };
+    ghost reads_back = { reads_back_by (λ t. (t.0, (t.1, (t.2, t.3)))) (windowed_reads_back (pair_reads_back A.reads_back (pair_reads_back
+        B.reads_back (pair_reads_back C.reads_back D.reads_back)))) };
 }
 
 impl<
@@ -188,8 +189,8 @@ where
     D::Src: Drop,
     E::Src: Drop,
 {
-    ghost reads_back = { reads_back_by (λ t. (t.0, (t.1, (t.2, (t.3, t.4))))) (pair_reads_back A.reads_back
-        (pair_reads_back B.reads_back (pair_reads_back C.reads_back (pair_reads_back D.reads_back E.reads_back)))) };
+    ghost reads_back = { reads_back_by (λ t. (t.0, (t.1, (t.2, (t.3, t.4))))) (windowed_reads_back (pair_reads_back A.reads_back
+        (pair_reads_back B.reads_back (pair_reads_back C.reads_back (pair_reads_back D.reads_back E.reads_back))))) };
 }
 
 impl<
@@ -209,9 +210,9 @@ where
     E::Src: Drop,
     F::Src: Drop,
 {
-    ghost reads_back = { reads_back_by (λ t. (t.0, (t.1, (t.2, (t.3, (t.4, t.5)))))) (pair_reads_back A.reads_back
+    ghost reads_back = { reads_back_by (λ t. (t.0, (t.1, (t.2, (t.3, (t.4, t.5)))))) (windowed_reads_back (pair_reads_back A.reads_back
         (pair_reads_back B.reads_back (pair_reads_back C.reads_back (pair_reads_back D.reads_back (pair_reads_back
-        E.reads_back F.reads_back))))) };
+        E.reads_back F.reads_back)))))) };
 }
 
 impl<
@@ -233,9 +234,9 @@ where
     F::Src: Drop,
     G::Src: Drop,
 {
-    ghost reads_back = { reads_back_by (λ t. (t.0, (t.1, (t.2, (t.3, (t.4, (t.5, t.6))))))) (pair_reads_back
+    ghost reads_back = { reads_back_by (λ t. (t.0, (t.1, (t.2, (t.3, (t.4, (t.5, t.6))))))) (windowed_reads_back (pair_reads_back
         A.reads_back (pair_reads_back B.reads_back (pair_reads_back C.reads_back (pair_reads_back D.reads_back
-        (pair_reads_back E.reads_back (pair_reads_back F.reads_back G.reads_back)))))) };
+        (pair_reads_back E.reads_back (pair_reads_back F.reads_back G.reads_back))))))) };
 }
 
 impl<
@@ -259,9 +260,9 @@ where
     G::Src: Drop,
     H::Src: Drop,
 {
-    ghost reads_back = { reads_back_by (λ t. (t.0, (t.1, (t.2, (t.3, (t.4, (t.5, (t.6, t.7)))))))) (pair_reads_back
+    ghost reads_back = { reads_back_by (λ t. (t.0, (t.1, (t.2, (t.3, (t.4, (t.5, (t.6, t.7)))))))) (windowed_reads_back (pair_reads_back
         A.reads_back (pair_reads_back B.reads_back (pair_reads_back C.reads_back (pair_reads_back D.reads_back
-        (pair_reads_back E.reads_back (pair_reads_back F.reads_back (pair_reads_back G.reads_back H.reads_back))))))) };
+        (pair_reads_back E.reads_back (pair_reads_back F.reads_back (pair_reads_back G.reads_back H.reads_back)))))))) };
 }
 
 impl<
@@ -288,9 +289,9 @@ where
     I::Src: Drop,
 {
     ghost reads_back = { reads_back_by (λ t. (t.0, (t.1, (t.2, (t.3, (t.4, (t.5, (t.6, (t.7, t.8)))))))))
-        (pair_reads_back A.reads_back (pair_reads_back B.reads_back (pair_reads_back C.reads_back (pair_reads_back
+        (windowed_reads_back (pair_reads_back A.reads_back (pair_reads_back B.reads_back (pair_reads_back C.reads_back (pair_reads_back
         D.reads_back (pair_reads_back E.reads_back (pair_reads_back F.reads_back (pair_reads_back G.reads_back
-        (pair_reads_back H.reads_back I.reads_back)))))))) };
+        (pair_reads_back H.reads_back I.reads_back))))))))) };
 }
 
 impl<
@@ -319,9 +320,9 @@ where
     J::Src: Drop,
 {
     ghost reads_back = { reads_back_by (λ t. (t.0, (t.1, (t.2, (t.3, (t.4, (t.5, (t.6, (t.7, (t.8, t.9))))))))))
-        (pair_reads_back A.reads_back (pair_reads_back B.reads_back (pair_reads_back C.reads_back (pair_reads_back
+        (windowed_reads_back (pair_reads_back A.reads_back (pair_reads_back B.reads_back (pair_reads_back C.reads_back (pair_reads_back
         D.reads_back (pair_reads_back E.reads_back (pair_reads_back F.reads_back (pair_reads_back G.reads_back
-        (pair_reads_back H.reads_back (pair_reads_back I.reads_back J.reads_back))))))))) };
+        (pair_reads_back H.reads_back (pair_reads_back I.reads_back J.reads_back)))))))))) };
 }
 
 impl<
@@ -381,10 +382,10 @@ where
           ),
         ),
       ),
-    )) (pair_reads_back A.reads_back (pair_reads_back B.reads_back (pair_reads_back C.reads_back
+    )) (windowed_reads_back (pair_reads_back A.reads_back (pair_reads_back B.reads_back (pair_reads_back C.reads_back
         (pair_reads_back D.reads_back (pair_reads_back E.reads_back (pair_reads_back F.reads_back (pair_reads_back
         G.reads_back (pair_reads_back H.reads_back (pair_reads_back I.reads_back (pair_reads_back J.reads_back
-        K.reads_back)))))))))) };
+        K.reads_back))))))))))) };
 }
 
 impl<
@@ -449,18 +450,18 @@ where
           ),
         ),
       ),
-    )) (pair_reads_back A.reads_back (pair_reads_back B.reads_back (pair_reads_back C.reads_back
+    )) (windowed_reads_back (pair_reads_back A.reads_back (pair_reads_back B.reads_back (pair_reads_back C.reads_back
         (pair_reads_back D.reads_back (pair_reads_back E.reads_back (pair_reads_back F.reads_back (pair_reads_back
         G.reads_back (pair_reads_back H.reads_back (pair_reads_back I.reads_back (pair_reads_back J.reads_back
-        (pair_reads_back K.reads_back M.reads_back))))))))))) };
+        (pair_reads_back K.reads_back M.reads_back)))))))))))) };
 }
 
 impl<L: Lending, T: RoundTrip<L>> RoundTrip<L> for Vec<T>
 where
     T::Src: Drop,
 {
-    ghost reads_back = { list_reads_back (bincode 4194304) (bincode_laws 4194304) 24 (λ v. v.items)
-        T.SchemaWrite.proper T.SchemaWrite.seen T.SchemaWrite.writing T.SchemaRead.seen T.SchemaRead.reading
+    ghost reads_back = { list_reads_back (bincode preallocation_limit) (bincode_laws preallocation_limit) 24 (λ v. v.items)
+        T.SchemaWrite.is_valid T.SchemaWrite.model T.SchemaWrite.writing T.SchemaRead.model T.SchemaRead.reading
         T.reads_back };
 }
 
@@ -468,8 +469,8 @@ impl<L: Lending, T: RoundTrip<L>> RoundTrip<L> for VecDeque<T>
 where
     T::Src: Drop,
 {
-    ghost reads_back = { list_reads_back (bincode 4194304) (bincode_laws 4194304) 24 (λ q. q.items)
-        T.SchemaWrite.proper T.SchemaWrite.seen T.SchemaWrite.writing T.SchemaRead.seen T.SchemaRead.reading
+    ghost reads_back = { list_reads_back (bincode preallocation_limit) (bincode_laws preallocation_limit) 24 (λ q. q.items)
+        T.SchemaWrite.is_valid T.SchemaWrite.model T.SchemaWrite.writing T.SchemaRead.model T.SchemaRead.reading
         T.reads_back };
 }
 
@@ -477,8 +478,8 @@ impl<L: Lending, T: RoundTrip<L>> RoundTrip<L> for LinkedList<T>
 where
     T::Src: Drop,
 {
-    ghost reads_back = { list_reads_back (bincode 4194304) (bincode_laws 4194304) 24 (λ l. l)
-        T.SchemaWrite.proper T.SchemaWrite.seen T.SchemaWrite.writing T.SchemaRead.seen T.SchemaRead.reading
+    ghost reads_back = { list_reads_back (bincode preallocation_limit) (bincode_laws preallocation_limit) 24 (λ l. l)
+        T.SchemaWrite.is_valid T.SchemaWrite.model T.SchemaWrite.writing T.SchemaRead.model T.SchemaRead.reading
         T.reads_back };
 }
 
@@ -487,9 +488,9 @@ where
     K::Src: Ord + Drop,
     V::Src: Drop,
 {
-    ghost reads_back = { map_reads_back K.Src.cmp K.Src.Ord.total K.SchemaWrite.proper V.SchemaWrite.proper
-        K.SchemaWrite.seen K.SchemaWrite.writing K.SchemaRead.seen K.SchemaRead.reading
-        V.SchemaWrite.seen V.SchemaWrite.writing V.SchemaRead.seen V.SchemaRead.reading K.reads_back V.reads_back };
+    ghost reads_back = { map_reads_back (pair_size K.SchemaRead.reading.meta V.SchemaRead.reading.meta) K.Src.cmp K.Src.Ord.total K.SchemaWrite.is_valid V.SchemaWrite.is_valid
+        K.SchemaWrite.model K.SchemaWrite.writing K.SchemaRead.model K.SchemaRead.reading
+        V.SchemaWrite.model V.SchemaWrite.writing V.SchemaRead.model V.SchemaRead.reading K.reads_back V.reads_back };
 }
 
 impl<L: Lending, K: RoundTrip<L> + Key<L> + Eq + Hash, V: RoundTrip<L>> RoundTrip<L>
@@ -498,33 +499,33 @@ where
     K::Src: Eq + Hash + Drop,
     V::Src: Drop,
 {
-    ghost reads_back = { hash_map_reads_back K.Src.eq K.Src.Eq.laws K.SchemaWrite.proper V.SchemaWrite.proper
-        K.SchemaWrite.seen K.SchemaWrite.writing K.SchemaRead.seen K.SchemaRead.reading
-        V.SchemaWrite.seen V.SchemaWrite.writing V.SchemaRead.seen V.SchemaRead.reading K.reads_back V.reads_back };
+    ghost reads_back = { hash_map_reads_back (pair_size K.SchemaRead.reading.meta V.SchemaRead.reading.meta) K.Src.eq K.Src.Eq.laws K.SchemaWrite.is_valid V.SchemaWrite.is_valid
+        K.SchemaWrite.model K.SchemaWrite.writing K.SchemaRead.model K.SchemaRead.reading
+        V.SchemaWrite.model V.SchemaWrite.writing V.SchemaRead.model V.SchemaRead.reading K.reads_back V.reads_back };
 }
 
 impl<L: Lending, K: RoundTrip<L> + Key<L> + Ord> RoundTrip<L> for BTreeSet<K>
 where
     K::Src: Ord + Drop,
 {
-    ghost reads_back = { set_reads_back K.Src.cmp K.Src.Ord.total K.SchemaWrite.proper
-        K.SchemaWrite.seen K.SchemaWrite.writing K.SchemaRead.seen K.SchemaRead.reading K.reads_back };
+    ghost reads_back = { set_reads_back (item_size K.SchemaRead.reading.meta) K.Src.cmp K.Src.Ord.total K.SchemaWrite.is_valid
+        K.SchemaWrite.model K.SchemaWrite.writing K.SchemaRead.model K.SchemaRead.reading K.reads_back };
 }
 
 impl<L: Lending, K: RoundTrip<L> + Key<L> + Eq + Hash> RoundTrip<L> for HashSet<K>
 where
     K::Src: Eq + Hash + Drop,
 {
-    ghost reads_back = { hash_set_reads_back K.Src.eq K.Src.Eq.laws K.SchemaWrite.proper
-        K.SchemaWrite.seen K.SchemaWrite.writing K.SchemaRead.seen K.SchemaRead.reading K.reads_back };
+    ghost reads_back = { hash_set_reads_back (item_size K.SchemaRead.reading.meta) K.Src.eq K.Src.Eq.laws K.SchemaWrite.is_valid
+        K.SchemaWrite.model K.SchemaWrite.writing K.SchemaRead.model K.SchemaRead.reading K.reads_back };
 }
 
 impl<L: Lending, T: RoundTrip<L> + Told<L> + Ord> RoundTrip<L> for BinaryHeap<T>
 where
     T::Src: Ord + Drop,
 {
-    ghost reads_back = { heap_reads_back (bincode 4194304) (bincode_laws 4194304) heap_items T.told T.SchemaWrite.proper
-        T.SchemaWrite.seen T.SchemaWrite.writing T.SchemaRead.seen T.SchemaRead.reading T.reads_back };
+    ghost reads_back = { heap_reads_back (item_size T.SchemaRead.reading.meta) (bincode preallocation_limit) (bincode_laws preallocation_limit) heap_items T.told T.SchemaWrite.is_valid
+        T.SchemaWrite.model T.SchemaWrite.writing T.SchemaRead.model T.SchemaRead.reading T.reads_back };
 }
 
 impl<L: Lending, T: ZeroCopy> RoundTrip<L> for Pod<T> {
@@ -536,13 +537,13 @@ impl<'a, T: ZeroCopy> RoundTrip<Lifetime<'a>> for View<&'a [u8], T> {
 }
 
 impl<'a, T: ZeroCopy> RoundTrip<Lifetime<'a>> for SliceView<&'a [u8], T> {
-    ghost reads_back = { lent_reads_back shared (λ v. values_seen v) T.proper
-        (counted_write T.proper T.size T.form) (counted_read T.proper T.size T.form)
+    ghost reads_back = { lent_reads_back shared T.size (λ v. values_seen v) T.is_valid
+        (form_item_write T.is_valid T.size T.form) (form_item_read T.is_valid T.size T.form)
         (form_reads_back (λ v. v) true (max T.size 1) 0) };
 }
 
 impl<'a> RoundTrip<Lifetime<'a>> for &'a [u8] {
-    ghost reads_back = { lent_reads_back_seen shared (λ s. s.now) (λ v. v < 256 ^ 1) (number_write 1 true) (number_read 1 true)
+    ghost reads_back = { lent_reads_back_model shared 1 (λ s. s.now) (λ v. v < 256 ^ 1) (number_write 1 true) (number_read 1 true)
         (number_reads_back 1 true) };
 }
 

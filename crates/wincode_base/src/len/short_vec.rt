@@ -1,10 +1,10 @@
 //! Numbers below 2 to the 16 in one to three bytes, as lengths and as values.
-ghost use Rattle.std.specs.Prelude.{◌≡◌, ◌<◌, length, true, IfOk, IfErr, OnOk, MatchOption};
-ghost use Rattle.wincode_io.specs.ShortNumbers.{short_text, BeginsShort, BeginsNoShort};
-ghost use Rattle.wincode_io.specs.Writers.{Added, IsWriteRefused};
-ghost use Rattle.wincode_base.specs.Lengths.{IsTextless};
-ghost use Rattle.wincode_base.specs.Outcomes.{Gives, Refuses};
-ghost use Rattle.wincode_base.specs.Short.{short_read, short_scheme, IsShortRefused};
+ghost use Rattle.std.specs.Prelude.{◌≡◌, length, IfOk, IfErr, OnOk, MatchOption};
+ghost use Rattle.wincode_io.specs.ShortNumbers.{short_encoding, BeginsShort, BeginsNoShort};
+ghost use Rattle.wincode_io.specs.Writers.{Added, BytesWriteRefused};
+ghost use Rattle.wincode_base.specs.Lengths.{LengthSizeRefused};
+ghost use Rattle.wincode_base.specs.Outcomes.{GetOutcome};
+ghost use Rattle.wincode_base.specs.Short.{short_read, short_scheme};
 ghost use Rattle.wincode_base.specs.ShortLaws.{short_scheme_laws};
 
 use crate::error::{
@@ -50,7 +50,7 @@ fn short_in_front(bytes: &[u8]) -> Option<u16>
 
 /// The length of a short number, in bytes.
 pub fn short_size(value: u16) -> usize
-    ensures { result ≡ length (short_text value) }
+    ensures { result ≡ length (short_encoding value) }
 {
     if value < 128 {
         1
@@ -63,9 +63,7 @@ pub fn short_size(value: u16) -> usize
 
 /// The short number that the reader has in front, which is then gone. Refused, all bytes stay.
 pub fn take_short<L: Lending, R: Reader<L>>(reader: &mut R) -> ReadResult<u16>
-    ensures ok { IfOk result (λ n. Gives short_read.reads (R.state reader.old) (R.state reader.new) n) }
-    ensures err { IfErr result (Refuses short_read.reads 0 true (R.state reader.old) (R.state reader.new)) }
-    ensures refused { IfErr result (IsShortRefused (R.state reader.old) (R.state reader.new)) }
+    ensures { GetOutcome short_read (λ n. n) (R.state reader.old) (R.state reader.new) result }
 {
     let bytes = reader.fill_buf(3)?;
     match short_in_front(bytes) {
@@ -79,8 +77,8 @@ pub fn take_short<L: Lending, R: Reader<L>>(reader: &mut R) -> ReadResult<u16>
 
 /// Writes a short number, in one piece.
 pub fn write_short<W: Writer>(writer: &mut W, value: u16) -> io::WriteResult<()>
-    ensures ok { OnOk result (Added (short_text value) (W.state writer.old) (W.state writer.new)) }
-    ensures err { IfErr result (IsWriteRefused (length (short_text value)) (W.state writer.old) (W.state writer.new)) }
+    ensures ok { OnOk result (Added (short_encoding value) (W.state writer.old) (W.state writer.new)) }
+    ensures err { IfErr result (BytesWriteRefused (length (short_encoding value)) (W.state writer.old) (W.state writer.new)) }
 {
     if value < 128 {
         return writer.write(&[value as u8]);
@@ -96,7 +94,7 @@ pub fn write_short<W: Writer>(writer: &mut W, value: u16) -> io::WriteResult<()>
 /// The length as a short number. A length past `u16::MAX` is `LengthEncodingOverflow`.
 pub fn short_of(len: usize) -> WriteResult<u16>
     ensures ok { IfOk result (λ n. n ≡ len) }
-    ensures err { IfErr result (IsTextless short_scheme len) }
+    ensures err { IfErr result (LengthSizeRefused short_scheme len) }
 {
     if len > 65535 {
         return Err(write_length_encoding_overflow("u16::MAX"));
@@ -106,8 +104,6 @@ pub fn short_of(len: usize) -> WriteResult<u16>
 
 impl SeqLen for ShortU16 {
     ghost scheme = { short_scheme };
-
-    ghost refusal = { λ prealloc. IsShortRefused };
 
     /// It has no limit of its own. Where no short number stands in front, it is
     /// `LengthEncodingOverflow`, and all bytes stay.

@@ -3,7 +3,7 @@ ghost use Rattle.std.specs.Prelude.{◌≡◌, ◌≤◌, Option, length, MatchR
 ghost use Rattle.std.specs.Bool.{MatchBool};
 ghost use Rattle.std.specs.Mem.Slots.{slots_len, slots_items, slots_filled, SamePlaces, IsFull};
 ghost use Rattle.std.specs.Mem.Slots.Ownership.{Filled};
-ghost use Rattle.wincode_collect.specs.Runs.{Runs, Stops};
+ghost use Rattle.wincode_collect.specs.Calls.{GaveEach, Stops};
 
 use core::slots::Slots;
 use std::alloc::AllocError;
@@ -21,7 +21,7 @@ pub(crate) trait Fill<T> {
 /// The next N items, in the bytes that a `None` of an array leaves free.
 pub(crate) fn filled<T: Drop, F: Fill<T>, const N: usize>(f: &mut F) -> Result<[T; N], AllocError>
     requires { T }
-    ensures { MatchResult result (λ ys. (length ys ≡ N) × Runs F.gives f.old ys f.new) (λ _. Stops F.gives f.old N f.new) }
+    ensures { MatchResult result (λ ys. (length ys ≡ N) × GaveEach F.gives f.old ys f.new) (λ _. Stops F.gives f.old N f.new) }
 {
     let mut room: Option<ManuallyDrop<[T; N]>> = None;
     let ptr = unsafe { (&raw mut room as *mut u8).add(align_of::<T>()) } as *mut T;
@@ -37,7 +37,7 @@ pub(crate) fn filled<T: Drop, F: Fill<T>, const N: usize>(f: &mut F) -> Result<[
 /// Fills the places in order. Where an item is missing, those before it are dropped.
 fn put_all<T: Drop, F: Fill<T>>(mut row: Slots<T>, f: &mut F) -> (Slots<T>, bool)
     ensures places { SamePlaces row result.0 }
-    ensures items { MatchBool result.1 (IsFull result.0 × Runs F.gives f.old (slots_items result.0) f.new) (Stops F.gives f.old (slots_len row) f.new) }
+    ensures items { MatchBool result.1 (IsFull result.0 × GaveEach F.gives f.old (slots_items result.0) f.new) (Stops F.gives f.old (slots_len row) f.new) }
 {
     let count = row.len();
     let mut i = 0;

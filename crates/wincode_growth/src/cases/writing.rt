@@ -94,7 +94,7 @@ fn a_record(alloc: Global) -> Result<Ending, Unlike> {
     }
 }
 
-/// Through a cursor, item by item: refused, a beginning of the text is there.
+/// Through a cursor, item by item: refused, a beginning of the encoding is there.
 fn a_list(alloc: Global) -> Result<Ending, Unlike> {
     let Ok(list) = Vec::from_slice(alloc, &[7u8, 8, 9]) else {
         return Ok(Ending::Refused);

@@ -1,7 +1,7 @@
 //! Many values at once, to a writer, as their byte forms.
 ghost use Rattle.std.specs.Prelude.{◌≡◌, ℕ, ◌+◌, ◌*◌, ◌<◌, ◌≤◌, length, OnOk, IfErr, Err};
 ghost use Rattle.std.specs.List.{All, flat_map};
-ghost use Rattle.wincode_io.specs.Writers.{Added, Took, IsUnmoved, IsWriteRefused, byte_limit};
+ghost use Rattle.wincode_io.specs.Writers.{Added, Took, IsUnmoved, BytesWriteRefused, byte_limit};
 
 use crate::error::{WriteError, WriteResult};
 use crate::writer::Writer;
@@ -11,7 +11,7 @@ use crate::zero_copy::{ZeroCopy, put_forms, size_of_form, total_size};
 fn write_each<W: Writer, T: ZeroCopy>(writer: &mut W, values: &[T])
     requires { length values.now * T.size ≤ (W.state writer.old).ready }
     ensures took { Took (flat_map T.form values.now) (W.state writer.old) (W.state writer.new) }
-    ensures proper { All T.proper values.now }
+    ensures is_valid { All T.is_valid values.now }
 {
     for value in values {
         writer.write_ready_t(value);
@@ -24,7 +24,7 @@ fn write_blocks<W: Writer, T: ZeroCopy>(writer: &mut W, values: &[T])
     requires room { length values.now * T.size ≤ (W.state writer.old).ready }
     requires small { T.size ≤ 16 }
     ensures took { Took (flat_map T.form values.now) (W.state writer.old) (W.state writer.new) }
-    ensures proper { All T.proper values.now }
+    ensures is_valid { All T.is_valid values.now }
 {
     let mut bytes = [0u8; 1024];
     let size = size_of_form::<T>();
@@ -42,11 +42,12 @@ fn write_blocks<W: Writer, T: ZeroCopy>(writer: &mut W, values: &[T])
 /// `WriteSizeLimit` of the size of all in bytes, or of `usize::MAX` where the size is more.
 pub fn write_forms<W: Writer, T: ZeroCopy>(writer: &mut W, values: &[T]) -> WriteResult<()>
     ensures ok { OnOk result (Added (flat_map T.form values.now) (W.state writer.old) (W.state writer.new)) }
-    ensures proper { OnOk result (All T.proper values.now) }
-    ensures err { length values.now * T.size ≤ byte_limit → IfErr result (IsWriteRefused (length values.now * T.size) (W.state writer.old) (W.state writer.new)) }
+    ensures is_valid { OnOk result (All T.is_valid values.now) }
+    ensures err { length values.now * T.size ≤ byte_limit → IfErr result (BytesWriteRefused (length values.now * T.size) (W.state writer.old) (W.state writer.new)) }
     ensures vast { byte_limit < length values.now * T.size → (result ≡ Err (WriteError.WriteSizeLimit byte_limit)) × IsUnmoved (W.state writer.old) (W.state writer.new) }
 {
     let Some(total) = total_size::<T>(values.len()) else {
+        // No effect at run time: the proof reads what it holds from this use of it.
         let _ = &*writer;
         return Err(WriteError::WriteSizeLimit(usize::MAX));
     };
@@ -59,7 +60,7 @@ pub fn write_forms<W: Writer, T: ZeroCopy>(writer: &mut W, values: &[T]) -> Writ
 fn write_ready_forms<W: Writer, T: ZeroCopy>(writer: &mut W, values: &[T])
     requires { length values.now * T.size ≤ (W.state writer.old).ready }
     ensures took { Took (flat_map T.form values.now) (W.state writer.old) (W.state writer.new) }
-    ensures proper { All T.proper values.now }
+    ensures is_valid { All T.is_valid values.now }
 {
     match T::form_size() {
         Some(size) if size <= 16 => write_blocks(writer, values),

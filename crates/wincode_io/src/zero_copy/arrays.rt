@@ -8,7 +8,7 @@ use super::{ZeroCopy, form_at, put_forms, read_forms, total_size};
 use std::array::from_fn;
 
 impl<T: ZeroCopy, const N: usize> ZeroCopy for [T; N] {
-    ghost proper = { λ v. (length v ≡ N) × All T.proper v };
+    ghost is_valid = { λ v. (length v ≡ N) × All T.is_valid v };
 
     ghost size = { N * T.size };
 

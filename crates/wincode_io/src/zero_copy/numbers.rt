@@ -18,7 +18,7 @@ fn whole_array<const N: usize>(bytes: &[u8]) -> [u8; N]
 }
 
 impl ZeroCopy for u8 {
-    ghost proper = { λ v. v < 256 ^ 1 };
+    ghost is_valid = { λ v. v < 256 ^ 1 };
 
     ghost size = { 1 };
 
@@ -42,7 +42,7 @@ impl ZeroCopy for u8 {
 }
 
 impl ZeroCopy for u16 {
-    ghost proper = { λ v. v < 256 ^ 2 };
+    ghost is_valid = { λ v. v < 256 ^ 2 };
 
     ghost size = { 2 };
 
@@ -66,7 +66,7 @@ impl ZeroCopy for u16 {
 }
 
 impl ZeroCopy for u32 {
-    ghost proper = { λ v. v < 256 ^ 4 };
+    ghost is_valid = { λ v. v < 256 ^ 4 };
 
     ghost size = { 4 };
 
@@ -90,7 +90,7 @@ impl ZeroCopy for u32 {
 }
 
 impl ZeroCopy for u64 {
-    ghost proper = { λ v. v < 256 ^ 8 };
+    ghost is_valid = { λ v. v < 256 ^ 8 };
 
     ghost size = { 8 };
 
@@ -114,7 +114,7 @@ impl ZeroCopy for u64 {
 }
 
 impl ZeroCopy for u128 {
-    ghost proper = { λ v. v < 256 ^ 16 };
+    ghost is_valid = { λ v. v < 256 ^ 16 };
 
     ghost size = { 16 };
 
@@ -138,7 +138,7 @@ impl ZeroCopy for u128 {
 }
 
 impl ZeroCopy for i8 {
-    ghost proper = { λ v. FitsSigned w8 v };
+    ghost is_valid = { λ v. FitsSigned w8 v };
 
     ghost size = { 1 };
 
@@ -162,7 +162,7 @@ impl ZeroCopy for i8 {
 }
 
 impl ZeroCopy for i16 {
-    ghost proper = { λ v. FitsSigned w16 v };
+    ghost is_valid = { λ v. FitsSigned w16 v };
 
     ghost size = { 2 };
 
@@ -186,7 +186,7 @@ impl ZeroCopy for i16 {
 }
 
 impl ZeroCopy for i32 {
-    ghost proper = { λ v. FitsSigned w32 v };
+    ghost is_valid = { λ v. FitsSigned w32 v };
 
     ghost size = { 4 };
 
@@ -210,7 +210,7 @@ impl ZeroCopy for i32 {
 }
 
 impl ZeroCopy for i64 {
-    ghost proper = { λ v. FitsSigned w64 v };
+    ghost is_valid = { λ v. FitsSigned w64 v };
 
     ghost size = { 8 };
 
@@ -234,7 +234,7 @@ impl ZeroCopy for i64 {
 }
 
 impl ZeroCopy for i128 {
-    ghost proper = { λ v. FitsSigned w128 v };
+    ghost is_valid = { λ v. FitsSigned w128 v };
 
     ghost size = { 16 };
 

@@ -2,12 +2,12 @@
 //!
 //! Where the items have one size, the array is read through one window of its size, in bytes: fewer bytes are
 //! `Io(ReadSizeLimit)` of that size, and stay; where an item is refused, the bytes of the whole array are gone.
-ghost use Rattle.std.specs.Prelude.{◌≡◌, List, map, IfErr, OnOk, OnErr, MatchResult};
+ghost use Rattle.std.specs.Prelude.{◌≡◌, List, map, MatchResult};
 ghost use Rattle.wincode_base.specs.ArrayLaws.{array_read_laws};
-ghost use Rattle.wincode_base.specs.Arrays.{times_meta, IsArray, array_read};
-ghost use Rattle.wincode_base.specs.InWindow.{IsStaticRefused};
-ghost use Rattle.wincode_base.specs.Lists.{IsItemRefused, AreRefused};
-ghost use Rattle.wincode_base.specs.Outcomes.{Gives, Puts, Refuses, IsReadRefused};
+ghost use Rattle.wincode_base.specs.Arrays.{IsArray, array_read};
+ghost use Rattle.wincode_base.specs.InWindow.{windowed_read};
+ghost use Rattle.wincode_base.specs.Outcomes.{Gives, SchemaReadRefused, ReadOutcome};
+ghost use Rattle.wincode_base.specs.PairLaws.{windowed_read_laws};
 
 use crate::schema::in_window::read_in_window;
 use crate::schema::{SchemaGet, SchemaRead};
@@ -31,8 +31,8 @@ struct Reading<'r, L, T, R> {
 impl<'r, L: Lending, T: SchemaRead<L>, R: Reader<L>> ItemSource<T::Dst, ReadError>
     for Reading<'r, L, T, R> {
     ghost gives = { λ s r t. (t.reader.ghost_name ≡ s.reader.ghost_name)
-        × MatchResult r (λ v. Gives T.reading.reads (R.state s.reader.now) (R.state t.reader.now) (T.seen v))
-        (IsReadRefused T.reading T.refusal (R.state s.reader.now) (R.state t.reader.now)) };
+        × MatchResult r (λ v. Gives T.reading.reads (R.state s.reader.now) (R.state t.reader.now) (T.model v))
+        (SchemaReadRefused T.reading (R.state s.reader.now) (R.state t.reader.now)) };
 
     fn next(&mut self) -> Result<T::Dst, ReadError> {
         T::get(self.alloc, self.reader)
@@ -40,15 +40,12 @@ impl<'r, L: Lending, T: SchemaRead<L>, R: Reader<L>> ItemSource<T::Dst, ReadErro
 }
 
 /// Reads N items, one after another, into the destination.
-fn read_items<L: Lending, T: SchemaRead<L>, R: Reader<L>, const N: usize>(
+fn read_array<L: Lending, T: SchemaRead<L>, R: Reader<L>, const N: usize>(
     alloc: Global,
     reader: &mut R,
     dst: &mut Option<[T::Dst; N]>,
 ) -> ReadResult<()>
-    ensures ok { OnOk result (Puts (array_read N T.reading).reads (λ xs. map T.seen xs) (R.state reader.old) (R.state reader.new) dst.new) }
-    ensures err { IfErr result (Refuses (array_read N T.reading).reads T.reading.asks T.reading.sparing (R.state reader.old) (R.state reader.new)) }
-    ensures refused { IfErr result (IsItemRefused N T.reading T.refusal (R.state reader.old) (R.state reader.new)) }
-    ensures same { OnErr result (dst.new ≡ dst.old) }
+    ensures { ReadOutcome (array_read N T.reading) (λ xs. map T.model xs) (R.state reader.old) (R.state reader.new) dst.old dst.new result }
 {
     let mut sourced = Sourced::new(Reading::<L, T, R> {
         alloc,
@@ -71,13 +68,11 @@ impl<L: Lending, T: SchemaRead<L>, const N: usize> SchemaRead<L> for Items<T, N>
 
     ghost Value = { List T.Value };
 
-    ghost seen = { λ xs. map T.seen xs };
+    ghost model = { λ xs. map T.model xs };
 
-    ghost proper = { IsArray N T.proper };
+    ghost is_valid = { IsArray N T.is_valid };
 
     ghost reading = { array_read N T.reading };
-
-    ghost refusal = { AreRefused N T.reading T.refusal };
 
     fn type_meta() -> TypeMeta {
         size_of_items(N, T::type_meta())
@@ -92,10 +87,10 @@ impl<L: Lending, T: SchemaRead<L>, const N: usize> SchemaRead<L> for Items<T, N>
         reader: &mut R,
         dst: &mut Option<[T::Dst; N]>,
     ) -> ReadResult<()> {
-        read_items::<L, T, R, N>(alloc, reader, dst)
+        read_array::<L, T, R, N>(alloc, reader, dst)
     }
 
-    ghost read_laws = { array_read_laws N T.proper T.reading T.read_laws };
+    ghost read_laws = { array_read_laws N T.is_valid T.reading T.read_laws };
 }
 
 impl<L: Lending, T: SchemaRead<L>, const N: usize> SchemaRead<L> for [T; N] {
@@ -103,13 +98,11 @@ impl<L: Lending, T: SchemaRead<L>, const N: usize> SchemaRead<L> for [T; N] {
 
     ghost Value = { List T.Value };
 
-    ghost seen = { λ xs. map T.seen xs };
+    ghost model = { λ xs. map T.model xs };
 
-    ghost proper = { IsArray N T.proper };
+    ghost is_valid = { IsArray N T.is_valid };
 
-    ghost reading = { array_read N T.reading };
-
-    ghost refusal = { IsStaticRefused (times_meta N T.reading.meta) (AreRefused N T.reading T.refusal) };
+    ghost reading = { windowed_read ⟦<Items<T, N> as SchemaRead<L>>⟧.reading };
 
     fn type_meta() -> TypeMeta {
         <Items<T, N> as SchemaRead<L>>::type_meta()
@@ -136,5 +129,5 @@ impl<L: Lending, T: SchemaRead<L>, const N: usize> SchemaRead<L> for [T; N] {
         <Items<T, N> as SchemaRead<L>>::read_items::<R>(alloc, reader, n, into)
     }
 
-    ghost read_laws = { array_read_laws N T.proper T.reading T.read_laws };
+    ghost read_laws = { windowed_read_laws (array_read_laws N T.is_valid T.reading T.read_laws) };
 }

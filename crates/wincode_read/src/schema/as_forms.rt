@@ -1,8 +1,8 @@
 //! Many values at once, as their byte forms.
 ghost use Rattle.std.specs.Prelude.{◌≡◌, ◌*◌, false, IfErr, OnOk, OnErr};
 ghost use Rattle.wincode_io.specs.Joins.{AreItems};
-ghost use Rattle.wincode_base.specs.AsForms.{reads_form, AreDenied};
-ghost use Rattle.wincode_base.specs.Outcomes.{Adds, Refuses};
+ghost use Rattle.wincode_base.specs.AsForms.{reads_form, BulkReadRefused};
+ghost use Rattle.wincode_base.specs.Outcomes.{Adds, ReadRefused};
 
 use wincode_base::error::{ReadError, ReadResult, read_length_encoding_overflow};
 use wincode_io::bulk::add_forms;
@@ -16,12 +16,13 @@ pub(crate) fn read_all<L: Lending, R: Reader<L>, T: ZeroCopy>(
     n: usize,
     into: &mut Vec<T>,
 ) -> ReadResult<()>
-    ensures ok { OnOk result (Adds n (reads_form T.proper T.form) (λ v. v) (R.state reader.old) (R.state reader.new) into.old.items into.new.items) }
-    ensures err { IfErr result (Refuses (AreItems n (reads_form T.proper T.form)) 0 false (R.state reader.old) (R.state reader.new)) }
-    ensures denied { IfErr result (AreDenied (n * T.size) (R.state reader.old) (R.state reader.new)) }
+    ensures ok { OnOk result (Adds n (reads_form T.is_valid T.form) (λ v. v) (R.state reader.old) (R.state reader.new) into.old.items into.new.items) }
+    ensures err { IfErr result (ReadRefused (AreItems n (reads_form T.is_valid T.form)) 0 false (R.state reader.old) (R.state reader.new)) }
+    ensures denied { IfErr result (BulkReadRefused (n * T.size) (R.state reader.old) (R.state reader.new)) }
     ensures same { OnErr result (into.new.items ≡ into.old.items) }
 {
     let Some(total) = total_size::<T>(n) else {
+        // No effect at run time: the proof reads what it holds from this use of it.
         let _ = &*reader;
         return Err(read_length_encoding_overflow("usize::MAX"));
     };

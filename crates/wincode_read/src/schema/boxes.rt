@@ -1,13 +1,13 @@
 //! What is held in memory of its own, which is asked for once its value is read.
-ghost use Rattle.wincode_base.specs.Held.{held_read, IsHeldRefused};
-ghost use Rattle.wincode_base.specs.HeldLaws.{held_read_laws};
+ghost use Rattle.wincode_base.specs.Boxed.{boxed_read};
+ghost use Rattle.wincode_base.specs.BoxedLaws.{boxed_read_laws};
 
 use crate::schema::{SchemaGet, SchemaRead};
 use std::alloc::Global;
 use std::rc::Rc;
 use wincode_base::error::{ReadError, ReadResult};
 use wincode_base::meta::TypeMeta;
-use wincode_base::sizes::held_meta;
+use wincode_base::sizes::boxed_meta;
 use wincode_io::{Lending, Reader};
 
 impl<L: Lending, T: SchemaRead<L>> SchemaRead<L> for Box<T> {
@@ -15,16 +15,14 @@ impl<L: Lending, T: SchemaRead<L>> SchemaRead<L> for Box<T> {
 
     ghost Value = { T.Value };
 
-    ghost seen = { λ held. T.seen held.value };
+    ghost model = { λ held. T.model held.value };
 
-    ghost proper = { T.proper };
+    ghost is_valid = { T.is_valid };
 
-    ghost reading = { held_read T.reading };
-
-    ghost refusal = { IsHeldRefused T.reading T.refusal };
+    ghost reading = { boxed_read T.reading };
 
     fn type_meta() -> TypeMeta {
-        held_meta(T::type_meta())
+        boxed_meta(T::type_meta())
     }
 
     fn prealloc_size() -> usize {
@@ -48,7 +46,7 @@ impl<L: Lending, T: SchemaRead<L>> SchemaRead<L> for Box<T> {
         }
     }
 
-    ghost read_laws = { held_read_laws T.proper T.reading T.read_laws };
+    ghost read_laws = { boxed_read_laws T.is_valid T.reading T.read_laws };
 }
 
 impl<L: Lending, T: SchemaRead<L>> SchemaRead<L> for Rc<T> {
@@ -56,16 +54,14 @@ impl<L: Lending, T: SchemaRead<L>> SchemaRead<L> for Rc<T> {
 
     ghost Value = { T.Value };
 
-    ghost seen = { λ held. T.seen held.value };
+    ghost model = { λ held. T.model held.value };
 
-    ghost proper = { T.proper };
+    ghost is_valid = { T.is_valid };
 
-    ghost reading = { held_read T.reading };
-
-    ghost refusal = { IsHeldRefused T.reading T.refusal };
+    ghost reading = { boxed_read T.reading };
 
     fn type_meta() -> TypeMeta {
-        held_meta(T::type_meta())
+        boxed_meta(T::type_meta())
     }
 
     fn prealloc_size() -> usize {
@@ -89,5 +85,5 @@ impl<L: Lending, T: SchemaRead<L>> SchemaRead<L> for Rc<T> {
         }
     }
 
-    ghost read_laws = { held_read_laws T.proper T.reading T.read_laws };
+    ghost read_laws = { boxed_read_laws T.is_valid T.reading T.read_laws };
 }

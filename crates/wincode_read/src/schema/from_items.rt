@@ -2,13 +2,12 @@
 ghost use Rattle.std.specs.BinaryHeap.{heap_items};
 ghost use Rattle.std.specs.Box.{boxed_slice_items};
 ghost use Rattle.std.specs.List.Sorted.{IsPermutation};
-ghost use Rattle.std.specs.Prelude.{◌≡◌, List, map, false, IfOk, IfErr};
+ghost use Rattle.std.specs.Prelude.{◌≡◌, List};
 ghost use Rattle.std.specs.Rc.{rc_slice_items};
 ghost use Rattle.wincode_collect.specs.Collections.{IsSetOf, IsMapOf, IsHashSetOf, IsHashMapOf};
-ghost use Rattle.wincode_io.specs.Joins.{AreItems};
-ghost use Rattle.wincode_base.specs.Lists.{reads_list, AreRefused, IsRunRefused, IsListRefused};
-ghost use Rattle.wincode_base.specs.Outcomes.{Gives, Refuses};
-ghost use Rattle.wincode_base.specs.Sizes.{item_size, IsTextSize};
+ghost use Rattle.wincode_base.specs.Lists.{items_read, run_read, list_read_of, list_read};
+ghost use Rattle.wincode_base.specs.Outcomes.{MakeOutcome};
+ghost use Rattle.wincode_base.specs.ItemSizes.{IsReadItemSize};
 
 use crate::schema::{SchemaGet, SchemaRead};
 use std::alloc::Global;
@@ -29,9 +28,7 @@ pub trait FromItems<L: Lending, T: SchemaRead<L>>: Drop + Sized {
 
     /// Reads `n` items, one after another.
     fn from_items<R: Reader<L>>(alloc: Global, reader: &mut R, n: usize) -> ReadResult<Self>
-        ensures ok { IfOk result (λ c. (ds : List T.Dst) × Gives (AreItems n T.reading.reads) (R.state reader.old) (R.state reader.new) (map T.seen ds) × made ds c) }
-        ensures err { IfErr result (Refuses (AreItems n T.reading.reads) T.reading.asks false (R.state reader.old) (R.state reader.new)) }
-        ensures refused { IfErr result (AreRefused n T.reading T.refusal (R.state reader.old) (R.state reader.new)) };
+        ensures { MakeOutcome (items_read n T.reading) T.model made (R.state reader.old) (R.state reader.new) result };
 }
 
 /// Its items are read by the schema's `read_items`.
@@ -77,9 +74,7 @@ fn gather_items<C: Gather<T::Dst>, L: Lending, T: SchemaRead<L>, R: Reader<L>>(
     reader: &mut R,
     n: usize,
 ) -> ReadResult<C>
-    ensures ok { IfOk result (λ c. (ds : List T.Dst) × Gives (AreItems n T.reading.reads) (R.state reader.old) (R.state reader.new) (map T.seen ds) × C.made ds c) }
-    ensures err { IfErr result (Refuses (AreItems n T.reading.reads) T.reading.asks false (R.state reader.old) (R.state reader.new)) }
-    ensures refused { IfErr result (AreRefused n T.reading T.refusal (R.state reader.old) (R.state reader.new)) }
+    ensures { MakeOutcome (items_read n T.reading) T.model C.made (R.state reader.old) (R.state reader.new) result }
 {
     let mut gathered = match C::empty(alloc, n) {
         Ok(gathered) => gathered,
@@ -183,10 +178,8 @@ fn get_run<C: FromItems<L, T>, L: Lending, T: SchemaRead<L>, R: Reader<L>>(
     n: usize,
     size: ItemSize,
 ) -> ReadResult<C>
-    requires size { IsTextSize T.reading size }
-    ensures ok { IfOk result (λ c. (ds : List T.Dst) × Gives (AreItems n T.reading.reads) (R.state reader.old) (R.state reader.new) (map T.seen ds) × C.made ds c) }
-    ensures err { IfErr result (Refuses (AreItems n T.reading.reads) T.reading.asks false (R.state reader.old) (R.state reader.new)) }
-    ensures refused { IfErr result (IsRunRefused n size T.reading T.refusal (R.state reader.old) (R.state reader.new)) }
+    requires size { IsReadItemSize T.reading size }
+    ensures { MakeOutcome (run_read n size T.reading) T.model C.made (R.state reader.old) (R.state reader.new) result }
 {
     if let ItemSize::Unknown = size {
         return C::from_items::<R>(alloc, reader, n);
@@ -209,10 +202,8 @@ pub(crate) fn get_list_of<
     T: SchemaRead<L>,
     R: Reader<L>,
 >(alloc: Global, reader: &mut R, size: ItemSize) -> ReadResult<C>
-    requires size { IsTextSize T.reading size }
-    ensures ok { IfOk result (λ c. (ds : List T.Dst) × Gives (reads_list Len.scheme T.reading) (R.state reader.old) (R.state reader.new) (map T.seen ds) × C.made ds c) }
-    ensures err { IfErr result (Refuses (reads_list Len.scheme T.reading) T.reading.asks false (R.state reader.old) (R.state reader.new)) }
-    ensures refused { IfErr result (IsListRefused Len.scheme Len.refusal size T.reading T.refusal (R.state reader.old) (R.state reader.new)) }
+    requires size { IsReadItemSize T.reading size }
+    ensures { MakeOutcome (list_read_of Len.scheme 1 size T.reading) T.model C.made (R.state reader.old) (R.state reader.new) result }
 {
     let n = Len::read::<L, R>(reader, T::prealloc_size())?;
     get_run::<C, L, T, R>(alloc, reader, n, size)
@@ -223,9 +214,7 @@ pub fn get_list<C: FromItems<L, T>, Len: SeqLen, L: Lending, T: SchemaRead<L>, R
     alloc: Global,
     reader: &mut R,
 ) -> ReadResult<C>
-    ensures ok { IfOk result (λ c. (ds : List T.Dst) × Gives (reads_list Len.scheme T.reading) (R.state reader.old) (R.state reader.new) (map T.seen ds) × C.made ds c) }
-    ensures err { IfErr result (Refuses (reads_list Len.scheme T.reading) T.reading.asks false (R.state reader.old) (R.state reader.new)) }
-    ensures refused { IfErr result (IsListRefused Len.scheme Len.refusal (item_size T.reading.meta) T.reading T.refusal (R.state reader.old) (R.state reader.new)) }
+    ensures { MakeOutcome (list_read Len.scheme 1 T.reading) T.model C.made (R.state reader.old) (R.state reader.new) result }
 {
     get_list_of::<C, Len, L, T, R>(alloc, reader, ItemSize::of(T::type_meta()))
 }

@@ -1,7 +1,6 @@
 //! What has one size goes through one window of it.
-ghost use Rattle.std.specs.Prelude.{◌≡◌, IfOk, IfErr, OnOk, OnErr};
-ghost use Rattle.wincode_base.specs.InWindow.{IsStaticRefused};
-ghost use Rattle.wincode_base.specs.Outcomes.{Gives, Puts, Refuses};
+ghost use Rattle.wincode_base.specs.InWindow.{windowed_read};
+ghost use Rattle.wincode_base.specs.Outcomes.{ReadOutcome, GetOutcome};
 
 use crate::schema::{SchemaGet, SchemaRead};
 use std::alloc::Global;
@@ -14,9 +13,7 @@ pub(crate) fn get_in_window<L: Lending, T: SchemaRead<L>, R: Reader<L>>(
     alloc: Global,
     reader: &mut R,
 ) -> ReadResult<T::Dst>
-    ensures ok { IfOk result (λ v. Gives T.reading.reads (R.state reader.old) (R.state reader.new) (T.seen v)) }
-    ensures err { IfErr result (Refuses T.reading.reads T.reading.asks T.reading.sparing (R.state reader.old) (R.state reader.new)) }
-    ensures placed { IfErr result (IsStaticRefused T.reading.meta T.refusal (R.state reader.old) (R.state reader.new)) }
+    ensures { GetOutcome (windowed_read T.reading) T.model (R.state reader.old) (R.state reader.new) result }
 {
     match T::type_meta() {
         TypeMeta::Static { size, .. } => {
@@ -33,10 +30,7 @@ pub(crate) fn read_in_window<L: Lending, T: SchemaRead<L>, R: Reader<L>>(
     reader: &mut R,
     dst: &mut Option<T::Dst>,
 ) -> ReadResult<()>
-    ensures ok { OnOk result (Puts T.reading.reads T.seen (R.state reader.old) (R.state reader.new) dst.new) }
-    ensures err { IfErr result (Refuses T.reading.reads T.reading.asks T.reading.sparing (R.state reader.old) (R.state reader.new)) }
-    ensures placed { IfErr result (IsStaticRefused T.reading.meta T.refusal (R.state reader.old) (R.state reader.new)) }
-    ensures same { OnErr result (dst.new ≡ dst.old) }
+    ensures { ReadOutcome (windowed_read T.reading) T.model (R.state reader.old) (R.state reader.new) dst.old dst.new result }
 {
     *dst = Some(get_in_window::<L, T, R>(alloc, reader)?);
     Ok(())

@@ -3,8 +3,7 @@ ghost use Rattle.std.proofs.Common.{lit≤};
 ghost use Rattle.std.specs.Int.{w8, w16, w32, w64, w128};
 ghost use Rattle.std.specs.Prelude.{ℕ, ℤ, ◌<◌, ◌≤◌, ◌^◌, FitsSigned, Bool, true, false, refl};
 ghost use Rattle.wincode_base.specs.LeafLaws.{bool_read_laws, unit_read_laws, number_read_laws, signed_read_laws};
-ghost use Rattle.wincode_base.specs.Leaves.{number_read, signed_read, bool_read, unit_read, IsBoolRefused};
-ghost use Rattle.wincode_base.specs.Outcomes.{never, IsDenied};
+ghost use Rattle.wincode_base.specs.Leaves.{number_read, signed_read, bool_read, unit_read};
 
 use crate::schema::SchemaRead;
 use crate::schema::as_forms::read_all;
@@ -21,13 +20,11 @@ impl<L: Lending> SchemaRead<L> for u8 {
 
     ghost Value = { ℕ };
 
-    ghost seen = { λ v. v };
+    ghost model = { λ v. v };
 
-    ghost proper = { λ v. v < 256 ^ 1 };
+    ghost is_valid = { λ v. v < 256 ^ 1 };
 
     ghost reading = { number_read 1 true };
-
-    ghost refusal = { IsDenied 1 };
 
     fn type_meta() -> TypeMeta {
         TypeMeta::Static {
@@ -69,13 +66,11 @@ impl<L: Lending> SchemaRead<L> for u16 {
 
     ghost Value = { ℕ };
 
-    ghost seen = { λ v. v };
+    ghost model = { λ v. v };
 
-    ghost proper = { λ v. v < 256 ^ 2 };
+    ghost is_valid = { λ v. v < 256 ^ 2 };
 
     ghost reading = { number_read 2 true };
-
-    ghost refusal = { IsDenied 2 };
 
     fn type_meta() -> TypeMeta {
         TypeMeta::Static {
@@ -113,13 +108,11 @@ impl<L: Lending> SchemaRead<L> for u32 {
 
     ghost Value = { ℕ };
 
-    ghost seen = { λ v. v };
+    ghost model = { λ v. v };
 
-    ghost proper = { λ v. v < 256 ^ 4 };
+    ghost is_valid = { λ v. v < 256 ^ 4 };
 
     ghost reading = { number_read 4 true };
-
-    ghost refusal = { IsDenied 4 };
 
     fn type_meta() -> TypeMeta {
         TypeMeta::Static {
@@ -157,13 +150,11 @@ impl<L: Lending> SchemaRead<L> for u64 {
 
     ghost Value = { ℕ };
 
-    ghost seen = { λ v. v };
+    ghost model = { λ v. v };
 
-    ghost proper = { λ v. v < 256 ^ 8 };
+    ghost is_valid = { λ v. v < 256 ^ 8 };
 
     ghost reading = { number_read 8 true };
-
-    ghost refusal = { IsDenied 8 };
 
     fn type_meta() -> TypeMeta {
         TypeMeta::Static {
@@ -201,13 +192,11 @@ impl<L: Lending> SchemaRead<L> for u128 {
 
     ghost Value = { ℕ };
 
-    ghost seen = { λ v. v };
+    ghost model = { λ v. v };
 
-    ghost proper = { λ v. v < 256 ^ 16 };
+    ghost is_valid = { λ v. v < 256 ^ 16 };
 
     ghost reading = { number_read 16 true };
-
-    ghost refusal = { IsDenied 16 };
 
     fn type_meta() -> TypeMeta {
         TypeMeta::Static {
@@ -249,13 +238,11 @@ impl<L: Lending> SchemaRead<L> for usize {
 
     ghost Value = { ℕ };
 
-    ghost seen = { λ v. v };
+    ghost model = { λ v. v };
 
-    ghost proper = { λ v. v < 256 ^ 8 };
+    ghost is_valid = { λ v. v < 256 ^ 8 };
 
     ghost reading = { number_read 8 false };
-
-    ghost refusal = { IsDenied 8 };
 
     fn type_meta() -> TypeMeta {
         TypeMeta::Static {
@@ -286,13 +273,11 @@ impl<L: Lending> SchemaRead<L> for i8 {
 
     ghost Value = { ℤ };
 
-    ghost seen = { λ v. v };
+    ghost model = { λ v. v };
 
-    ghost proper = { FitsSigned w8 };
+    ghost is_valid = { FitsSigned w8 };
 
     ghost reading = { signed_read w8 true };
-
-    ghost refusal = { IsDenied 1 };
 
     fn type_meta() -> TypeMeta {
         TypeMeta::Static {
@@ -330,13 +315,11 @@ impl<L: Lending> SchemaRead<L> for i16 {
 
     ghost Value = { ℤ };
 
-    ghost seen = { λ v. v };
+    ghost model = { λ v. v };
 
-    ghost proper = { FitsSigned w16 };
+    ghost is_valid = { FitsSigned w16 };
 
     ghost reading = { signed_read w16 true };
-
-    ghost refusal = { IsDenied 2 };
 
     fn type_meta() -> TypeMeta {
         TypeMeta::Static {
@@ -374,13 +357,11 @@ impl<L: Lending> SchemaRead<L> for i32 {
 
     ghost Value = { ℤ };
 
-    ghost seen = { λ v. v };
+    ghost model = { λ v. v };
 
-    ghost proper = { FitsSigned w32 };
+    ghost is_valid = { FitsSigned w32 };
 
     ghost reading = { signed_read w32 true };
-
-    ghost refusal = { IsDenied 4 };
 
     fn type_meta() -> TypeMeta {
         TypeMeta::Static {
@@ -418,13 +399,11 @@ impl<L: Lending> SchemaRead<L> for i64 {
 
     ghost Value = { ℤ };
 
-    ghost seen = { λ v. v };
+    ghost model = { λ v. v };
 
-    ghost proper = { FitsSigned w64 };
+    ghost is_valid = { FitsSigned w64 };
 
     ghost reading = { signed_read w64 true };
-
-    ghost refusal = { IsDenied 8 };
 
     fn type_meta() -> TypeMeta {
         TypeMeta::Static {
@@ -462,13 +441,11 @@ impl<L: Lending> SchemaRead<L> for i128 {
 
     ghost Value = { ℤ };
 
-    ghost seen = { λ v. v };
+    ghost model = { λ v. v };
 
-    ghost proper = { FitsSigned w128 };
+    ghost is_valid = { FitsSigned w128 };
 
     ghost reading = { signed_read w128 true };
-
-    ghost refusal = { IsDenied 16 };
 
     fn type_meta() -> TypeMeta {
         TypeMeta::Static {
@@ -510,13 +487,11 @@ impl<L: Lending> SchemaRead<L> for isize {
 
     ghost Value = { ℤ };
 
-    ghost seen = { λ v. v };
+    ghost model = { λ v. v };
 
-    ghost proper = { FitsSigned w64 };
+    ghost is_valid = { FitsSigned w64 };
 
     ghost reading = { signed_read w64 false };
-
-    ghost refusal = { IsDenied 8 };
 
     fn type_meta() -> TypeMeta {
         TypeMeta::Static {
@@ -547,13 +522,11 @@ impl<L: Lending> SchemaRead<L> for bool {
 
     ghost Value = { Bool };
 
-    ghost seen = { λ v. v };
+    ghost model = { λ v. v };
 
-    ghost proper = { λ v. Unit {0} };
+    ghost is_valid = { λ v. Unit {0} };
 
     ghost reading = { bool_read };
-
-    ghost refusal = { IsBoolRefused };
 
     fn type_meta() -> TypeMeta {
         TypeMeta::Static {
@@ -590,13 +563,11 @@ impl<L: Lending> SchemaRead<L> for () {
 
     ghost Value = { Unit };
 
-    ghost seen = { λ _. tt };
+    ghost model = { λ _. tt };
 
-    ghost proper = { λ _. Unit {0} };
+    ghost is_valid = { λ _. Unit {0} };
 
     ghost reading = { unit_read };
-
-    ghost refusal = { never };
 
     fn type_meta() -> TypeMeta {
         TypeMeta::Static {
@@ -623,13 +594,11 @@ impl<L: Lending, T> SchemaRead<L> for PhantomData<T> {
 
     ghost Value = { Unit };
 
-    ghost seen = { λ _. tt };
+    ghost model = { λ _. tt };
 
-    ghost proper = { λ _. Unit {0} };
+    ghost is_valid = { λ _. Unit {0} };
 
     ghost reading = { unit_read };
-
-    ghost refusal = { never };
 
     fn type_meta() -> TypeMeta {
         TypeMeta::Static {

@@ -8,17 +8,16 @@ ghost use Rattle.std.proofs.Common.{lit≤};
 ghost use Rattle.std.specs.Prelude.{List, map};
 ghost use Rattle.wincode_io.specs.Joins.{Each};
 ghost use Rattle.wincode_base.specs.LengthLaws.{bincode_laws};
-ghost use Rattle.wincode_base.specs.Lengths.{bincode, IsLengthRefused};
+ghost use Rattle.wincode_base.specs.Lengths.{bincode, preallocation_limit};
 ghost use Rattle.wincode_base.specs.ListLaws.{list_read_laws};
-ghost use Rattle.wincode_base.specs.Lists.{list_read, IsListRefused};
-ghost use Rattle.wincode_base.specs.Sizes.{item_size};
+ghost use Rattle.wincode_base.specs.Lists.{list_read};
 
 use crate::schema::SchemaRead;
 use crate::schema::from_items::get_list;
 use std::alloc::Global;
 use std::collections::{LinkedList, VecDeque};
 use wincode_base::error::ReadResult;
-use wincode_base::len::BincodeLen;
+use wincode_base::len::{BincodeLen, PREALLOCATION_LIMIT};
 use wincode_base::meta::TypeMeta;
 use wincode_io::{Lending, Reader};
 
@@ -27,13 +26,11 @@ impl<L: Lending, T: SchemaRead<L>> SchemaRead<L> for Vec<T> {
 
     ghost Value = { List T.Value };
 
-    ghost seen = { λ v. map T.seen v.items };
+    ghost model = { λ v. map T.model v.items };
 
-    ghost proper = { Each T.proper };
+    ghost is_valid = { Each T.is_valid };
 
-    ghost reading = { list_read (bincode 4194304) 24 T.reading };
-
-    ghost refusal = { IsListRefused (bincode 4194304) (IsLengthRefused 4194304) (item_size T.reading.meta) T.reading T.refusal };
+    ghost reading = { list_read (bincode preallocation_limit) 24 T.reading };
 
     fn type_meta() -> TypeMeta {
         TypeMeta::Dynamic
@@ -48,11 +45,13 @@ impl<L: Lending, T: SchemaRead<L>> SchemaRead<L> for Vec<T> {
         reader: &mut R,
         dst: &mut Option<Vec<T::Dst>>,
     ) -> ReadResult<()> {
-        *dst = Some(get_list::<Vec<T::Dst>, BincodeLen<4194304>, L, T, R>(alloc, reader)?);
+        *dst = Some(get_list::<Vec<T::Dst>, BincodeLen<PREALLOCATION_LIMIT>, L, T, R>(
+            alloc, reader,
+        )?);
         Ok(())
     }
 
-    ghost read_laws = { list_read_laws (bincode 4194304) (bincode_laws 4194304) 24 (lit≤ tt) T.proper T.reading T.read_laws };
+    ghost read_laws = { list_read_laws (bincode preallocation_limit) (bincode_laws preallocation_limit) 24 (lit≤ tt) T.is_valid T.reading T.read_laws };
 }
 
 impl<L: Lending, T: SchemaRead<L>> SchemaRead<L> for VecDeque<T> {
@@ -60,13 +59,11 @@ impl<L: Lending, T: SchemaRead<L>> SchemaRead<L> for VecDeque<T> {
 
     ghost Value = { List T.Value };
 
-    ghost seen = { λ q. map T.seen q.items };
+    ghost model = { λ q. map T.model q.items };
 
-    ghost proper = { Each T.proper };
+    ghost is_valid = { Each T.is_valid };
 
-    ghost reading = { list_read (bincode 4194304) 24 T.reading };
-
-    ghost refusal = { IsListRefused (bincode 4194304) (IsLengthRefused 4194304) (item_size T.reading.meta) T.reading T.refusal };
+    ghost reading = { list_read (bincode preallocation_limit) 24 T.reading };
 
     fn type_meta() -> TypeMeta {
         TypeMeta::Dynamic
@@ -81,11 +78,13 @@ impl<L: Lending, T: SchemaRead<L>> SchemaRead<L> for VecDeque<T> {
         reader: &mut R,
         dst: &mut Option<VecDeque<T::Dst>>,
     ) -> ReadResult<()> {
-        *dst = Some(get_list::<VecDeque<T::Dst>, BincodeLen<4194304>, L, T, R>(alloc, reader)?);
+        *dst = Some(get_list::<VecDeque<T::Dst>, BincodeLen<PREALLOCATION_LIMIT>, L, T, R>(
+            alloc, reader,
+        )?);
         Ok(())
     }
 
-    ghost read_laws = { list_read_laws (bincode 4194304) (bincode_laws 4194304) 24 (lit≤ tt) T.proper T.reading T.read_laws };
+    ghost read_laws = { list_read_laws (bincode preallocation_limit) (bincode_laws preallocation_limit) 24 (lit≤ tt) T.is_valid T.reading T.read_laws };
 }
 
 impl<L: Lending, T: SchemaRead<L>> SchemaRead<L> for LinkedList<T> {
@@ -93,13 +92,11 @@ impl<L: Lending, T: SchemaRead<L>> SchemaRead<L> for LinkedList<T> {
 
     ghost Value = { List T.Value };
 
-    ghost seen = { λ l. map T.seen l };
+    ghost model = { λ l. map T.model l };
 
-    ghost proper = { Each T.proper };
+    ghost is_valid = { Each T.is_valid };
 
-    ghost reading = { list_read (bincode 4194304) 24 T.reading };
-
-    ghost refusal = { IsListRefused (bincode 4194304) (IsLengthRefused 4194304) (item_size T.reading.meta) T.reading T.refusal };
+    ghost reading = { list_read (bincode preallocation_limit) 24 T.reading };
 
     fn type_meta() -> TypeMeta {
         TypeMeta::Dynamic
@@ -114,9 +111,11 @@ impl<L: Lending, T: SchemaRead<L>> SchemaRead<L> for LinkedList<T> {
         reader: &mut R,
         dst: &mut Option<LinkedList<T::Dst>>,
     ) -> ReadResult<()> {
-        *dst = Some(get_list::<LinkedList<T::Dst>, BincodeLen<4194304>, L, T, R>(alloc, reader)?);
+        *dst = Some(get_list::<LinkedList<T::Dst>, BincodeLen<PREALLOCATION_LIMIT>, L, T, R>(
+            alloc, reader,
+        )?);
         Ok(())
     }
 
-    ghost read_laws = { list_read_laws (bincode 4194304) (bincode_laws 4194304) 24 (lit≤ tt) T.proper T.reading T.read_laws };
+    ghost read_laws = { list_read_laws (bincode preallocation_limit) (bincode_laws preallocation_limit) 24 (lit≤ tt) T.is_valid T.reading T.read_laws };
 }

@@ -16,10 +16,9 @@ ghost use Rattle.wincode_io.specs.Joins.{Each};
 ghost use Rattle.wincode_base.specs.Gathered.{gathered_read};
 ghost use Rattle.wincode_base.specs.GatheredLaws.{map_read_laws, set_read_laws, hash_map_read_laws, hash_set_read_laws, bag_read_laws};
 ghost use Rattle.wincode_base.specs.LengthLaws.{bincode_laws};
-ghost use Rattle.wincode_base.specs.Lengths.{bincode, IsLengthRefused};
-ghost use Rattle.wincode_base.specs.Lists.{IsListRefused};
-ghost use Rattle.wincode_base.specs.Pairs.{pair_read, IsPairRefused};
-ghost use Rattle.wincode_base.specs.Sizes.{item_size, pair_size};
+ghost use Rattle.wincode_base.specs.Lengths.{bincode, preallocation_limit};
+ghost use Rattle.wincode_base.specs.Pairs.{pair_read};
+ghost use Rattle.wincode_base.specs.ItemSizes.{item_size, pair_size};
 
 use crate::keys::Key;
 use crate::schema::SchemaRead;
@@ -28,7 +27,7 @@ use std::alloc::Global;
 use std::collections::{BTreeMap, BTreeSet, BinaryHeap, HashMap, HashSet};
 use std::hash::Hash;
 use wincode_base::error::ReadResult;
-use wincode_base::len::BincodeLen;
+use wincode_base::len::{BincodeLen, PREALLOCATION_LIMIT};
 use wincode_base::meta::TypeMeta;
 use wincode_base::parts::Members2;
 use wincode_base::sizes::ItemSize;
@@ -42,14 +41,11 @@ where
 
     ghost Value = { List (K.Value × V.Value) };
 
-    ghost seen = { λ m. map (sees K.seen V.seen) m.entries };
+    ghost model = { λ m. map (sees K.model V.model) m.entries };
 
-    ghost proper = { Each (λ v. K.proper v.0 × V.proper v.1) };
+    ghost is_valid = { Each (λ v. K.is_valid v.0 × V.is_valid v.1) };
 
-    ghost reading = { gathered_read (sees K.seen V.seen) (Made (IsMapOf K.Dst.cmp) (map (sees K.seen V.seen))) (bincode 4194304) (pair_read K.reading V.reading) };
-
-    ghost refusal = { IsListRefused (bincode 4194304) (IsLengthRefused 4194304) (pair_size K.reading.meta V.reading.meta) (pair_read K.reading V.reading)
-        (IsPairRefused K.reading K.refusal V.reading V.refusal) };
+    ghost reading = { gathered_read (sees K.model V.model) (Made (IsMapOf K.Dst.cmp) (map (sees K.model V.model))) (bincode preallocation_limit) (pair_size K.reading.meta V.reading.meta) (pair_read K.reading V.reading) };
 
     fn type_meta() -> TypeMeta {
         TypeMeta::Dynamic
@@ -67,7 +63,7 @@ where
         let size = ItemSize::of_pair(K::type_meta(), V::type_meta());
         *dst = Some(get_list_of::<
             BTreeMap<K::Dst, V::Dst>,
-            BincodeLen<4194304>,
+            BincodeLen<PREALLOCATION_LIMIT>,
             L,
             Members2<K, V>,
             R,
@@ -75,7 +71,7 @@ where
         Ok(())
     }
 
-    ghost read_laws = { map_read_laws (bincode 4194304) (bincode_laws 4194304) K.seen V.seen K.read_laws V.read_laws K.Dst.cmp K.Dst.Ord.total K.Dst.eq K.Dst.matches_eq K.alike };
+    ghost read_laws = { map_read_laws (bincode preallocation_limit) (bincode_laws preallocation_limit) (pair_size K.reading.meta V.reading.meta) K.model V.model K.read_laws V.read_laws K.Dst.cmp K.Dst.Ord.total K.Dst.eq K.Dst.matches_eq K.alike };
 }
 
 impl<L: Lending, K: Key<L> + Eq + Hash, V: SchemaRead<L>> SchemaRead<L> for HashMap<K, V>
@@ -86,14 +82,11 @@ where
 
     ghost Value = { HashMapSeen K.Dst K.Value V.Value };
 
-    ghost seen = { λ m. hash_map_sees K.Dst.eq K.seen V.seen m.entries };
+    ghost model = { λ m. hash_map_sees K.Dst.eq K.model V.model m.entries };
 
-    ghost proper = { λ v. Unit {0} };
+    ghost is_valid = { λ v. Unit {0} };
 
-    ghost reading = { gathered_read (sees K.seen V.seen) (Made (IsHashMapOf K.Dst.eq) (hash_map_sees K.Dst.eq K.seen V.seen)) (bincode 4194304) (pair_read K.reading V.reading) };
-
-    ghost refusal = { IsListRefused (bincode 4194304) (IsLengthRefused 4194304) (pair_size K.reading.meta V.reading.meta) (pair_read K.reading V.reading)
-        (IsPairRefused K.reading K.refusal V.reading V.refusal) };
+    ghost reading = { gathered_read (sees K.model V.model) (Made (IsHashMapOf K.Dst.eq) (hash_map_sees K.Dst.eq K.model V.model)) (bincode preallocation_limit) (pair_size K.reading.meta V.reading.meta) (pair_read K.reading V.reading) };
 
     fn type_meta() -> TypeMeta {
         TypeMeta::Dynamic
@@ -111,7 +104,7 @@ where
         let size = ItemSize::of_pair(K::type_meta(), V::type_meta());
         *dst = Some(get_list_of::<
             HashMap<K::Dst, V::Dst>,
-            BincodeLen<4194304>,
+            BincodeLen<PREALLOCATION_LIMIT>,
             L,
             Members2<K, V>,
             R,
@@ -119,7 +112,7 @@ where
         Ok(())
     }
 
-    ghost read_laws = { hash_map_read_laws (bincode 4194304) (bincode_laws 4194304) K.seen V.seen K.read_laws V.read_laws K.Dst.eq K.Dst.Eq.laws K.alike };
+    ghost read_laws = { hash_map_read_laws (bincode preallocation_limit) (bincode_laws preallocation_limit) (pair_size K.reading.meta V.reading.meta) K.model V.model K.read_laws V.read_laws K.Dst.eq K.Dst.Eq.laws K.alike };
 }
 
 impl<L: Lending, K: Key<L> + Ord> SchemaRead<L> for BTreeSet<K>
@@ -130,13 +123,11 @@ where
 
     ghost Value = { List K.Value };
 
-    ghost seen = { λ s. map K.seen s.keys };
+    ghost model = { λ s. map K.model s.keys };
 
-    ghost proper = { Each K.proper };
+    ghost is_valid = { Each K.is_valid };
 
-    ghost reading = { gathered_read K.seen (Made (IsSetOf K.Dst.cmp) (map K.seen)) (bincode 4194304) K.reading };
-
-    ghost refusal = { IsListRefused (bincode 4194304) (IsLengthRefused 4194304) (item_size K.reading.meta) K.reading K.refusal };
+    ghost reading = { gathered_read K.model (Made (IsSetOf K.Dst.cmp) (map K.model)) (bincode preallocation_limit) (item_size K.reading.meta) K.reading };
 
     fn type_meta() -> TypeMeta {
         TypeMeta::Dynamic
@@ -151,11 +142,13 @@ where
         reader: &mut R,
         dst: &mut Option<BTreeSet<K::Dst>>,
     ) -> ReadResult<()> {
-        *dst = Some(get_list::<BTreeSet<K::Dst>, BincodeLen<4194304>, L, K, R>(alloc, reader)?);
+        *dst = Some(get_list::<BTreeSet<K::Dst>, BincodeLen<PREALLOCATION_LIMIT>, L, K, R>(
+            alloc, reader,
+        )?);
         Ok(())
     }
 
-    ghost read_laws = { set_read_laws (bincode 4194304) (bincode_laws 4194304) K.seen K.read_laws K.Dst.cmp K.Dst.Ord.total K.Dst.eq K.Dst.matches_eq K.alike };
+    ghost read_laws = { set_read_laws (bincode preallocation_limit) (bincode_laws preallocation_limit) (item_size K.reading.meta) K.model K.read_laws K.Dst.cmp K.Dst.Ord.total K.Dst.eq K.Dst.matches_eq K.alike };
 }
 
 impl<L: Lending, K: Key<L> + Eq + Hash> SchemaRead<L> for HashSet<K>
@@ -166,13 +159,11 @@ where
 
     ghost Value = { HashSetSeen K.Dst K.Value };
 
-    ghost seen = { λ s. hash_set_sees K.Dst.eq K.seen s.keys };
+    ghost model = { λ s. hash_set_sees K.Dst.eq K.model s.keys };
 
-    ghost proper = { λ v. Unit {0} };
+    ghost is_valid = { λ v. Unit {0} };
 
-    ghost reading = { gathered_read K.seen (Made (IsHashSetOf K.Dst.eq) (hash_set_sees K.Dst.eq K.seen)) (bincode 4194304) K.reading };
-
-    ghost refusal = { IsListRefused (bincode 4194304) (IsLengthRefused 4194304) (item_size K.reading.meta) K.reading K.refusal };
+    ghost reading = { gathered_read K.model (Made (IsHashSetOf K.Dst.eq) (hash_set_sees K.Dst.eq K.model)) (bincode preallocation_limit) (item_size K.reading.meta) K.reading };
 
     fn type_meta() -> TypeMeta {
         TypeMeta::Dynamic
@@ -187,11 +178,13 @@ where
         reader: &mut R,
         dst: &mut Option<HashSet<K::Dst>>,
     ) -> ReadResult<()> {
-        *dst = Some(get_list::<HashSet<K::Dst>, BincodeLen<4194304>, L, K, R>(alloc, reader)?);
+        *dst = Some(get_list::<HashSet<K::Dst>, BincodeLen<PREALLOCATION_LIMIT>, L, K, R>(
+            alloc, reader,
+        )?);
         Ok(())
     }
 
-    ghost read_laws = { hash_set_read_laws (bincode 4194304) (bincode_laws 4194304) K.seen K.read_laws K.Dst.eq K.Dst.Eq.laws K.alike };
+    ghost read_laws = { hash_set_read_laws (bincode preallocation_limit) (bincode_laws preallocation_limit) (item_size K.reading.meta) K.model K.read_laws K.Dst.eq K.Dst.Eq.laws K.alike };
 }
 
 impl<L: Lending, T: SchemaRead<L> + Ord> SchemaRead<L> for BinaryHeap<T>
@@ -202,13 +195,11 @@ where
 
     ghost Value = { (T.Value → Bool) → ℕ };
 
-    ghost seen = { λ h. heap_sees T.seen (heap_items h) };
+    ghost model = { λ h. heap_sees T.model (heap_items h) };
 
-    ghost proper = { λ v. Unit {0} };
+    ghost is_valid = { λ v. Unit {0} };
 
-    ghost reading = { gathered_read T.seen (Made IsPermutation (heap_sees T.seen)) (bincode 4194304) T.reading };
-
-    ghost refusal = { IsListRefused (bincode 4194304) (IsLengthRefused 4194304) (item_size T.reading.meta) T.reading T.refusal };
+    ghost reading = { gathered_read T.model (Made IsPermutation (heap_sees T.model)) (bincode preallocation_limit) (item_size T.reading.meta) T.reading };
 
     fn type_meta() -> TypeMeta {
         TypeMeta::Dynamic
@@ -223,9 +214,11 @@ where
         reader: &mut R,
         dst: &mut Option<BinaryHeap<T::Dst>>,
     ) -> ReadResult<()> {
-        *dst = Some(get_list::<BinaryHeap<T::Dst>, BincodeLen<4194304>, L, T, R>(alloc, reader)?);
+        *dst = Some(get_list::<BinaryHeap<T::Dst>, BincodeLen<PREALLOCATION_LIMIT>, L, T, R>(
+            alloc, reader,
+        )?);
         Ok(())
     }
 
-    ghost read_laws = { bag_read_laws (bincode 4194304) (bincode_laws 4194304) T.seen T.read_laws };
+    ghost read_laws = { bag_read_laws (bincode preallocation_limit) (bincode_laws preallocation_limit) (item_size T.reading.meta) T.model T.read_laws };
 }

@@ -1,8 +1,8 @@
 //! The schema of a value that has a byte form.
-ghost use Rattle.std.specs.Prelude.{true, IfOk, IfErr};
-ghost use Rattle.wincode_base.specs.Outcomes.{Gives, Refuses};
+ghost use Rattle.std.specs.Prelude.{true};
+ghost use Rattle.wincode_base.specs.Outcomes.{GetOutcome};
 ghost use Rattle.wincode_base.specs.ViewLaws.{form_prealloc_some, form_read_laws};
-ghost use Rattle.wincode_base.specs.Views.{form_prealloc, form_read, IsFormDenied, IsPodDenied};
+ghost use Rattle.wincode_base.specs.Views.{form_prealloc, pod_read};
 
 use crate::schema::SchemaRead;
 use crate::schema::as_forms::read_all;
@@ -16,9 +16,7 @@ use wincode_io::{Lending, Reader, ZeroCopy, see_bytes};
 
 /// The value of the next form, which is then gone.
 fn take_form<L: Lending, T: ZeroCopy, R: Reader<L>>(reader: &mut R) -> ReadResult<T>
-    ensures ok { IfOk result (λ v. Gives (form_read T.proper T.size T.form true (form_prealloc T.size) 0).reads (R.state reader.old) (R.state reader.new) v) }
-    ensures err { IfErr result (Refuses (form_read T.proper T.size T.form true (form_prealloc T.size) 0).reads 0 true (R.state reader.old) (R.state reader.new)) }
-    ensures refused { IfErr result (IsFormDenied 0 T.size (R.state reader.old) (R.state reader.new)) }
+    ensures { GetOutcome (pod_read T.is_valid T.size T.form) (λ v. v) (R.state reader.old) (R.state reader.new) result }
 {
     let Some(size) = T::form_size() else {
         return Err(io::ReadError::ReadSizeLimit(usize::MAX).into());
@@ -35,13 +33,11 @@ impl<L: Lending, T: ZeroCopy> SchemaRead<L> for Pod<T> {
 
     ghost Value = { T };
 
-    ghost seen = { λ v. v };
+    ghost model = { λ v. v };
 
-    ghost proper = { T.proper };
+    ghost is_valid = { T.is_valid };
 
-    ghost reading = { form_read T.proper T.size T.form true (form_prealloc T.size) 0 };
-
-    ghost refusal = { IsPodDenied T.size };
+    ghost reading = { pod_read T.is_valid T.size T.form };
 
     fn type_meta() -> TypeMeta {
         meta_of_form::<T>(true)

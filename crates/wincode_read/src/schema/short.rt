@@ -1,6 +1,6 @@
 //! Numbers below 2 to the 16 in one to three bytes, as values.
 ghost use Rattle.std.specs.Prelude.{ℕ, ◌<◌, ◌^◌};
-ghost use Rattle.wincode_base.specs.Short.{short_read, IsShortRefused};
+ghost use Rattle.wincode_base.specs.Short.{short_read};
 ghost use Rattle.wincode_base.specs.ShortLaws.{short_read_laws};
 
 use crate::schema::SchemaRead;
@@ -16,13 +16,11 @@ impl<L: Lending> SchemaRead<L> for ShortU16 {
 
     ghost Value = { ℕ };
 
-    ghost seen = { λ v. v.0 };
+    ghost model = { λ v. v.0 };
 
-    ghost proper = { λ n. n < 2 ^ 16 };
+    ghost is_valid = { λ n. n < 2 ^ 16 };
 
     ghost reading = { short_read };
-
-    ghost refusal = { IsShortRefused };
 
     fn type_meta() -> TypeMeta {
         TypeMeta::Dynamic

@@ -1,11 +1,11 @@
 //! Schemas of a tag and then what it names.
 ghost use Rattle.std.proofs.Common.{lit≤};
 ghost use Rattle.std.specs.Option.{option_map};
-ghost use Rattle.std.specs.Prelude.{Option, Result, IfOk, IfErr};
+ghost use Rattle.std.specs.Prelude.{Option, Result};
 ghost use Rattle.std.specs.Result.{result_map_both};
-ghost use Rattle.wincode_base.specs.Outcomes.{Gives, Refuses};
+ghost use Rattle.wincode_base.specs.Outcomes.{GetOutcome};
 ghost use Rattle.wincode_base.specs.TagLaws.{option_read_laws, result_read_laws};
-ghost use Rattle.wincode_base.specs.Tags.{option_read, IfPart, IsOptionRefused, result_read, IfSide, IsResultRefused};
+ghost use Rattle.wincode_base.specs.Tags.{option_read, IfPart, result_read, IfSide};
 
 use crate::schema::{SchemaGet, SchemaRead};
 use std::alloc::Global;
@@ -20,9 +20,7 @@ pub fn get_option<Tag: TagCode, L: Lending, T: SchemaRead<L>, R: Reader<L>>(
     alloc: Global,
     reader: &mut R,
 ) -> ReadResult<Option<T::Dst>>
-    ensures ok { IfOk result (λ o. Gives (option_read Tag.size T.reading).reads (R.state reader.old) (R.state reader.new) (option_map T.seen o)) }
-    ensures err { IfErr result (Refuses (option_read Tag.size T.reading).reads T.reading.asks T.reading.sparing (R.state reader.old) (R.state reader.new)) }
-    ensures refused { IfErr result (IsOptionRefused Tag.size T.reading T.refusal (R.state reader.old) (R.state reader.new)) }
+    ensures { GetOutcome (option_read Tag.size T.reading) (option_map T.model) (R.state reader.old) (R.state reader.new) result }
 {
     let tag = read_tag::<Tag, L, R>(reader)?;
     match tag {
@@ -40,10 +38,7 @@ pub fn get_result<Tag: TagCode, L: Lending, T: SchemaRead<L>, E: SchemaRead<L>, 
     alloc: Global,
     reader: &mut R,
 ) -> ReadResult<Result<T::Dst, E::Dst>>
-    ensures ok { IfOk result (λ r. Gives (result_read Tag.size T.reading E.reading).reads (R.state reader.old) (R.state reader.new) (result_map_both T.seen E.seen r)) }
-    ensures err { IfErr result (Refuses (result_read Tag.size T.reading E.reading).reads (result_read Tag.size T.reading
-        E.reading).asks (result_read Tag.size T.reading E.reading).sparing (R.state reader.old) (R.state reader.new)) }
-    ensures refused { IfErr result (IsResultRefused Tag.size T.reading T.refusal E.reading E.refusal (R.state reader.old) (R.state reader.new)) }
+    ensures { GetOutcome (result_read Tag.size T.reading E.reading) (result_map_both T.model E.model) (R.state reader.old) (R.state reader.new) result }
 {
     let side = read_tag::<Tag, L, R>(reader)?;
     match side {
@@ -64,13 +59,11 @@ impl<L: Lending, T: SchemaRead<L>> SchemaRead<L> for Option<T> {
 
     ghost Value = { Option T.Value };
 
-    ghost seen = { option_map T.seen };
+    ghost model = { option_map T.model };
 
-    ghost proper = { IfPart T.proper };
+    ghost is_valid = { IfPart T.is_valid };
 
     ghost reading = { option_read 1 T.reading };
-
-    ghost refusal = { IsOptionRefused 1 T.reading T.refusal };
 
     fn type_meta() -> TypeMeta {
         TypeMeta::Dynamic
@@ -91,7 +84,7 @@ impl<L: Lending, T: SchemaRead<L>> SchemaRead<L> for Option<T> {
         Ok(())
     }
 
-    ghost read_laws = { option_read_laws 1 (lit≤ tt) T.proper T.reading T.read_laws };
+    ghost read_laws = { option_read_laws 1 (lit≤ tt) T.is_valid T.reading T.read_laws };
 }
 
 impl<L: Lending, T: SchemaRead<L>, E: SchemaRead<L>> SchemaRead<L> for Result<T, E> {
@@ -99,13 +92,11 @@ impl<L: Lending, T: SchemaRead<L>, E: SchemaRead<L>> SchemaRead<L> for Result<T,
 
     ghost Value = { Result T.Value E.Value };
 
-    ghost seen = { result_map_both T.seen E.seen };
+    ghost model = { result_map_both T.model E.model };
 
-    ghost proper = { IfSide T.proper E.proper };
+    ghost is_valid = { IfSide T.is_valid E.is_valid };
 
     ghost reading = { result_read 4 T.reading E.reading };
-
-    ghost refusal = { IsResultRefused 4 T.reading T.refusal E.reading E.refusal };
 
     fn type_meta() -> TypeMeta {
         result_meta(4, T::type_meta(), E::type_meta())
@@ -126,5 +117,5 @@ impl<L: Lending, T: SchemaRead<L>, E: SchemaRead<L>> SchemaRead<L> for Result<T,
         Ok(())
     }
 
-    ghost read_laws = { result_read_laws 4 (lit≤ tt) T.proper E.proper T.reading E.reading T.read_laws E.read_laws };
+    ghost read_laws = { result_read_laws 4 (lit≤ tt) T.is_valid E.is_valid T.reading E.reading T.read_laws E.read_laws };
 }

@@ -1,24 +1,24 @@
 //! Schemas of characters and of texts.
 ghost use Rattle.std.proofs.Common.{lit≤};
 ghost use Rattle.std.specs.Char.{IsScalar};
-ghost use Rattle.std.specs.Prelude.{⊤, ◌≡◌, ℕ, ◌<◌, true, false, List, IsUtf8, string_bytes, IfOk, IfErr, OnOk, OnErr};
+ghost use Rattle.std.specs.Prelude.{⊤, ◌≡◌, ℕ, true, false, List, IsUtf8, string_bytes, IfOk, IfErr};
 ghost use Rattle.wincode_io.specs.Readers.{Stays, Arrays, IsPeeked};
-ghost use Rattle.wincode_base.specs.Outcomes.{Gives, Puts, Refuses, IsDenied};
-ghost use Rattle.wincode_base.specs.Text.{char_read, announced, IsCharRefused, text_read, IsTextBody, IsTextBodyRefused, IsTextRefused, IsUnlending};
-ghost use Rattle.wincode_base.specs.TextLaws.{char_read_laws, text_read_laws};
+ghost use Rattle.wincode_base.specs.Outcomes.{PieceReadRefused, ReadOutcome, GetOutcome};
+ghost use Rattle.wincode_base.specs.Strings.{char_read, announced, str_read, body_read, StrBytesReadRefused};
+ghost use Rattle.wincode_base.specs.StringLaws.{char_read_laws, str_read_laws};
 
 use crate::schema::SchemaRead;
 use std::alloc::Global;
 use std::str;
 use wincode_base::error::{ReadError, ReadResult, invalid_char_lead, invalid_utf8_encoding};
-use wincode_base::len::{BincodeLen, SeqLen};
+use wincode_base::len::{BincodeLen, PREALLOCATION_LIMIT, SeqLen};
 use wincode_base::meta::TypeMeta;
 use wincode_io::{Lending, Reader};
 
 /// The first byte, which stays.
 fn peek_lead<L: Lending, R: Reader<L>>(reader: &mut R) -> ReadResult<u8>
     ensures ok { IfOk result (λ b. Stays (R.state reader.old) (R.state reader.new) × IsPeeked (R.state reader.old) b) }
-    ensures err { IfErr result (IsDenied 1 (R.state reader.old) (R.state reader.new)) }
+    ensures err { IfErr result (PieceReadRefused 1 (R.state reader.old) (R.state reader.new)) }
 {
     let lead = reader.peek()?;
     Ok(*lead)
@@ -26,9 +26,7 @@ fn peek_lead<L: Lending, R: Reader<L>>(reader: &mut R) -> ReadResult<u8>
 
 /// The first character, which is then gone. Refused, all bytes stay.
 fn take_char<L: Lending, R: Reader<L>>(reader: &mut R) -> ReadResult<char>
-    ensures ok { IfOk result (λ c. Gives char_read.reads (R.state reader.old) (R.state reader.new) c) }
-    ensures err { IfErr result (Refuses char_read.reads 0 true (R.state reader.old) (R.state reader.new)) }
-    ensures refused { IfErr result (IsCharRefused (R.state reader.old) (R.state reader.new)) }
+    ensures { GetOutcome char_read (λ c. c) (R.state reader.old) (R.state reader.new) result }
 {
     let lead = peek_lead::<L, R>(reader)?;
     let count = announced(lead);
@@ -51,13 +49,11 @@ impl<L: Lending> SchemaRead<L> for char {
 
     ghost Value = { ℕ };
 
-    ghost seen = { λ c. c };
+    ghost model = { λ c. c };
 
-    ghost proper = { IsScalar };
+    ghost is_valid = { IsScalar };
 
     ghost reading = { char_read };
-
-    ghost refusal = { IsCharRefused };
 
     fn type_meta() -> TypeMeta {
         TypeMeta::Dynamic
@@ -90,7 +86,7 @@ fn copy_bytes<L: Lending, R: Reader<L>>(
     n: usize,
 ) -> ReadResult<Vec<u8>>
     ensures ok { IfOk result (λ v. Arrays n (R.state reader.old) (R.state reader.new) v.items) }
-    ensures err { IfErr result (IsTextBodyRefused ⊥ ⊤ n (R.state reader.old) (R.state reader.new)) }
+    ensures err { IfErr result (StrBytesReadRefused ⊥ ⊤ n (R.state reader.old) (R.state reader.new)) }
 {
     let bytes = reader.fill_exact(n)?;
     match Vec::from_slice(alloc, bytes) {
@@ -105,9 +101,7 @@ fn take_text<L: Lending, R: Reader<L>>(
     reader: &mut R,
     n: usize,
 ) -> ReadResult<String>
-    ensures ok { IfOk result (λ s. Gives (IsTextBody n) (R.state reader.old) (R.state reader.new) (string_bytes s)) }
-    ensures err { IfErr result (Refuses (IsTextBody n) 0 false (R.state reader.old) (R.state reader.new)) }
-    ensures refused { IfErr result (IsTextBodyRefused ⊥ ⊤ n (R.state reader.old) (R.state reader.new)) }
+    ensures { GetOutcome (body_read n 0 false) (λ s. string_bytes s) (R.state reader.old) (R.state reader.new) result }
 {
     let bytes = copy_bytes::<L, R>(alloc, reader, n)?;
     reader.consume_unchecked(n);
@@ -119,11 +113,9 @@ fn take_text<L: Lending, R: Reader<L>>(
 
 /// A text behind its length.
 fn get_text<L: Lending, R: Reader<L>>(alloc: Global, reader: &mut R) -> ReadResult<String>
-    ensures ok { IfOk result (λ s. Gives (text_read 24 0 false).reads (R.state reader.old) (R.state reader.new) (string_bytes s)) }
-    ensures err { IfErr result (Refuses (text_read 24 0 false).reads 0 false (R.state reader.old) (R.state reader.new)) }
-    ensures refused { IfErr result (IsTextRefused (λ _. ⊥) ⊤ (R.state reader.old) (R.state reader.new)) }
+    ensures { GetOutcome (str_read 24 0 false) (λ s. string_bytes s) (R.state reader.old) (R.state reader.new) result }
 {
-    let n = BincodeLen::<4194304>::read::<L, R>(reader, 1)?;
+    let n = BincodeLen::<PREALLOCATION_LIMIT>::read::<L, R>(reader, 1)?;
     take_text::<L, R>(alloc, reader, n)
 }
 
@@ -132,13 +124,11 @@ impl<L: Lending> SchemaRead<L> for String {
 
     ghost Value = { List ℕ };
 
-    ghost seen = { λ s. string_bytes s };
+    ghost model = { λ s. string_bytes s };
 
-    ghost proper = { IsUtf8 };
+    ghost is_valid = { IsUtf8 };
 
-    ghost reading = { text_read 24 0 false };
-
-    ghost refusal = { IsTextRefused (λ _. ⊥) ⊤ };
+    ghost reading = { str_read 24 0 false };
 
     fn type_meta() -> TypeMeta {
         TypeMeta::Dynamic
@@ -160,14 +150,12 @@ impl<L: Lending> SchemaRead<L> for String {
         Ok(())
     }
 
-    ghost read_laws = { text_read_laws 24 0 false (lit≤ tt) };
+    ghost read_laws = { str_read_laws 24 0 false (lit≤ tt) };
 }
 
 /// The text of the next `n` bytes, lent; they are then gone.
 fn borrow_text<L: Lending, R: Reader<L>>(reader: &mut R, n: usize) -> ReadResult<L::Text>
-    ensures ok { IfOk result (λ s. Gives (IsTextBody n) (R.state reader.old) (R.state reader.new) (L.held_text s)) }
-    ensures err { IfErr result (Refuses (IsTextBody n) 1 true (R.state reader.old) (R.state reader.new)) }
-    ensures refused { IfErr result (IsTextBodyRefused (IsUnlending (R.state reader.old)) ⊥ n (R.state reader.old) (R.state reader.new)) }
+    ensures { GetOutcome (body_read n 1 true) (λ s. L.held_text s) (R.state reader.old) (R.state reader.new) result }
 {
     let bytes = reader.borrow_exact(n)?;
     match L::text(bytes) {
@@ -178,11 +166,9 @@ fn borrow_text<L: Lending, R: Reader<L>>(reader: &mut R, n: usize) -> ReadResult
 
 /// A lent text behind its length.
 fn lend_text<L: Lending, R: Reader<L>>(reader: &mut R) -> ReadResult<L::Text>
-    ensures ok { IfOk result (λ s. Gives (text_read 16 1 true).reads (R.state reader.old) (R.state reader.new) (L.held_text s)) }
-    ensures err { IfErr result (Refuses (text_read 16 1 true).reads 1 true (R.state reader.old) (R.state reader.new)) }
-    ensures refused { IfErr result (IsTextRefused IsUnlending ⊥ (R.state reader.old) (R.state reader.new)) }
+    ensures { GetOutcome (str_read 16 1 true) (λ s. L.held_text s) (R.state reader.old) (R.state reader.new) result }
 {
-    let n = BincodeLen::<4194304>::read::<L, R>(reader, 1)?;
+    let n = BincodeLen::<PREALLOCATION_LIMIT>::read::<L, R>(reader, 1)?;
     borrow_text::<L, R>(reader, n)
 }
 
@@ -192,16 +178,14 @@ impl<'s, L: Lending> SchemaRead<L> for &'s str {
 
     ghost Value = { List ℕ };
 
-    ghost seen = { λ s. L.held_text s };
+    ghost model = { λ s. L.held_text s };
 
-    ghost proper = { IsUtf8 };
+    ghost is_valid = { IsUtf8 };
 
-    ghost reading = { text_read 16 1 true };
-
-    ghost refusal = { IsTextRefused IsUnlending ⊥ };
+    ghost reading = { str_read 16 1 true };
 
     fn type_meta() -> TypeMeta
-        ensures { result ≡ (text_read 16 1 true).meta }
+        ensures { result ≡ (str_read 16 1 true).meta }
     {
         TypeMeta::Dynamic
     }
@@ -220,16 +204,13 @@ impl<'s, L: Lending> SchemaRead<L> for &'s str {
         reader: &mut R,
         dst: &mut Option<L::Text>,
     ) -> ReadResult<()>
-        ensures ok { OnOk result (Puts (text_read 16 1 true).reads (λ s. L.held_text s) (R.state reader.old) (R.state reader.new) dst.new) }
-        ensures err { IfErr result (Refuses (text_read 16 1 true).reads 1 true (R.state reader.old) (R.state reader.new)) }
-        ensures refused { IfErr result (IsTextRefused IsUnlending ⊥ (R.state reader.old) (R.state reader.new)) }
-        ensures same { OnErr result (dst.new ≡ dst.old) }
+        ensures { ReadOutcome (str_read 16 1 true) (λ s. L.held_text s) (R.state reader.old) (R.state reader.new) dst.old dst.new result }
     {
         *dst = Some(lend_text::<L, R>(reader)?);
         Ok(())
     }
 
-    ghost read_laws = { text_read_laws 16 1 true (lit≤ tt) };
+    ghost read_laws = { str_read_laws 16 1 true (lit≤ tt) };
 }
 
 /// How many bytes a character has whose first byte this is; 0 where it is the first byte of none.

@@ -3,11 +3,11 @@
 //! Where all members have one size, the tuple is read through one window of the sum, in bytes: fewer bytes are
 //! `Io(ReadSizeLimit)` of the sum, and stay; where a member is refused, the bytes of the whole tuple are gone.
 //! Other tuples go member by member, and a refusal leaves what is behind the members before it.
-ghost use Rattle.std.specs.Prelude.{◌≡◌, IfErr, OnErr, OnOk};
-ghost use Rattle.wincode_base.specs.InWindow.{IsStaticRefused};
-ghost use Rattle.wincode_base.specs.Outcomes.{Puts, Refuses};
-ghost use Rattle.wincode_base.specs.PairLaws.{pair_read_laws};
-ghost use Rattle.wincode_base.specs.Pairs.{pair_read, IsPairRefused};
+ghost use Rattle.std.specs.Prelude.{◌≡◌};
+ghost use Rattle.wincode_base.specs.InWindow.{windowed_read};
+ghost use Rattle.wincode_base.specs.Outcomes.{ReadOutcome};
+ghost use Rattle.wincode_base.specs.PairLaws.{pair_read_laws, windowed_read_laws};
+ghost use Rattle.wincode_base.specs.Pairs.{pair_read};
 
 mod longer;
 
@@ -36,10 +36,7 @@ fn read_pairs<L: Lending, T: SchemaRead<L>, D: FromPairs<T::Dst> + Drop, R: Read
     reader: &mut R,
     dst: &mut Option<D>,
 ) -> ReadResult<()>
-    ensures ok { OnOk result (Puts T.reading.reads (λ d. T.seen (D.pairs d)) (R.state reader.old) (R.state reader.new) dst.new) }
-    ensures err { IfErr result (Refuses T.reading.reads T.reading.asks T.reading.sparing (R.state reader.old) (R.state reader.new)) }
-    ensures placed { IfErr result (IsStaticRefused T.reading.meta T.refusal (R.state reader.old) (R.state reader.new)) }
-    ensures same { OnErr result (dst.new ≡ dst.old) }
+    ensures { ReadOutcome (windowed_read T.reading) (λ d. T.model (D.pairs d)) (R.state reader.old) (R.state reader.new) dst.old dst.new result }
 {
     *dst = Some(D::from_pairs(get_in_window::<L, T, R>(alloc, reader)?));
     Ok(())
@@ -50,13 +47,11 @@ impl<L: Lending, A: SchemaRead<L>, B: SchemaRead<L>> SchemaRead<L> for Members2<
 
     ghost Value = { A.Value × B.Value };
 
-    ghost seen = { λ t. (A.seen t.0, B.seen t.1) };
+    ghost model = { λ t. (A.model t.0, B.model t.1) };
 
-    ghost proper = { λ v. A.proper v.0 × B.proper v.1 };
+    ghost is_valid = { λ v. A.is_valid v.0 × B.is_valid v.1 };
 
     ghost reading = { pair_read A.reading B.reading };
-
-    ghost refusal = { IsPairRefused A.reading A.refusal B.reading B.refusal };
 
     fn type_meta() -> TypeMeta {
         joined_meta(A::type_meta(), B::type_meta())
@@ -85,13 +80,11 @@ impl<L: Lending, A: SchemaRead<L>, B: SchemaRead<L>> SchemaRead<L> for (A, B) {
 
     ghost Value = { ⟦<Members2<A, B> as SchemaRead<L>>⟧.Value };
 
-    ghost seen = { λ t. ⟦<Members2<A, B> as SchemaRead<L>>⟧.seen (t.0, t.1) };
+    ghost model = { λ t. ⟦<Members2<A, B> as SchemaRead<L>>⟧.model (t.0, t.1) };
 
-    ghost proper = { ⟦<Members2<A, B> as SchemaRead<L>>⟧.proper };
+    ghost is_valid = { ⟦<Members2<A, B> as SchemaRead<L>>⟧.is_valid };
 
-    ghost reading = { ⟦<Members2<A, B> as SchemaRead<L>>⟧.reading };
-
-    ghost refusal = { IsStaticRefused ⟦<Members2<A, B> as SchemaRead<L>>⟧.reading.meta ⟦<Members2<A, B> as SchemaRead<L>>⟧.refusal };
+    ghost reading = { windowed_read ⟦<Members2<A, B> as SchemaRead<L>>⟧.reading };
 
     fn type_meta() -> TypeMeta {
         joined_meta(A::type_meta(), B::type_meta())
@@ -109,7 +102,7 @@ impl<L: Lending, A: SchemaRead<L>, B: SchemaRead<L>> SchemaRead<L> for (A, B) {
         read_in_window::<L, Members2<A, B>, R>(alloc, reader, dst)
     }
 
-    ghost read_laws = { pair_read_laws A.read_laws B.read_laws };
+    ghost read_laws = { windowed_read_laws (pair_read_laws A.read_laws B.read_laws) };
 }
 
 impl<A, B, C> FromPairs<(A, (B, C))> for (A, B, C) {
@@ -126,13 +119,11 @@ impl<L: Lending, A: SchemaRead<L>, B: SchemaRead<L>, C: SchemaRead<L>> SchemaRea
 
     ghost Value = { ⟦<Members3<A, B, C> as SchemaRead<L>>⟧.Value };
 
-    ghost seen = { λ t. ⟦<Members3<A, B, C> as SchemaRead<L>>⟧.seen (t.0, (t.1, t.2)) };
+    ghost model = { λ t. ⟦<Members3<A, B, C> as SchemaRead<L>>⟧.model (t.0, (t.1, t.2)) };
 
-    ghost proper = { ⟦<Members3<A, B, C> as SchemaRead<L>>⟧.proper };
+    ghost is_valid = { ⟦<Members3<A, B, C> as SchemaRead<L>>⟧.is_valid };
 
-    ghost reading = { ⟦<Members3<A, B, C> as SchemaRead<L>>⟧.reading };
-
-    ghost refusal = { IsStaticRefused ⟦<Members3<A, B, C> as SchemaRead<L>>⟧.reading.meta ⟦<Members3<A, B, C> as SchemaRead<L>>⟧.refusal };
+    ghost reading = { windowed_read ⟦<Members3<A, B, C> as SchemaRead<L>>⟧.reading };
 
     fn type_meta() -> TypeMeta {
         joined_meta(A::type_meta(), <(B, C) as SchemaRead<L>>::type_meta())
@@ -150,7 +141,7 @@ impl<L: Lending, A: SchemaRead<L>, B: SchemaRead<L>, C: SchemaRead<L>> SchemaRea
         read_pairs::<L, Members3<A, B, C>, Self::Dst, R>(alloc, reader, dst)
     }
 
-    ghost read_laws = { pair_read_laws A.read_laws (pair_read_laws B.read_laws C.read_laws) };
+    ghost read_laws = { windowed_read_laws (pair_read_laws A.read_laws (pair_read_laws B.read_laws C.read_laws)) };
 }
 
 impl<A, B, C, D> FromPairs<(A, (B, (C, D)))> for (A, B, C, D) {
@@ -169,13 +160,11 @@ impl<L: Lending, A: SchemaRead<L>, B: SchemaRead<L>, C: SchemaRead<L>, D: Schema
 
     ghost Value = { ⟦<Members4<A, B, C, D> as SchemaRead<L>>⟧.Value };
 
-    ghost seen = { λ t. ⟦<Members4<A, B, C, D> as SchemaRead<L>>⟧.seen (t.0, (t.1, (t.2, t.3))) };
+    ghost model = { λ t. ⟦<Members4<A, B, C, D> as SchemaRead<L>>⟧.model (t.0, (t.1, (t.2, t.3))) };
 
-    ghost proper = { ⟦<Members4<A, B, C, D> as SchemaRead<L>>⟧.proper };
+    ghost is_valid = { ⟦<Members4<A, B, C, D> as SchemaRead<L>>⟧.is_valid };
 
-    ghost reading = { ⟦<Members4<A, B, C, D> as SchemaRead<L>>⟧.reading };
-
-    ghost refusal = { IsStaticRefused ⟦<Members4<A, B, C, D> as SchemaRead<L>>⟧.reading.meta ⟦<Members4<A, B, C, D> as SchemaRead<L>>⟧.refusal };
+    ghost reading = { windowed_read ⟦<Members4<A, B, C, D> as SchemaRead<L>>⟧.reading };
 
     fn type_meta() -> TypeMeta {
         joined_meta(A::type_meta(), <(B, C, D) as SchemaRead<L>>::type_meta())
@@ -193,8 +182,7 @@ impl<L: Lending, A: SchemaRead<L>, B: SchemaRead<L>, C: SchemaRead<L>, D: Schema
         read_pairs::<L, Members4<A, B, C, D>, Self::Dst, R>(alloc, reader, dst)
     }
 
-    ghost read_laws = { pair_read_laws A.read_laws (pair_read_laws B.read_laws (pair_read_laws C.read_laws
-        D.read_laws)) };
+    ghost read_laws = { windowed_read_laws (pair_read_laws A.read_laws (pair_read_laws B.read_laws (pair_read_laws C.read_laws D.read_laws))) };
 }
 
 impl<A, B, C, D, E> FromPairs<(A, (B, (C, (D, E))))> for (A, B, C, D, E) {
@@ -218,13 +206,11 @@ impl<
 
     ghost Value = { ⟦<Members5<A, B, C, D, E> as SchemaRead<L>>⟧.Value };
 
-    ghost seen = { λ t. ⟦<Members5<A, B, C, D, E> as SchemaRead<L>>⟧.seen (t.0, (t.1, (t.2, (t.3, t.4)))) };
+    ghost model = { λ t. ⟦<Members5<A, B, C, D, E> as SchemaRead<L>>⟧.model (t.0, (t.1, (t.2, (t.3, t.4)))) };
 
-    ghost proper = { ⟦<Members5<A, B, C, D, E> as SchemaRead<L>>⟧.proper };
+    ghost is_valid = { ⟦<Members5<A, B, C, D, E> as SchemaRead<L>>⟧.is_valid };
 
-    ghost reading = { ⟦<Members5<A, B, C, D, E> as SchemaRead<L>>⟧.reading };
-
-    ghost refusal = { IsStaticRefused ⟦<Members5<A, B, C, D, E> as SchemaRead<L>>⟧.reading.meta ⟦<Members5<A, B, C, D, E> as SchemaRead<L>>⟧.refusal };
+    ghost reading = { windowed_read ⟦<Members5<A, B, C, D, E> as SchemaRead<L>>⟧.reading };
 
     fn type_meta() -> TypeMeta {
         joined_meta(A::type_meta(), <(B, C, D, E) as SchemaRead<L>>::type_meta())
@@ -242,8 +228,7 @@ impl<
         read_pairs::<L, Members5<A, B, C, D, E>, Self::Dst, R>(alloc, reader, dst)
     }
 
-    ghost read_laws = { pair_read_laws A.read_laws (pair_read_laws B.read_laws (pair_read_laws C.read_laws
-        (pair_read_laws D.read_laws E.read_laws))) };
+    ghost read_laws = { windowed_read_laws (pair_read_laws A.read_laws (pair_read_laws B.read_laws (pair_read_laws C.read_laws (pair_read_laws D.read_laws E.read_laws)))) };
 }
 
 impl<A, B, C, D, E, F> FromPairs<(A, (B, (C, (D, (E, F)))))> for (A, B, C, D, E, F) {
@@ -268,13 +253,11 @@ impl<
 
     ghost Value = { ⟦<Members6<A, B, C, D, E, F> as SchemaRead<L>>⟧.Value };
 
-    ghost seen = { λ t. ⟦<Members6<A, B, C, D, E, F> as SchemaRead<L>>⟧.seen (t.0, (t.1, (t.2, (t.3, (t.4, t.5))))) };
+    ghost model = { λ t. ⟦<Members6<A, B, C, D, E, F> as SchemaRead<L>>⟧.model (t.0, (t.1, (t.2, (t.3, (t.4, t.5))))) };
 
-    ghost proper = { ⟦<Members6<A, B, C, D, E, F> as SchemaRead<L>>⟧.proper };
+    ghost is_valid = { ⟦<Members6<A, B, C, D, E, F> as SchemaRead<L>>⟧.is_valid };
 
-    ghost reading = { ⟦<Members6<A, B, C, D, E, F> as SchemaRead<L>>⟧.reading };
-
-    ghost refusal = { IsStaticRefused ⟦<Members6<A, B, C, D, E, F> as SchemaRead<L>>⟧.reading.meta ⟦<Members6<A, B, C, D, E, F> as SchemaRead<L>>⟧.refusal };
+    ghost reading = { windowed_read ⟦<Members6<A, B, C, D, E, F> as SchemaRead<L>>⟧.reading };
 
     fn type_meta() -> TypeMeta {
         joined_meta(
@@ -295,8 +278,7 @@ impl<
         read_pairs::<L, Members6<A, B, C, D, E, F>, Self::Dst, R>(alloc, reader, dst)
     }
 
-    ghost read_laws = { pair_read_laws A.read_laws (pair_read_laws B.read_laws (pair_read_laws C.read_laws
-        (pair_read_laws D.read_laws (pair_read_laws E.read_laws F.read_laws)))) };
+    ghost read_laws = { windowed_read_laws (pair_read_laws A.read_laws (pair_read_laws B.read_laws (pair_read_laws C.read_laws (pair_read_laws D.read_laws (pair_read_laws E.read_laws F.read_laws))))) };
 }
 
 impl<A, B, C, D, E, F, G> FromPairs<(A, (B, (C, (D, (E, (F, G))))))> for (A, B, C, D, E, F, G) {
@@ -322,13 +304,11 @@ impl<
 
     ghost Value = { ⟦<Members7<A, B, C, D, E, F, G> as SchemaRead<L>>⟧.Value };
 
-    ghost seen = { λ t. ⟦<Members7<A, B, C, D, E, F, G> as SchemaRead<L>>⟧.seen (t.0, (t.1, (t.2, (t.3, (t.4, (t.5, t.6)))))) };
+    ghost model = { λ t. ⟦<Members7<A, B, C, D, E, F, G> as SchemaRead<L>>⟧.model (t.0, (t.1, (t.2, (t.3, (t.4, (t.5, t.6)))))) };
 
-    ghost proper = { ⟦<Members7<A, B, C, D, E, F, G> as SchemaRead<L>>⟧.proper };
+    ghost is_valid = { ⟦<Members7<A, B, C, D, E, F, G> as SchemaRead<L>>⟧.is_valid };
 
-    ghost reading = { ⟦<Members7<A, B, C, D, E, F, G> as SchemaRead<L>>⟧.reading };
-
-    ghost refusal = { IsStaticRefused ⟦<Members7<A, B, C, D, E, F, G> as SchemaRead<L>>⟧.reading.meta ⟦<Members7<A, B, C, D, E, F, G> as SchemaRead<L>>⟧.refusal };
+    ghost reading = { windowed_read ⟦<Members7<A, B, C, D, E, F, G> as SchemaRead<L>>⟧.reading };
 
     fn type_meta() -> TypeMeta {
         joined_meta(
@@ -349,8 +329,7 @@ impl<
         read_pairs::<L, Members7<A, B, C, D, E, F, G>, Self::Dst, R>(alloc, reader, dst)
     }
 
-    ghost read_laws = { pair_read_laws A.read_laws (pair_read_laws B.read_laws (pair_read_laws C.read_laws
-        (pair_read_laws D.read_laws (pair_read_laws E.read_laws (pair_read_laws F.read_laws G.read_laws))))) };
+    ghost read_laws = { windowed_read_laws (pair_read_laws A.read_laws (pair_read_laws B.read_laws (pair_read_laws C.read_laws (pair_read_laws D.read_laws (pair_read_laws E.read_laws (pair_read_laws F.read_laws G.read_laws)))))) };
 }
 
 impl<A, B, C, D, E, F, G, H> FromPairs<(A, (B, (C, (D, (E, (F, (G, H)))))))>
@@ -387,13 +366,11 @@ impl<
 
     ghost Value = { ⟦<Members8<A, B, C, D, E, F, G, H> as SchemaRead<L>>⟧.Value };
 
-    ghost seen = { λ t. ⟦<Members8<A, B, C, D, E, F, G, H> as SchemaRead<L>>⟧.seen (t.0, (t.1, (t.2, (t.3, (t.4, (t.5, (t.6, t.7))))))) };
+    ghost model = { λ t. ⟦<Members8<A, B, C, D, E, F, G, H> as SchemaRead<L>>⟧.model (t.0, (t.1, (t.2, (t.3, (t.4, (t.5, (t.6, t.7))))))) };
 
-    ghost proper = { ⟦<Members8<A, B, C, D, E, F, G, H> as SchemaRead<L>>⟧.proper };
+    ghost is_valid = { ⟦<Members8<A, B, C, D, E, F, G, H> as SchemaRead<L>>⟧.is_valid };
 
-    ghost reading = { ⟦<Members8<A, B, C, D, E, F, G, H> as SchemaRead<L>>⟧.reading };
-
-    ghost refusal = { IsStaticRefused ⟦<Members8<A, B, C, D, E, F, G, H> as SchemaRead<L>>⟧.reading.meta ⟦<Members8<A, B, C, D, E, F, G, H> as SchemaRead<L>>⟧.refusal };
+    ghost reading = { windowed_read ⟦<Members8<A, B, C, D, E, F, G, H> as SchemaRead<L>>⟧.reading };
 
     fn type_meta() -> TypeMeta {
         joined_meta(
@@ -414,7 +391,5 @@ impl<
         read_pairs::<L, Members8<A, B, C, D, E, F, G, H>, Self::Dst, R>(alloc, reader, dst)
     }
 
-    ghost read_laws = { pair_read_laws A.read_laws (pair_read_laws B.read_laws (pair_read_laws C.read_laws
-        (pair_read_laws D.read_laws (pair_read_laws E.read_laws (pair_read_laws F.read_laws (pair_read_laws
-        G.read_laws H.read_laws)))))) };
+    ghost read_laws = { windowed_read_laws (pair_read_laws A.read_laws (pair_read_laws B.read_laws (pair_read_laws C.read_laws (pair_read_laws D.read_laws (pair_read_laws E.read_laws (pair_read_laws F.read_laws (pair_read_laws G.read_laws H.read_laws))))))) };
 }

@@ -7,15 +7,15 @@
 //! it is `ReadSizeLimit` of their size, where they aren't lent `UnsupportedZeroCopy`, where their size is
 //! past `usize::MAX` `LengthEncodingOverflow`; then the reader stands behind the number.
 ghost use Rattle.std.proofs.Common.{lit≤};
-ghost use Rattle.std.specs.Prelude.{◌≡◌, ℕ, ◌<◌, ◌^◌, List, false, true, IfOk, IfErr, OnOk, OnErr, max};
+ghost use Rattle.std.specs.Prelude.{◌≡◌, ℕ, ◌<◌, ◌^◌, List, false, true, max};
 ghost use Rattle.wincode_io.specs.Joins.{Each};
 ghost use Rattle.wincode_io.specs.Readers.{shared, for_writing};
 ghost use Rattle.wincode_io.specs.Viewed.{value_seen, values_seen};
 ghost use Rattle.wincode_base.specs.LeafLaws.{number_read_laws};
 ghost use Rattle.wincode_base.specs.Leaves.{number_read};
-ghost use Rattle.wincode_base.specs.Outcomes.{Gives, Puts, Refuses};
+ghost use Rattle.wincode_base.specs.Outcomes.{ReadOutcome, GetOutcome};
 ghost use Rattle.wincode_base.specs.ViewLaws.{counts_some, form_read_laws, lent_read_laws};
-ghost use Rattle.wincode_base.specs.Views.{counted_read, form_read, lent_read, forms_read, IsFormDenied, IsLentRefused, IsLentRun, IsLentRunRefused};
+ghost use Rattle.wincode_base.specs.Views.{form_item_read, view_read, lent_read, lent_run, forms_read};
 ghost use Rattle.wincode_base.specs.declared.meta.TypeMeta.TheVariants.{Dynamic};
 
 use crate::schema::SchemaRead;
@@ -31,9 +31,7 @@ use wincode_io::{Borrowed, Lending, Reader, SliceView, View, ZeroCopy, total_siz
 fn lend_form<L: Lending, B: Borrowed<L>, T: ZeroCopy, R: Reader<L>>(
     reader: &mut R,
 ) -> ReadResult<View<B::Lent, T>>
-    ensures ok { IfOk result (λ v. Gives (form_read T.proper T.size T.form false 8 B.asks).reads (R.state reader.old) (R.state reader.new) (value_seen v)) }
-    ensures err { IfErr result (Refuses (form_read T.proper T.size T.form false 8 B.asks).reads B.asks true (R.state reader.old) (R.state reader.new)) }
-    ensures refused { IfErr result (IsFormDenied B.asks T.size (R.state reader.old) (R.state reader.new)) }
+    ensures { GetOutcome (view_read T.is_valid T.size T.form B.borrow) (λ v. value_seen v) (R.state reader.old) (R.state reader.new) result }
 {
     let Some(size) = T::form_size() else {
         return Err(io::ReadError::ReadSizeLimit(usize::MAX).into());
@@ -47,9 +45,7 @@ fn lend_run<L: Lending, B: Borrowed<L>, T: ZeroCopy, R: Reader<L>>(
     reader: &mut R,
     n: usize,
 ) -> ReadResult<SliceView<B::Lent, T>>
-    ensures ok { IfOk result (λ v. Gives (IsLentRun (counted_read T.proper T.size T.form) n) (R.state reader.old) (R.state reader.new) (values_seen v)) }
-    ensures err { IfErr result (Refuses (IsLentRun (counted_read T.proper T.size T.form) n) B.asks true (R.state reader.old) (R.state reader.new)) }
-    ensures refused { IfErr result (IsLentRunRefused B.asks T.size n (R.state reader.old) (R.state reader.new)) }
+    ensures { GetOutcome (lent_run B.borrow T.size (form_item_read T.is_valid T.size T.form) n) (λ v. values_seen v) (R.state reader.old) (R.state reader.new) result }
 {
     let Some(total) = total_size::<T>(n) else {
         return Err(read_length_encoding_overflow("usize::MAX"));
@@ -62,9 +58,7 @@ fn lend_run<L: Lending, B: Borrowed<L>, T: ZeroCopy, R: Reader<L>>(
 pub(crate) fn lend_forms<L: Lending, B: Borrowed<L>, T: ZeroCopy, R: Reader<L>>(
     reader: &mut R,
 ) -> ReadResult<SliceView<B::Lent, T>>
-    ensures ok { IfOk result (λ v. Gives (forms_read T.proper T.size T.form B.asks).reads (R.state reader.old) (R.state reader.new) (values_seen v)) }
-    ensures err { IfErr result (Refuses (forms_read T.proper T.size T.form B.asks).reads B.asks true (R.state reader.old) (R.state reader.new)) }
-    ensures refused { IfErr result (IsLentRefused B.asks T.size (R.state reader.old) (R.state reader.new)) }
+    ensures { GetOutcome (forms_read T.is_valid T.size T.form B.borrow) (λ v. values_seen v) (R.state reader.old) (R.state reader.new) result }
 {
     let n = take_number::<L, R>(reader)? as usize;
     lend_run::<L, B, T, R>(reader, n)
@@ -76,13 +70,11 @@ impl<L: Lending, B: Borrowed<L>, T: ZeroCopy> SchemaRead<L> for View<B, T> {
 
     ghost Value = { T };
 
-    ghost seen = { λ v. value_seen v };
+    ghost model = { λ v. value_seen v };
 
-    ghost proper = { T.proper };
+    ghost is_valid = { T.is_valid };
 
-    ghost reading = { form_read T.proper T.size T.form false 8 B.asks };
-
-    ghost refusal = { IsFormDenied B.asks T.size };
+    ghost reading = { view_read T.is_valid T.size T.form B.borrow };
 
     fn type_meta() -> TypeMeta {
         meta_of_form::<T>(false)
@@ -101,7 +93,7 @@ impl<L: Lending, B: Borrowed<L>, T: ZeroCopy> SchemaRead<L> for View<B, T> {
         Ok(())
     }
 
-    ghost read_laws = { form_read_laws T.byte_form false 8 B.asks (lit≤ tt) };
+    ghost read_laws = { form_read_laws T.byte_form false 8 B.borrow (lit≤ tt) };
 }
 
 /// A `SliceRef` or a `SliceRefMut` is forms behind their number, viewed where they lie.
@@ -110,13 +102,11 @@ impl<L: Lending, B: Borrowed<L>, T: ZeroCopy> SchemaRead<L> for SliceView<B, T> 
 
     ghost Value = { List T };
 
-    ghost seen = { λ v. values_seen v };
+    ghost model = { λ v. values_seen v };
 
-    ghost proper = { Each T.proper };
+    ghost is_valid = { Each T.is_valid };
 
-    ghost reading = { forms_read T.proper T.size T.form B.asks };
-
-    ghost refusal = { IsLentRefused B.asks T.size };
+    ghost reading = { forms_read T.is_valid T.size T.form B.borrow };
 
     fn type_meta() -> TypeMeta {
         TypeMeta::Dynamic
@@ -135,15 +125,13 @@ impl<L: Lending, B: Borrowed<L>, T: ZeroCopy> SchemaRead<L> for SliceView<B, T> 
         Ok(())
     }
 
-    ghost read_laws = { lent_read_laws B.asks T.proper (counted_read T.proper T.size T.form)
+    ghost read_laws = { lent_read_laws B.borrow T.size T.is_valid (form_item_read T.is_valid T.size T.form)
         (form_read_laws T.byte_form true (max T.size 1) 0 (counts_some T.size)) };
 }
 
 /// The bytes behind their number.
 fn lend_bytes<L: Lending, B: Borrowed<L>, R: Reader<L>>(reader: &mut R) -> ReadResult<B::Lent>
-    ensures ok { IfOk result (λ s. Gives (lent_read B.asks (number_read 1 true)).reads (R.state reader.old) (R.state reader.new) (B.Lent.holds s)) }
-    ensures err { IfErr result (Refuses (lent_read B.asks (number_read 1 true)).reads B.asks true (R.state reader.old) (R.state reader.new)) }
-    ensures refused { IfErr result (IsLentRefused B.asks 1 (R.state reader.old) (R.state reader.new)) }
+    ensures { GetOutcome (lent_read B.borrow 1 (number_read 1 true)) (λ s. B.Lent.holds s) (R.state reader.old) (R.state reader.new) result }
 {
     let view = lend_forms::<L, B, u8, R>(reader)?;
     Ok(view.into_bytes())
@@ -155,13 +143,11 @@ impl<'s, L: Lending> SchemaRead<L> for &'s [u8] {
 
     ghost Value = { List ℕ };
 
-    ghost seen = { λ s. L.Bytes.holds s };
+    ghost model = { λ s. L.Bytes.holds s };
 
-    ghost proper = { Each (λ v. v < 256 ^ 1) };
+    ghost is_valid = { Each (λ v. v < 256 ^ 1) };
 
-    ghost reading = { lent_read shared (number_read 1 true) };
-
-    ghost refusal = { IsLentRefused shared 1 };
+    ghost reading = { lent_read shared 1 (number_read 1 true) };
 
     fn type_meta() -> TypeMeta
         ensures { result ≡ Dynamic }
@@ -180,16 +166,13 @@ impl<'s, L: Lending> SchemaRead<L> for &'s [u8] {
         reader: &mut R,
         dst: &mut Option<L::Bytes>,
     ) -> ReadResult<()>
-        ensures ok { OnOk result (Puts (lent_read shared (number_read 1 true)).reads (λ s. L.Bytes.holds s) (R.state reader.old) (R.state reader.new) dst.new) }
-        ensures err { IfErr result (Refuses (lent_read shared (number_read 1 true)).reads shared true (R.state reader.old) (R.state reader.new)) }
-        ensures refused { IfErr result (IsLentRefused shared 1 (R.state reader.old) (R.state reader.new)) }
-        ensures same { OnErr result (dst.new ≡ dst.old) }
+        ensures { ReadOutcome (lent_read shared 1 (number_read 1 true)) (λ s. L.Bytes.holds s) (R.state reader.old) (R.state reader.new) dst.old dst.new result }
     {
         *dst = Some(lend_bytes::<L, &'s [u8], R>(reader)?);
         Ok(())
     }
 
-    ghost read_laws = { lent_read_laws shared (λ v. v < 256 ^ 1) (number_read 1 true) (number_read_laws 1 true (lit≤ tt)) };
+    ghost read_laws = { lent_read_laws shared 1 (λ v. v < 256 ^ 1) (number_read 1 true) (number_read_laws 1 true (lit≤ tt)) };
 }
 
 /// A `&mut [u8]` is bytes behind their number, lent by the reader for writing.
@@ -198,13 +181,11 @@ impl<'s, L: Lending> SchemaRead<L> for &'s mut [u8] {
 
     ghost Value = { List ℕ };
 
-    ghost seen = { λ s. L.BytesMut.holds s };
+    ghost model = { λ s. L.BytesMut.holds s };
 
-    ghost proper = { Each (λ v. v < 256 ^ 1) };
+    ghost is_valid = { Each (λ v. v < 256 ^ 1) };
 
-    ghost reading = { lent_read for_writing (number_read 1 true) };
-
-    ghost refusal = { IsLentRefused for_writing 1 };
+    ghost reading = { lent_read for_writing 1 (number_read 1 true) };
 
     fn type_meta() -> TypeMeta
         ensures { result ≡ Dynamic }
@@ -223,14 +204,11 @@ impl<'s, L: Lending> SchemaRead<L> for &'s mut [u8] {
         reader: &mut R,
         dst: &mut Option<L::BytesMut>,
     ) -> ReadResult<()>
-        ensures ok { OnOk result (Puts (lent_read for_writing (number_read 1 true)).reads (λ s. L.BytesMut.holds s) (R.state reader.old) (R.state reader.new) dst.new) }
-        ensures err { IfErr result (Refuses (lent_read for_writing (number_read 1 true)).reads for_writing true (R.state reader.old) (R.state reader.new)) }
-        ensures refused { IfErr result (IsLentRefused for_writing 1 (R.state reader.old) (R.state reader.new)) }
-        ensures same { OnErr result (dst.new ≡ dst.old) }
+        ensures { ReadOutcome (lent_read for_writing 1 (number_read 1 true)) (λ s. L.BytesMut.holds s) (R.state reader.old) (R.state reader.new) dst.old dst.new result }
     {
         *dst = Some(lend_bytes::<L, &'s mut [u8], R>(reader)?);
         Ok(())
     }
 
-    ghost read_laws = { lent_read_laws for_writing (λ v. v < 256 ^ 1) (number_read 1 true) (number_read_laws 1 true (lit≤ tt)) };
+    ghost read_laws = { lent_read_laws for_writing 1 (λ v. v < 256 ^ 1) (number_read 1 true) (number_read_laws 1 true (lit≤ tt)) };
 }

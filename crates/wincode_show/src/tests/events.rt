@@ -8,7 +8,7 @@ use wincode::serde::Serialize;
 use wincode::{SchemaRead, SchemaWrite, TypeMeta};
 use wincode_tests::rows::bytes_of;
 
-/// An event, and its text by one byte and by four.
+/// An event, and its encoding by one byte and by four.
 fn events(alloc: Global) -> Result<[(Event, &'static str, &'static str); 3], Fail> {
     let named = Event::Named {
         name: String::from_str(alloc, "a")?,

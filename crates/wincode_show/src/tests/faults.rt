@@ -53,7 +53,7 @@ where
 }
 
 /// Writes the value that these bytes have, if one, to a device that fails at each call in turn, until it is met
-/// by none. Each write that meets a failure is `Io` and adds a beginning of the text; the last one adds all.
+/// by none. Each write that meets a failure is `Io` and adds a beginning of the encoding; the last one adds all.
 fn write_over_faults<'a, T: RoundTrip<Lifetime<'a>>>(
     alloc: Global,
     bytes: &'a [u8],
@@ -119,7 +119,7 @@ fn go_over_faults_as(alloc: Global, name: &str, bytes: &[u8]) -> Result<(), Fail
     }
 }
 
-/// A type's name, and bytes as digits: inputs of the worked rows, and texts of their values.
+/// A type's name, and bytes as digits: inputs of the worked rows, and encodings of their values.
 static INPUTS: &str = "\
 Vec<Vec<u64>>|0200000000000000010000000000000001000000000000000000000000000000\n\
 Vec<Vec<u64>>|02000000000000000100000000000000010000000000000000000000000000\n\

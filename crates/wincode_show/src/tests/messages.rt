@@ -1,4 +1,4 @@
-//! Messages, and what marks schemas whose values have one text.
+//! Messages, and what marks schemas whose values have one encoding.
 use super::copied_as;
 use crate::message::Message;
 use std::test::Fail;
@@ -6,7 +6,7 @@ use wincode::io::Lifetime;
 use wincode::{SchemaRead, serialize, serialized_size};
 use wincode_tests::rows::bytes_of;
 
-/// The text of number 1 with the tags 2 and 3 and the note `a`.
+/// The encoding of number 1 with the tags 2 and 3 and the note `a`.
 const TEXT: [u8; 21] = [
     1, 0, 0, 0, 0, 0, 0, 0, 2, 2, 3, 1, 1, 0, 0, 0, 0, 0, 0, 0, 97,
 ];

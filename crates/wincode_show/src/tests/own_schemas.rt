@@ -60,7 +60,7 @@ fn shapes_written_as_their_parts(rt: HostRuntime) -> Result<(), Fail> {
     Ok(())
 }
 
-/// The text of the value of this name in front of the bytes, and how many bytes are left.
+/// The encoding of the value of this name in front of the bytes, and how many bytes are left.
 fn copied(alloc: Global, name: &str, bytes: &[u8]) -> Result<String, Fail> {
     match name {
         "Transfer" => transfer_copied(alloc, bytes),

@@ -89,7 +89,7 @@ fn one_list(alloc: Global, n: usize, body: &[u8]) -> Result<Vec<u8>, Fail> {
     Ok(bytes)
 }
 
-/// Whether it ended with this text, or for a length that is missing and with none.
+/// Whether it ended with this encoding, or for a length that is missing and with none.
 fn is_due(answer: &Result<Vec<u8>, RelayError>, text: Option<&[u8]>) -> bool {
     match (answer, text) {
         (Ok(found), Some(text)) => found.as_slice() == text,
@@ -152,7 +152,7 @@ fn is_output(answer: &Result<(), RelayError>) -> bool {
     }
 }
 
-/// Relays a text by pieces from an input that fails at each call in turn, and at none: then all went out.
+/// Relays an encoding by pieces from an input that fails at each call in turn, and at none: then all went out.
 fn inputs_fail(rt: &(impl Abort + AllocGlobal), text: &[u8], piece: usize, pieces: usize) {
     let alloc = rt.alloc();
     for sound in 0..pieces.saturating_add(2) {
@@ -179,7 +179,7 @@ fn inputs_fail(rt: &(impl Abort + AllocGlobal), text: &[u8], piece: usize, piece
     }
 }
 
-/// Relays a text by pieces to an output that fails at each call in turn, and at none.
+/// Relays an encoding by pieces to an output that fails at each call in turn, and at none.
 fn outputs_fail(rt: &(impl Abort + AllocGlobal), text: &[u8], piece: usize, pieces: usize) {
     let alloc = rt.alloc();
     for sound in 0..pieces.saturating_add(1) {

@@ -1,4 +1,4 @@
-//! Each shape: what it writes, how it is refused, and that nothing is written before the whole text is there.
+//! Each shape: what it writes, how it is refused, and that nothing is written before the whole encoding is there.
 use super::NESTED;
 use crate::recoding::{RelayError, recode};
 use crate::relaying::relay;
@@ -109,9 +109,9 @@ fn shapes_refused(rt: HostRuntime) -> Result<(), Fail> {
     Ok(())
 }
 
-/// Each front of a text that is cut short is refused with nothing written, whichever the shape.
+/// Each front of an encoding that is cut short is refused with nothing written, whichever the shape.
 #[test]
-fn fronts_of_texts(rt: HostRuntime) -> Result<(), Fail> {
+fn fronts_of_encodings(rt: HostRuntime) -> Result<(), Fail> {
     let alloc = rt.alloc();
     for n in 0..NESTED.len() {
         assert!(rt; relayed(alloc, "nested", &NESTED[..n])?.is_err(), "{n}");
@@ -158,7 +158,7 @@ impl Write for Offered {
     }
 }
 
-/// The first that an output is given is the whole text.
+/// The first that an output is given is the whole encoding.
 #[test]
 fn texts_go_out_whole(rt: HostRuntime) -> Result<(), Fail> {
     let alloc = rt.alloc();

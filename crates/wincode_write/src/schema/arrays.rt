@@ -2,10 +2,11 @@
 //!
 //! Where the items have one size, the array is written through one window of its size, in bytes: less room is
 //! `Io(WriteSizeLimit)` of that size, and nothing is written.
-ghost use Rattle.std.specs.Prelude.{List, map, false};
+ghost use Rattle.std.specs.Prelude.{List, map};
 ghost use Rattle.wincode_base.specs.ArrayLaws.{array_write_laws};
-ghost use Rattle.wincode_base.specs.Arrays.{times_meta, IsArray, array_write};
-ghost use Rattle.wincode_base.specs.InWindow.{is_static};
+ghost use Rattle.wincode_base.specs.Arrays.{IsArray, array_write};
+ghost use Rattle.wincode_base.specs.InWindow.{windowed_write};
+ghost use Rattle.wincode_base.specs.PairLaws.{windowed_write_laws};
 
 use crate::schema::SchemaWrite;
 use crate::schema::in_window::write_in_window;
@@ -21,13 +22,11 @@ impl<T: SchemaWrite, const N: usize> SchemaWrite for Items<T, N> {
 
     ghost Value = { List T.Value };
 
-    ghost seen = { λ xs. map T.seen xs };
+    ghost model = { λ xs. map T.model xs };
 
-    ghost proper = { λ xs. IsArray N T.proper xs };
+    ghost is_valid = { λ xs. IsArray N T.is_valid xs };
 
     ghost writing = { array_write N T.writing };
-
-    ghost in_one_piece = { false };
 
     fn type_meta() -> TypeMeta {
         size_of_items(N, T::type_meta())
@@ -41,7 +40,7 @@ impl<T: SchemaWrite, const N: usize> SchemaWrite for Items<T, N> {
         T::write_items::<W>(writer, src.as_slice())
     }
 
-    ghost write_laws = { array_write_laws N T.proper T.seen T.writing T.write_laws };
+    ghost write_laws = { array_write_laws N T.is_valid T.model T.writing T.write_laws };
 }
 
 impl<T: SchemaWrite, const N: usize> SchemaWrite for [T; N] {
@@ -49,13 +48,11 @@ impl<T: SchemaWrite, const N: usize> SchemaWrite for [T; N] {
 
     ghost Value = { List T.Value };
 
-    ghost seen = { λ xs. map T.seen xs };
+    ghost model = { λ xs. map T.model xs };
 
-    ghost proper = { λ xs. IsArray N T.proper xs };
+    ghost is_valid = { λ xs. IsArray N T.is_valid xs };
 
-    ghost writing = { array_write N T.writing };
-
-    ghost in_one_piece = { is_static (times_meta N T.writing.meta) };
+    ghost writing = { windowed_write ⟦<Items<T, N> as SchemaWrite>⟧.writing };
 
     fn type_meta() -> TypeMeta {
         <Items<T, N> as SchemaWrite>::type_meta()
@@ -73,5 +70,5 @@ impl<T: SchemaWrite, const N: usize> SchemaWrite for [T; N] {
         <Items<T, N> as SchemaWrite>::write_items::<W>(writer, items)
     }
 
-    ghost write_laws = { array_write_laws N T.proper T.seen T.writing T.write_laws };
+    ghost write_laws = { windowed_write_laws ⟦<Items<T, N> as SchemaWrite>⟧.write_laws };
 }

@@ -1,12 +1,12 @@
-//! What is held in memory of its own: the text of what is held.
-ghost use Rattle.wincode_base.specs.Held.{held_write};
-ghost use Rattle.wincode_base.specs.HeldLaws.{held_write_laws};
+//! What is held in memory of its own: the encoding of what is held.
+ghost use Rattle.wincode_base.specs.Boxed.{boxed_write};
+ghost use Rattle.wincode_base.specs.BoxedLaws.{boxed_write_laws};
 
 use crate::schema::SchemaWrite;
 use std::rc::Rc;
 use wincode_base::error::WriteResult;
 use wincode_base::meta::TypeMeta;
-use wincode_base::sizes::held_meta;
+use wincode_base::sizes::boxed_meta;
 use wincode_io::Writer;
 
 /// A `Box` is written and read as what it holds.
@@ -15,16 +15,14 @@ impl<T: SchemaWrite> SchemaWrite for Box<T> {
 
     ghost Value = { T.Value };
 
-    ghost seen = { λ held. T.seen held.value };
+    ghost model = { λ held. T.model held.value };
 
-    ghost proper = { λ held. T.proper held.value };
+    ghost is_valid = { λ held. T.is_valid held.value };
 
-    ghost writing = { held_write T.writing };
-
-    ghost in_one_piece = { T.in_one_piece };
+    ghost writing = { boxed_write T.writing };
 
     fn type_meta() -> TypeMeta {
-        held_meta(T::type_meta())
+        boxed_meta(T::type_meta())
     }
 
     fn size_of(src: &Box<T::Src>) -> WriteResult<usize> {
@@ -35,7 +33,7 @@ impl<T: SchemaWrite> SchemaWrite for Box<T> {
         T::write::<W>(writer, src.as_ref())
     }
 
-    ghost write_laws = { held_write_laws T.proper T.seen (λ held. held.value) T.writing T.write_laws };
+    ghost write_laws = { boxed_write_laws T.is_valid T.model (λ held. held.value) T.writing T.write_laws };
 }
 
 /// An `Rc` is written and read as what it holds.
@@ -44,16 +42,14 @@ impl<T: SchemaWrite> SchemaWrite for Rc<T> {
 
     ghost Value = { T.Value };
 
-    ghost seen = { λ held. T.seen held.value };
+    ghost model = { λ held. T.model held.value };
 
-    ghost proper = { λ held. T.proper held.value };
+    ghost is_valid = { λ held. T.is_valid held.value };
 
-    ghost writing = { held_write T.writing };
-
-    ghost in_one_piece = { T.in_one_piece };
+    ghost writing = { boxed_write T.writing };
 
     fn type_meta() -> TypeMeta {
-        held_meta(T::type_meta())
+        boxed_meta(T::type_meta())
     }
 
     fn size_of(src: &Rc<T::Src>) -> WriteResult<usize> {
@@ -64,5 +60,5 @@ impl<T: SchemaWrite> SchemaWrite for Rc<T> {
         T::write::<W>(writer, src.as_ref())
     }
 
-    ghost write_laws = { held_write_laws T.proper T.seen (λ held. held.value) T.writing T.write_laws };
+    ghost write_laws = { boxed_write_laws T.is_valid T.model (λ held. held.value) T.writing T.write_laws };
 }

@@ -1,7 +1,6 @@
 //! What has one size goes through one window of it.
-ghost use Rattle.std.specs.Prelude.{IfErr, OnOk};
-ghost use Rattle.wincode_base.specs.InWindow.{is_static};
-ghost use Rattle.wincode_base.specs.Outcomes.{Wrote, Unwritten, IsPieceRefused};
+ghost use Rattle.wincode_base.specs.InWindow.{windowed_write};
+ghost use Rattle.wincode_base.specs.Outcomes.{WriteOutcome};
 
 use crate::schema::SchemaWrite;
 use wincode_base::error::WriteResult;
@@ -13,10 +12,7 @@ pub(crate) fn write_in_window<T: SchemaWrite, W: Writer>(
     writer: &mut W,
     src: &T::Src,
 ) -> WriteResult<()>
-    ensures ok { OnOk result (Wrote T.writing (W.state writer.old) (W.state writer.new) (T.seen src.now)) }
-    ensures value { OnOk result (T.proper src.now) }
-    ensures err { IfErr result (Unwritten T.writing (W.state writer.old) (W.state writer.new) (T.seen src.now)) }
-    ensures piece { IfErr result (IsPieceRefused (is_static T.writing.meta) T.writing (W.state writer.old) (W.state writer.new) (T.seen src.now)) }
+    ensures { WriteOutcome (windowed_write T.writing) (W.state writer.old) (W.state writer.new) (T.model src.now) (T.is_valid src.now) result }
 {
     match T::type_meta() {
         TypeMeta::Static { size, .. } => {

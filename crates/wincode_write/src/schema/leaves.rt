@@ -16,13 +16,11 @@ impl SchemaWrite for u8 {
 
     ghost Value = { ℕ };
 
-    ghost seen = { λ v. v };
+    ghost model = { λ v. v };
 
-    ghost proper = { λ v. v < 256 ^ 1 };
+    ghost is_valid = { λ v. v < 256 ^ 1 };
 
     ghost writing = { number_write 1 true };
-
-    ghost in_one_piece = { true };
 
     fn type_meta() -> TypeMeta {
         TypeMeta::Static {
@@ -54,13 +52,11 @@ impl SchemaWrite for u16 {
 
     ghost Value = { ℕ };
 
-    ghost seen = { λ v. v };
+    ghost model = { λ v. v };
 
-    ghost proper = { λ v. v < 256 ^ 2 };
+    ghost is_valid = { λ v. v < 256 ^ 2 };
 
     ghost writing = { number_write 2 true };
-
-    ghost in_one_piece = { true };
 
     fn type_meta() -> TypeMeta {
         TypeMeta::Static {
@@ -91,13 +87,11 @@ impl SchemaWrite for u32 {
 
     ghost Value = { ℕ };
 
-    ghost seen = { λ v. v };
+    ghost model = { λ v. v };
 
-    ghost proper = { λ v. v < 256 ^ 4 };
+    ghost is_valid = { λ v. v < 256 ^ 4 };
 
     ghost writing = { number_write 4 true };
-
-    ghost in_one_piece = { true };
 
     fn type_meta() -> TypeMeta {
         TypeMeta::Static {
@@ -128,13 +122,11 @@ impl SchemaWrite for u64 {
 
     ghost Value = { ℕ };
 
-    ghost seen = { λ v. v };
+    ghost model = { λ v. v };
 
-    ghost proper = { λ v. v < 256 ^ 8 };
+    ghost is_valid = { λ v. v < 256 ^ 8 };
 
     ghost writing = { number_write 8 true };
-
-    ghost in_one_piece = { true };
 
     fn type_meta() -> TypeMeta {
         TypeMeta::Static {
@@ -165,13 +157,11 @@ impl SchemaWrite for u128 {
 
     ghost Value = { ℕ };
 
-    ghost seen = { λ v. v };
+    ghost model = { λ v. v };
 
-    ghost proper = { λ v. v < 256 ^ 16 };
+    ghost is_valid = { λ v. v < 256 ^ 16 };
 
     ghost writing = { number_write 16 true };
-
-    ghost in_one_piece = { true };
 
     fn type_meta() -> TypeMeta {
         TypeMeta::Static {
@@ -202,13 +192,11 @@ impl SchemaWrite for usize {
 
     ghost Value = { ℕ };
 
-    ghost seen = { λ v. v };
+    ghost model = { λ v. v };
 
-    ghost proper = { λ v. v < 256 ^ 8 };
+    ghost is_valid = { λ v. v < 256 ^ 8 };
 
     ghost writing = { number_write 8 false };
-
-    ghost in_one_piece = { true };
 
     fn type_meta() -> TypeMeta {
         TypeMeta::Static {
@@ -234,13 +222,11 @@ impl SchemaWrite for i8 {
 
     ghost Value = { ℤ };
 
-    ghost seen = { λ v. v };
+    ghost model = { λ v. v };
 
-    ghost proper = { FitsSigned w8 };
+    ghost is_valid = { FitsSigned w8 };
 
     ghost writing = { signed_write w8 true };
-
-    ghost in_one_piece = { true };
 
     fn type_meta() -> TypeMeta {
         TypeMeta::Static {
@@ -271,13 +257,11 @@ impl SchemaWrite for i16 {
 
     ghost Value = { ℤ };
 
-    ghost seen = { λ v. v };
+    ghost model = { λ v. v };
 
-    ghost proper = { FitsSigned w16 };
+    ghost is_valid = { FitsSigned w16 };
 
     ghost writing = { signed_write w16 true };
-
-    ghost in_one_piece = { true };
 
     fn type_meta() -> TypeMeta {
         TypeMeta::Static {
@@ -308,13 +292,11 @@ impl SchemaWrite for i32 {
 
     ghost Value = { ℤ };
 
-    ghost seen = { λ v. v };
+    ghost model = { λ v. v };
 
-    ghost proper = { FitsSigned w32 };
+    ghost is_valid = { FitsSigned w32 };
 
     ghost writing = { signed_write w32 true };
-
-    ghost in_one_piece = { true };
 
     fn type_meta() -> TypeMeta {
         TypeMeta::Static {
@@ -345,13 +327,11 @@ impl SchemaWrite for i64 {
 
     ghost Value = { ℤ };
 
-    ghost seen = { λ v. v };
+    ghost model = { λ v. v };
 
-    ghost proper = { FitsSigned w64 };
+    ghost is_valid = { FitsSigned w64 };
 
     ghost writing = { signed_write w64 true };
-
-    ghost in_one_piece = { true };
 
     fn type_meta() -> TypeMeta {
         TypeMeta::Static {
@@ -382,13 +362,11 @@ impl SchemaWrite for i128 {
 
     ghost Value = { ℤ };
 
-    ghost seen = { λ v. v };
+    ghost model = { λ v. v };
 
-    ghost proper = { FitsSigned w128 };
+    ghost is_valid = { FitsSigned w128 };
 
     ghost writing = { signed_write w128 true };
-
-    ghost in_one_piece = { true };
 
     fn type_meta() -> TypeMeta {
         TypeMeta::Static {
@@ -419,13 +397,11 @@ impl SchemaWrite for isize {
 
     ghost Value = { ℤ };
 
-    ghost seen = { λ v. v };
+    ghost model = { λ v. v };
 
-    ghost proper = { FitsSigned w64 };
+    ghost is_valid = { FitsSigned w64 };
 
     ghost writing = { signed_write w64 false };
-
-    ghost in_one_piece = { true };
 
     fn type_meta() -> TypeMeta {
         TypeMeta::Static {
@@ -451,13 +427,11 @@ impl SchemaWrite for bool {
 
     ghost Value = { Bool };
 
-    ghost seen = { λ v. v };
+    ghost model = { λ v. v };
 
-    ghost proper = { λ v. Unit {0} };
+    ghost is_valid = { λ v. Unit {0} };
 
     ghost writing = { bool_write };
-
-    ghost in_one_piece = { true };
 
     fn type_meta() -> TypeMeta {
         TypeMeta::Static {
@@ -484,13 +458,11 @@ impl SchemaWrite for () {
 
     ghost Value = { Unit };
 
-    ghost seen = { λ _. tt };
+    ghost model = { λ _. tt };
 
-    ghost proper = { λ _. Unit {0} };
+    ghost is_valid = { λ _. Unit {0} };
 
     ghost writing = { unit_write };
-
-    ghost in_one_piece = { true };
 
     fn type_meta() -> TypeMeta {
         TypeMeta::Static {
@@ -504,6 +476,7 @@ impl SchemaWrite for () {
     }
 
     fn write<W: Writer>(writer: &mut W, _src: &()) -> WriteResult<()> {
+        // No effect at run time: the proof reads what it holds from this use of it.
         let _ = &*writer;
         Ok(())
     }
@@ -516,13 +489,11 @@ impl<T> SchemaWrite for PhantomData<T> {
 
     ghost Value = { Unit };
 
-    ghost seen = { λ _. tt };
+    ghost model = { λ _. tt };
 
-    ghost proper = { λ _. Unit {0} };
+    ghost is_valid = { λ _. Unit {0} };
 
     ghost writing = { unit_write };
-
-    ghost in_one_piece = { true };
 
     fn type_meta() -> TypeMeta {
         TypeMeta::Static {
@@ -536,6 +507,7 @@ impl<T> SchemaWrite for PhantomData<T> {
     }
 
     fn write<W: Writer>(writer: &mut W, _src: &PhantomData<T>) -> WriteResult<()> {
+        // No effect at run time: the proof reads what it holds from this use of it.
         let _ = &*writer;
         Ok(())
     }

@@ -4,16 +4,16 @@
 //! A size past `usize::MAX` is `LengthEncodingOverflow`. Other items are written one after another.
 ghost use Rattle.std.specs.Prelude.{List, map};
 ghost use Rattle.wincode_io.specs.Joins.{Each};
-ghost use Rattle.wincode_base.specs.InWindow.{is_static};
-ghost use Rattle.wincode_base.specs.Lengths.{bincode};
+ghost use Rattle.wincode_base.specs.Lengths.{bincode, preallocation_limit};
 ghost use Rattle.wincode_base.specs.ListLaws.{list_write_laws};
 ghost use Rattle.wincode_base.specs.Lists.{list_write};
+ghost use Rattle.wincode_io.specs.Writers.{byte_limit};
 
 use crate::schema::SchemaWrite;
 use crate::schema::to_items::{size_of_list, write_list};
 use std::collections::{LinkedList, VecDeque};
 use wincode_base::error::WriteResult;
-use wincode_base::len::BincodeLen;
+use wincode_base::len::{BincodeLen, NO_LIMIT, PREALLOCATION_LIMIT};
 use wincode_base::meta::TypeMeta;
 use wincode_io::Writer;
 
@@ -23,27 +23,25 @@ impl<T: SchemaWrite> SchemaWrite for Vec<T> {
 
     ghost Value = { List T.Value };
 
-    ghost seen = { λ v. map T.seen v.items };
+    ghost model = { λ v. map T.model v.items };
 
-    ghost proper = { λ v. Each T.proper v.items };
+    ghost is_valid = { λ v. Each T.is_valid v.items };
 
-    ghost writing = { list_write (bincode 4194304) 24 T.writing };
-
-    ghost in_one_piece = { is_static T.writing.meta };
+    ghost writing = { list_write (bincode preallocation_limit) 24 T.writing };
 
     fn type_meta() -> TypeMeta {
         TypeMeta::Dynamic
     }
 
     fn size_of(src: &Vec<T::Src>) -> WriteResult<usize> {
-        size_of_list::<BincodeLen<4194304>, T, &[T::Src], 24>(&src.as_slice())
+        size_of_list::<BincodeLen<PREALLOCATION_LIMIT>, T, &[T::Src], 24>(&src.as_slice())
     }
 
     fn write<W: Writer>(writer: &mut W, src: &Vec<T::Src>) -> WriteResult<()> {
-        write_list::<BincodeLen<4194304>, T, &[T::Src], W, 24>(writer, &src.as_slice())
+        write_list::<BincodeLen<PREALLOCATION_LIMIT>, T, &[T::Src], W, 24>(writer, &src.as_slice())
     }
 
-    ghost write_laws = { list_write_laws (bincode 4194304) 24 (λ v. v.items) T.proper T.seen T.writing T.write_laws };
+    ghost write_laws = { list_write_laws (bincode preallocation_limit) 24 (λ v. v.items) T.is_valid T.model T.writing T.write_laws };
 }
 
 /// A `VecDeque` is the list of its items, from front to back.
@@ -52,27 +50,25 @@ impl<T: SchemaWrite> SchemaWrite for VecDeque<T> {
 
     ghost Value = { List T.Value };
 
-    ghost seen = { λ q. map T.seen q.items };
+    ghost model = { λ q. map T.model q.items };
 
-    ghost proper = { λ q. Each T.proper q.items };
+    ghost is_valid = { λ q. Each T.is_valid q.items };
 
-    ghost writing = { list_write (bincode 4194304) 24 T.writing };
-
-    ghost in_one_piece = { is_static T.writing.meta };
+    ghost writing = { list_write (bincode preallocation_limit) 24 T.writing };
 
     fn type_meta() -> TypeMeta {
         TypeMeta::Dynamic
     }
 
     fn size_of(src: &VecDeque<T::Src>) -> WriteResult<usize> {
-        size_of_list::<BincodeLen<4194304>, T, VecDeque<T::Src>, 24>(src)
+        size_of_list::<BincodeLen<PREALLOCATION_LIMIT>, T, VecDeque<T::Src>, 24>(src)
     }
 
     fn write<W: Writer>(writer: &mut W, src: &VecDeque<T::Src>) -> WriteResult<()> {
-        write_list::<BincodeLen<4194304>, T, VecDeque<T::Src>, W, 24>(writer, src)
+        write_list::<BincodeLen<PREALLOCATION_LIMIT>, T, VecDeque<T::Src>, W, 24>(writer, src)
     }
 
-    ghost write_laws = { list_write_laws (bincode 4194304) 24 (λ q. q.items) T.proper T.seen T.writing T.write_laws };
+    ghost write_laws = { list_write_laws (bincode preallocation_limit) 24 (λ q. q.items) T.is_valid T.model T.writing T.write_laws };
 }
 
 /// A `LinkedList` is the list of its items, from front to back.
@@ -81,27 +77,25 @@ impl<T: SchemaWrite> SchemaWrite for LinkedList<T> {
 
     ghost Value = { List T.Value };
 
-    ghost seen = { λ l. map T.seen l };
+    ghost model = { λ l. map T.model l };
 
-    ghost proper = { λ l. Each T.proper l };
+    ghost is_valid = { λ l. Each T.is_valid l };
 
-    ghost writing = { list_write (bincode 4194304) 24 T.writing };
-
-    ghost in_one_piece = { is_static T.writing.meta };
+    ghost writing = { list_write (bincode preallocation_limit) 24 T.writing };
 
     fn type_meta() -> TypeMeta {
         TypeMeta::Dynamic
     }
 
     fn size_of(src: &LinkedList<T::Src>) -> WriteResult<usize> {
-        size_of_list::<BincodeLen<4194304>, T, LinkedList<T::Src>, 24>(src)
+        size_of_list::<BincodeLen<PREALLOCATION_LIMIT>, T, LinkedList<T::Src>, 24>(src)
     }
 
     fn write<W: Writer>(writer: &mut W, src: &LinkedList<T::Src>) -> WriteResult<()> {
-        write_list::<BincodeLen<4194304>, T, LinkedList<T::Src>, W, 24>(writer, src)
+        write_list::<BincodeLen<PREALLOCATION_LIMIT>, T, LinkedList<T::Src>, W, 24>(writer, src)
     }
 
-    ghost write_laws = { list_write_laws (bincode 4194304) 24 (λ l. l) T.proper T.seen T.writing T.write_laws };
+    ghost write_laws = { list_write_laws (bincode preallocation_limit) 24 (λ l. l) T.is_valid T.model T.writing T.write_laws };
 }
 
 /// A slice is written as the list of its items. It isn't read: its items have no place of their own.
@@ -110,32 +104,30 @@ impl<'a, U: 'a, T: SchemaWrite<Src = U>> SchemaWrite for &'a [T] {
 
     ghost Value = { List T.Value };
 
-    ghost seen = { λ s. map T.seen s.now };
+    ghost model = { λ s. map T.model s.now };
 
-    ghost proper = { λ s. Each T.proper s.now };
+    ghost is_valid = { λ s. Each T.is_valid s.now };
 
-    ghost writing = { list_write (bincode 18446744073709551615) 16 T.writing };
-
-    ghost in_one_piece = { is_static T.writing.meta };
+    ghost writing = { list_write (bincode byte_limit) 16 T.writing };
 
     fn type_meta() -> TypeMeta {
         TypeMeta::Dynamic
     }
 
     fn size_of(src: &&'a [U]) -> WriteResult<usize> {
-        size_of_list::<BincodeLen<18446744073709551615>, T, &'a [U], 16>(src)
+        size_of_list::<BincodeLen<NO_LIMIT>, T, &'a [U], 16>(src)
     }
 
     fn write<W: Writer>(writer: &mut W, src: &&'a [U]) -> WriteResult<()> {
-        write_list::<BincodeLen<18446744073709551615>, T, &'a [U], W, 16>(writer, src)
+        write_list::<BincodeLen<NO_LIMIT>, T, &'a [U], W, 16>(writer, src)
     }
 
     fn write_items<W: Writer>(writer: &mut W, items: &[&'a [U]]) -> WriteResult<()> {
         for item in items {
-            write_list::<BincodeLen<18446744073709551615>, T, &'a [U], W, 16>(writer, item)?;
+            write_list::<BincodeLen<NO_LIMIT>, T, &'a [U], W, 16>(writer, item)?;
         }
         Ok(())
     }
 
-    ghost write_laws = { list_write_laws (bincode 18446744073709551615) 16 (λ s. s.now) T.proper T.seen T.writing T.write_laws };
+    ghost write_laws = { list_write_laws (bincode byte_limit) 16 (λ s. s.now) T.is_valid T.model T.writing T.write_laws };
 }

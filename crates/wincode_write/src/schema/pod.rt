@@ -17,13 +17,11 @@ impl<T: ZeroCopy> SchemaWrite for Pod<T> {
 
     ghost Value = { T };
 
-    ghost seen = { λ v. v };
+    ghost model = { λ v. v };
 
-    ghost proper = { T.proper };
+    ghost is_valid = { T.is_valid };
 
-    ghost writing = { form_write T.proper T.size T.form true (form_prealloc T.size) };
-
-    ghost in_one_piece = { true };
+    ghost writing = { form_write T.is_valid T.size T.form true (form_prealloc T.size) };
 
     fn type_meta() -> TypeMeta {
         meta_of_form::<T>(true)

@@ -1,5 +1,5 @@
 //! Numbers below 2 to the 16 in one to three bytes, as values.
-ghost use Rattle.std.specs.Prelude.{ℕ, ◌<◌, ◌^◌, true};
+ghost use Rattle.std.specs.Prelude.{ℕ, ◌<◌, ◌^◌};
 ghost use Rattle.wincode_base.specs.Short.{short_write};
 ghost use Rattle.wincode_base.specs.ShortLaws.{short_write_laws};
 
@@ -15,13 +15,11 @@ impl SchemaWrite for ShortU16 {
 
     ghost Value = { ℕ };
 
-    ghost seen = { λ v. v.0 };
+    ghost model = { λ v. v.0 };
 
-    ghost proper = { λ v. v.0 < 2 ^ 16 };
+    ghost is_valid = { λ v. v.0 < 2 ^ 16 };
 
     ghost writing = { short_write };
-
-    ghost in_one_piece = { true };
 
     fn type_meta() -> TypeMeta {
         TypeMeta::Dynamic

@@ -1,8 +1,8 @@
 //! Schemas of a tag and then what it names.
 ghost use Rattle.std.specs.Option.{option_map};
-ghost use Rattle.std.specs.Prelude.{false, Option, Result, IfOk, IfErr, OnOk};
+ghost use Rattle.std.specs.Prelude.{Option, Result, IfOk, IfErr};
 ghost use Rattle.std.specs.Result.{result_map_both};
-ghost use Rattle.wincode_base.specs.Outcomes.{IsSized, IsSizeRefused, Wrote, Unwritten};
+ghost use Rattle.wincode_base.specs.Outcomes.{IsSized, SizeRefused, WriteOutcome};
 ghost use Rattle.wincode_base.specs.TagLaws.{option_write_laws, result_write_laws};
 ghost use Rattle.wincode_base.specs.Tags.{option_write, IfPart, result_write, IfSide};
 
@@ -10,18 +10,18 @@ use crate::schema::SchemaWrite;
 use crate::tag::write_tag;
 use wincode_base::error::WriteResult;
 use wincode_base::meta::TypeMeta;
-use wincode_base::sizes::{add_size, result_meta};
+use wincode_base::sizes::{checked_sum, result_meta};
 use wincode_base::tag::TagCode;
 use wincode_io::Writer;
 
 /// The size of a tag and then the value, if there is one.
 pub fn size_of_option<Tag: TagCode, T: SchemaWrite>(src: &Option<T::Src>) -> WriteResult<usize>
-    ensures ok { IfOk result (IsSized (option_write Tag.size T.writing) (option_map T.seen src.now)) }
-    ensures err { IfErr result (IsSizeRefused (option_write Tag.size T.writing) (option_map T.seen src.now)) }
+    ensures ok { IfOk result (IsSized (option_write Tag.size T.writing) (option_map T.model src.now)) }
+    ensures err { IfErr result (SizeRefused (option_write Tag.size T.writing) (option_map T.model src.now)) }
 {
     match src {
         None => Ok(Tag::tag_size()),
-        Some(part) => add_size(Tag::tag_size(), T::size_of(part)?),
+        Some(part) => checked_sum(Tag::tag_size(), T::size_of(part)?),
     }
 }
 
@@ -30,9 +30,7 @@ pub fn write_option<Tag: TagCode, T: SchemaWrite, W: Writer>(
     writer: &mut W,
     src: &Option<T::Src>,
 ) -> WriteResult<()>
-    ensures ok { OnOk result (Wrote (option_write Tag.size T.writing) (W.state writer.old) (W.state writer.new) (option_map T.seen src.now)) }
-    ensures value { OnOk result (IfPart T.proper src.now) }
-    ensures err { IfErr result (Unwritten (option_write Tag.size T.writing) (W.state writer.old) (W.state writer.new) (option_map T.seen src.now)) }
+    ensures { WriteOutcome (option_write Tag.size T.writing) (W.state writer.old) (W.state writer.new) (option_map T.model src.now) (IfPart T.is_valid src.now) result }
 {
     match src {
         None => write_tag::<Tag, W>(writer, 0),
@@ -47,12 +45,12 @@ pub fn write_option<Tag: TagCode, T: SchemaWrite, W: Writer>(
 pub fn size_of_result<Tag: TagCode, T: SchemaWrite, E: SchemaWrite>(
     src: &Result<T::Src, E::Src>,
 ) -> WriteResult<usize>
-    ensures ok { IfOk result (IsSized (result_write Tag.size T.writing E.writing) (result_map_both T.seen E.seen src.now)) }
-    ensures err { IfErr result (IsSizeRefused (result_write Tag.size T.writing E.writing) (result_map_both T.seen E.seen src.now)) }
+    ensures ok { IfOk result (IsSized (result_write Tag.size T.writing E.writing) (result_map_both T.model E.model src.now)) }
+    ensures err { IfErr result (SizeRefused (result_write Tag.size T.writing E.writing) (result_map_both T.model E.model src.now)) }
 {
     match src {
-        Ok(value) => add_size(Tag::tag_size(), T::size_of(value)?),
-        Err(error) => add_size(Tag::tag_size(), E::size_of(error)?),
+        Ok(value) => checked_sum(Tag::tag_size(), T::size_of(value)?),
+        Err(error) => checked_sum(Tag::tag_size(), E::size_of(error)?),
     }
 }
 
@@ -61,9 +59,7 @@ pub fn write_result<Tag: TagCode, T: SchemaWrite, E: SchemaWrite, W: Writer>(
     writer: &mut W,
     src: &Result<T::Src, E::Src>,
 ) -> WriteResult<()>
-    ensures ok { OnOk result (Wrote (result_write Tag.size T.writing E.writing) (W.state writer.old) (W.state writer.new) (result_map_both T.seen E.seen src.now)) }
-    ensures value { OnOk result (IfSide T.proper E.proper src.now) }
-    ensures err { IfErr result (Unwritten (result_write Tag.size T.writing E.writing) (W.state writer.old) (W.state writer.new) (result_map_both T.seen E.seen src.now)) }
+    ensures { WriteOutcome (result_write Tag.size T.writing E.writing) (W.state writer.old) (W.state writer.new) (result_map_both T.model E.model src.now) (IfSide T.is_valid E.is_valid src.now) result }
 {
     match src {
         Ok(value) => {
@@ -83,13 +79,11 @@ impl<T: SchemaWrite> SchemaWrite for Option<T> {
 
     ghost Value = { Option T.Value };
 
-    ghost seen = { option_map T.seen };
+    ghost model = { option_map T.model };
 
-    ghost proper = { IfPart T.proper };
+    ghost is_valid = { IfPart T.is_valid };
 
     ghost writing = { option_write 1 T.writing };
-
-    ghost in_one_piece = { false };
 
     fn type_meta() -> TypeMeta {
         TypeMeta::Dynamic
@@ -103,7 +97,7 @@ impl<T: SchemaWrite> SchemaWrite for Option<T> {
         write_option::<u8, T, W>(writer, src)
     }
 
-    ghost write_laws = { option_write_laws 1 T.proper T.seen T.writing T.write_laws };
+    ghost write_laws = { option_write_laws 1 T.is_valid T.model T.writing T.write_laws };
 }
 
 /// A `Result` is a number of four bytes, 0 for `Ok` and 1 for `Err`, and then the value or the error.
@@ -112,13 +106,11 @@ impl<T: SchemaWrite, E: SchemaWrite> SchemaWrite for Result<T, E> {
 
     ghost Value = { Result T.Value E.Value };
 
-    ghost seen = { result_map_both T.seen E.seen };
+    ghost model = { result_map_both T.model E.model };
 
-    ghost proper = { IfSide T.proper E.proper };
+    ghost is_valid = { IfSide T.is_valid E.is_valid };
 
     ghost writing = { result_write 4 T.writing E.writing };
-
-    ghost in_one_piece = { false };
 
     fn type_meta() -> TypeMeta {
         result_meta(4, T::type_meta(), E::type_meta())
@@ -132,5 +124,5 @@ impl<T: SchemaWrite, E: SchemaWrite> SchemaWrite for Result<T, E> {
         write_result::<u32, T, E, W>(writer, src)
     }
 
-    ghost write_laws = { result_write_laws 4 T.proper E.proper T.seen E.seen T.writing E.writing T.write_laws E.write_laws };
+    ghost write_laws = { result_write_laws 4 T.is_valid E.is_valid T.model E.model T.writing E.writing T.write_laws E.write_laws };
 }

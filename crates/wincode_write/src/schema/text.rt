@@ -1,14 +1,14 @@
 //! Schemas of characters, of texts and of references.
 ghost use Rattle.std.specs.Char.{IsScalar};
-ghost use Rattle.std.specs.Prelude.{◌≡◌, ℕ, ◌<◌, true, false, List, IsUtf8, string_bytes, IfOk, IfErr, OnOk};
-ghost use Rattle.wincode_base.specs.Outcomes.{Wrote, Unwritten, IsSizeRefused};
-ghost use Rattle.wincode_base.specs.Text.{char_write, text_write, reference_write};
-ghost use Rattle.wincode_base.specs.TextLaws.{char_write_laws, text_write_laws, reference_write_laws};
+ghost use Rattle.std.specs.Prelude.{◌≡◌, ℕ, ◌<◌, List, IsUtf8, string_bytes, IfOk, IfErr};
+ghost use Rattle.wincode_base.specs.Outcomes.{SizeRefused, WriteOutcome};
+ghost use Rattle.wincode_base.specs.Strings.{char_write, str_write, reference_write};
+ghost use Rattle.wincode_base.specs.StringLaws.{char_write_laws, str_write_laws, reference_write_laws};
 
 use crate::schema::SchemaWrite;
 use std::str;
 use wincode_base::error::{WriteResult, write_length_encoding_overflow};
-use wincode_base::len::{BincodeLen, SeqLen};
+use wincode_base::len::{BincodeLen, PREALLOCATION_LIMIT, SeqLen};
 use wincode_base::meta::TypeMeta;
 use wincode_io::Writer;
 
@@ -18,13 +18,11 @@ impl SchemaWrite for char {
 
     ghost Value = { ℕ };
 
-    ghost seen = { λ c. c };
+    ghost model = { λ c. c };
 
-    ghost proper = { IsScalar };
+    ghost is_valid = { IsScalar };
 
     ghost writing = { char_write };
-
-    ghost in_one_piece = { true };
 
     fn type_meta() -> TypeMeta {
         TypeMeta::Dynamic
@@ -48,8 +46,8 @@ impl SchemaWrite for char {
 
 /// The size of a text with its length.
 fn size_of_text(text: &str) -> WriteResult<usize>
-    ensures ok { IfOk result (λ n. (text_write 24).can text.now × (n ≡ (text_write 24).size text.now)) }
-    ensures err { IfErr result (IsSizeRefused (text_write 24) text.now) }
+    ensures ok { IfOk result (λ n. (str_write 24).can text.now × (n ≡ (str_write 24).size text.now)) }
+    ensures err { IfErr result (SizeRefused (str_write 24) text.now) }
 {
     match text.len().checked_add(8) {
         Some(size) => Ok(size),
@@ -59,10 +57,9 @@ fn size_of_text(text: &str) -> WriteResult<usize>
 
 /// Writes the length of a text, and then its bytes.
 fn write_text<W: Writer>(writer: &mut W, text: &str) -> WriteResult<()>
-    ensures ok { OnOk result (Wrote (text_write 24) (W.state writer.old) (W.state writer.new) text.now) }
-    ensures err { IfErr result (Unwritten (text_write 24) (W.state writer.old) (W.state writer.new) text.now) }
+    ensures { WriteOutcome (str_write 24) (W.state writer.old) (W.state writer.new) text.now (Unit {0}) result }
 {
-    BincodeLen::<4194304>::write::<W>(writer, text.len())?;
+    BincodeLen::<PREALLOCATION_LIMIT>::write::<W>(writer, text.len())?;
     writer.write(text.as_bytes())?;
     Ok(())
 }
@@ -73,13 +70,11 @@ impl SchemaWrite for String {
 
     ghost Value = { List ℕ };
 
-    ghost seen = { λ s. string_bytes s };
+    ghost model = { λ s. string_bytes s };
 
-    ghost proper = { λ s. IsUtf8 (string_bytes s) };
+    ghost is_valid = { λ s. IsUtf8 (string_bytes s) };
 
-    ghost writing = { text_write 24 };
-
-    ghost in_one_piece = { false };
+    ghost writing = { str_write 24 };
 
     fn type_meta() -> TypeMeta {
         TypeMeta::Dynamic
@@ -93,7 +88,7 @@ impl SchemaWrite for String {
         write_text::<W>(writer, src.as_str())
     }
 
-    ghost write_laws = { text_write_laws 24 (λ s. IsUtf8 (string_bytes s)) (λ s. string_bytes s) };
+    ghost write_laws = { str_write_laws 24 (λ s. IsUtf8 (string_bytes s)) (λ s. string_bytes s) };
 }
 
 /// A `&str` is written as a `String`.
@@ -102,16 +97,14 @@ impl<'a> SchemaWrite for &'a str {
 
     ghost Value = { List ℕ };
 
-    ghost seen = { λ s. s.now };
+    ghost model = { λ s. s.now };
 
-    ghost proper = { λ s. IsUtf8 s.now };
+    ghost is_valid = { λ s. IsUtf8 s.now };
 
-    ghost writing = { text_write 16 };
-
-    ghost in_one_piece = { false };
+    ghost writing = { str_write 16 };
 
     fn type_meta() -> TypeMeta
-        ensures { result ≡ (text_write 16).meta }
+        ensures { result ≡ (str_write 16).meta }
     {
         TypeMeta::Dynamic
     }
@@ -124,7 +117,7 @@ impl<'a> SchemaWrite for &'a str {
         write_text::<W>(writer, *src)
     }
 
-    ghost write_laws = { text_write_laws 16 (λ s. IsUtf8 s.now) (λ s. s.now) };
+    ghost write_laws = { str_write_laws 16 (λ s. IsUtf8 s.now) (λ s. s.now) };
 }
 
 /// A reference is written as its value. It is no list of bytes, whatever its value is.
@@ -133,13 +126,11 @@ impl<'a, U: 'a, T: SchemaWrite<Src = U>> SchemaWrite for &'a T {
 
     ghost Value = { T.Value };
 
-    ghost seen = { λ r. T.seen r.now };
+    ghost model = { λ r. T.model r.now };
 
-    ghost proper = { λ r. T.proper r.now };
+    ghost is_valid = { λ r. T.is_valid r.now };
 
     ghost writing = { reference_write T.writing };
-
-    ghost in_one_piece = { T.in_one_piece };
 
     fn type_meta() -> TypeMeta {
         match T::type_meta() {
@@ -166,5 +157,5 @@ impl<'a, U: 'a, T: SchemaWrite<Src = U>> SchemaWrite for &'a T {
         Ok(())
     }
 
-    ghost write_laws = { reference_write_laws T.proper T.seen (λ r. r.now) T.writing T.write_laws };
+    ghost write_laws = { reference_write_laws T.is_valid T.model (λ r. r.now) T.writing T.write_laws };
 }

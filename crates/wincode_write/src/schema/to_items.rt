@@ -4,13 +4,12 @@ ghost use Rattle.std.specs.BinaryHeap.{heap_items};
 ghost use Rattle.std.specs.HashMap.{IsUnique};
 ghost use Rattle.std.specs.List.{IsDistinct};
 ghost use Rattle.std.specs.List.Sorted.{IsStrictlySortedBy};
-ghost use Rattle.std.specs.Prelude.{◌≡◌, ◌+◌, List, length, map, IfOk, IfErr, OnOk};
+ghost use Rattle.std.specs.Prelude.{◌≡◌, ◌+◌, List, length, map, IfOk, IfErr};
 ghost use Rattle.wincode_io.specs.Joins.{Each, total};
-ghost use Rattle.wincode_base.specs.InWindow.{is_static};
-ghost use Rattle.wincode_base.specs.Lists.{items_write, list_write, IsSumRefused};
-ghost use Rattle.wincode_base.specs.Outcomes.{IsSized, Wrote, Unwritten, IsSizeRefused, IsPieceRefused};
+ghost use Rattle.wincode_base.specs.Lists.{items_write, parts_write, list_write_of, list_write, SizesRefused};
+ghost use Rattle.wincode_base.specs.Outcomes.{IsSized, SizeRefused, WriteOutcome};
 ghost use Rattle.wincode_base.specs.Pairs.{pair_write};
-ghost use Rattle.wincode_base.specs.Sizes.{is_known, IsValueSize};
+ghost use Rattle.wincode_base.specs.ItemSizes.{IsWriteItemSize};
 
 use crate::schema::SchemaWrite;
 use crate::schema::tuples::size_of_members_2;
@@ -37,20 +36,18 @@ pub trait ToItems<T: SchemaWrite> {
 
     /// Their sizes, added to the size of what stands before them.
     fn add_sizes(&self, before: usize) -> WriteResult<usize>
-        ensures ok { IfOk result (λ n. Each T.writing.can (map T.seen (listed self.now)) × (n ≡ before + total T.writing.size (map T.seen (listed self.now)))) }
-        ensures err { IfErr result (IsSumRefused before T.writing (map T.seen (listed self.now))) };
+        ensures ok { IfOk result (λ n. Each T.writing.can (map T.model (listed self.now)) × (n ≡ before + total T.writing.size (map T.model (listed self.now)))) }
+        ensures err { IfErr result (SizesRefused before T.writing (map T.model (listed self.now))) };
 
     /// Writes them, one after another.
     fn write_to<W: Writer>(&self, writer: &mut W) -> WriteResult<()>
-        ensures ok { OnOk result (Wrote (items_write T.writing) (W.state writer.old) (W.state writer.new) (map T.seen (listed self.now))) }
-        ensures value { OnOk result (Each T.proper (listed self.now)) }
-        ensures err { IfErr result (Unwritten (items_write T.writing) (W.state writer.old) (W.state writer.new) (map T.seen (listed self.now))) };
+        ensures { WriteOutcome (items_write T.writing) (W.state writer.old) (W.state writer.new) (map T.model (listed self.now)) (Each T.is_valid (listed self.now)) result };
 }
 
 /// The sizes of items, added to the size of what stands before them.
 pub(crate) fn add_sizes<T: SchemaWrite>(before: usize, items: &[T::Src]) -> WriteResult<usize>
-    ensures ok { IfOk result (λ n. Each T.writing.can (map T.seen items.now) × (n ≡ before + total T.writing.size (map T.seen items.now))) }
-    ensures err { IfErr result (IsSumRefused before T.writing (map T.seen items.now)) }
+    ensures ok { IfOk result (λ n. Each T.writing.can (map T.model items.now) × (n ≡ before + total T.writing.size (map T.model items.now))) }
+    ensures err { IfErr result (SizesRefused before T.writing (map T.model items.now)) }
 {
     let mut sum = before;
     for item in items {
@@ -279,9 +276,7 @@ fn write_pair<K: SchemaWrite, V: SchemaWrite, W: Writer>(
     key: &K::Src,
     value: &V::Src,
 ) -> WriteResult<()>
-    ensures ok { OnOk result (Wrote (pair_write K.writing V.writing) (W.state writer.old) (W.state writer.new) (K.seen key.now, V.seen value.now)) }
-    ensures value { OnOk result (K.proper key.now × V.proper value.now) }
-    ensures err { IfErr result (Unwritten (pair_write K.writing V.writing) (W.state writer.old) (W.state writer.new) (K.seen key.now, V.seen value.now)) }
+    ensures { WriteOutcome (pair_write K.writing V.writing) (W.state writer.old) (W.state writer.new) (K.model key.now, V.model value.now) (K.is_valid key.now × V.is_valid value.now) result }
 {
     K::write(writer, key)?;
     V::write(writer, value)
@@ -292,8 +287,8 @@ fn write_pair<K: SchemaWrite, V: SchemaWrite, W: Writer>(
 pub fn size_of_list<Len: SeqLen, T: SchemaWrite, C: ToItems<T>, const COUNT: usize>(
     src: &C,
 ) -> WriteResult<usize>
-    ensures ok { IfOk result (IsSized (list_write Len.scheme COUNT T.writing) (map T.seen (C.listed src.now))) }
-    ensures err { IfErr result (IsSizeRefused (list_write Len.scheme COUNT T.writing) (map T.seen (C.listed src.now))) }
+    ensures ok { IfOk result (IsSized (list_write Len.scheme COUNT T.writing) (map T.model (C.listed src.now))) }
+    ensures err { IfErr result (SizeRefused (list_write Len.scheme COUNT T.writing) (map T.model (C.listed src.now))) }
 {
     let length = Len::write_bytes_needed(src.count())?;
     src.add_sizes(length)
@@ -304,17 +299,15 @@ fn write_parts<Len: SeqLen, T: SchemaWrite, C: ToItems<T>, W: Writer, const COUN
     writer: &mut W,
     src: &C,
 ) -> WriteResult<()>
-    ensures ok { OnOk result (Wrote (list_write Len.scheme COUNT T.writing) (W.state writer.old) (W.state writer.new) (map T.seen (C.listed src.now))) }
-    ensures value { OnOk result (Each T.proper (C.listed src.now)) }
+    ensures outcome { WriteOutcome (parts_write Len.scheme COUNT T.writing) (W.state writer.old) (W.state writer.new) (map T.model (C.listed src.now)) (Each T.is_valid (C.listed src.now)) result }
     ensures sound { C.sound src.now }
-    ensures err { IfErr result (Unwritten (list_write Len.scheme COUNT T.writing) (W.state writer.old) (W.state writer.new) (map T.seen (C.listed src.now))) }
 {
     Len::write::<W>(writer, src.count())?;
     src.write_to::<W>(writer)
 }
 
 /// Writes a list of items of this size, through one window of all of it where the size is known: then
-/// it asks for the length's text, for the total and for the room, in this order.
+/// it asks for the length's encoding, for the total and for the room, in this order.
 pub(crate) fn write_list_of<
     Len: SeqLen,
     T: SchemaWrite,
@@ -322,12 +315,9 @@ pub(crate) fn write_list_of<
     W: Writer,
     const COUNT: usize,
 >(writer: &mut W, src: &C, size: ItemSize) -> WriteResult<()>
-    requires size { IsValueSize T.writing size }
-    ensures ok { OnOk result (Wrote (list_write Len.scheme COUNT T.writing) (W.state writer.old) (W.state writer.new) (map T.seen (C.listed src.now))) }
-    ensures value { OnOk result (Each T.proper (C.listed src.now)) }
+    requires size { IsWriteItemSize T.writing size }
+    ensures outcome { WriteOutcome (list_write_of Len.scheme COUNT size T.writing) (W.state writer.old) (W.state writer.new) (map T.model (C.listed src.now)) (Each T.is_valid (C.listed src.now)) result }
     ensures sound { C.sound src.now }
-    ensures err { IfErr result (Unwritten (list_write Len.scheme COUNT T.writing) (W.state writer.old) (W.state writer.new) (map T.seen (C.listed src.now))) }
-    ensures piece { IfErr result (IsPieceRefused (is_known size) (list_write Len.scheme COUNT T.writing) (W.state writer.old) (W.state writer.new) (map T.seen (C.listed src.now))) }
 {
     if let ItemSize::Unknown = size {
         return write_parts::<Len, T, C, W, COUNT>(writer, src);
@@ -350,11 +340,8 @@ pub fn write_list<Len: SeqLen, T: SchemaWrite, C: ToItems<T>, W: Writer, const C
     writer: &mut W,
     src: &C,
 ) -> WriteResult<()>
-    ensures ok { OnOk result (Wrote (list_write Len.scheme COUNT T.writing) (W.state writer.old) (W.state writer.new) (map T.seen (C.listed src.now))) }
-    ensures value { OnOk result (Each T.proper (C.listed src.now)) }
+    ensures outcome { WriteOutcome (list_write Len.scheme COUNT T.writing) (W.state writer.old) (W.state writer.new) (map T.model (C.listed src.now)) (Each T.is_valid (C.listed src.now)) result }
     ensures sound { C.sound src.now }
-    ensures err { IfErr result (Unwritten (list_write Len.scheme COUNT T.writing) (W.state writer.old) (W.state writer.new) (map T.seen (C.listed src.now))) }
-    ensures piece { IfErr result (IsPieceRefused (is_static T.writing.meta) (list_write Len.scheme COUNT T.writing) (W.state writer.old) (W.state writer.new) (map T.seen (C.listed src.now))) }
 {
     write_list_of::<Len, T, C, W, COUNT>(writer, src, ItemSize::of(T::type_meta()))
 }

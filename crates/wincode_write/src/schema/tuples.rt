@@ -3,10 +3,10 @@
 //! Where all members have one size, the tuple is written through one window of the sum, in bytes: less room is
 //! `Io(WriteSizeLimit)` of the sum, and nothing is written. Other tuples go member by member, and a refusal
 //! leaves what the members before it wrote.
-ghost use Rattle.std.specs.Prelude.{◌≡◌, false, IfOk, IfErr, OnOk};
-ghost use Rattle.wincode_base.specs.InWindow.{is_static};
-ghost use Rattle.wincode_base.specs.Outcomes.{IsSized, Wrote, Unwritten, IsPieceRefused, IsSizeRefused};
-ghost use Rattle.wincode_base.specs.PairLaws.{pair_write_laws, write_laws_by};
+ghost use Rattle.std.specs.Prelude.{◌≡◌, IfOk, IfErr};
+ghost use Rattle.wincode_base.specs.InWindow.{windowed_write};
+ghost use Rattle.wincode_base.specs.Outcomes.{IsSized, SizeRefused, WriteOutcome};
+ghost use Rattle.wincode_base.specs.PairLaws.{pair_write_laws, write_laws_by, windowed_write_laws};
 ghost use Rattle.wincode_base.specs.Pairs.{pair_write};
 
 mod longer;
@@ -30,13 +30,11 @@ impl<A: SchemaWrite, B: SchemaWrite> SchemaWrite for Members2<A, B> {
 
     ghost Value = { A.Value × B.Value };
 
-    ghost seen = { λ t. (A.seen t.0, B.seen t.1) };
+    ghost model = { λ t. (A.model t.0, B.model t.1) };
 
-    ghost proper = { λ t. A.proper t.0 × B.proper t.1 };
+    ghost is_valid = { λ t. A.is_valid t.0 × B.is_valid t.1 };
 
     ghost writing = { pair_write A.writing B.writing };
-
-    ghost in_one_piece = { false };
 
     fn type_meta() -> TypeMeta {
         joined_meta(A::type_meta(), B::type_meta())
@@ -59,13 +57,11 @@ impl<'a, U: 'a, T: SchemaWrite<Src = U>> SchemaWrite for &'a Member<T> {
 
     ghost Value = { T.Value };
 
-    ghost seen = { λ r. T.seen r.now };
+    ghost model = { λ r. T.model r.now };
 
-    ghost proper = { λ r. T.proper r.now };
+    ghost is_valid = { λ r. T.is_valid r.now };
 
     ghost writing = { T.writing };
-
-    ghost in_one_piece = { T.in_one_piece };
 
     fn type_meta() -> TypeMeta
         ensures { result ≡ T.writing.meta }
@@ -97,9 +93,9 @@ pub fn size_of_members_2<A: SchemaWrite, B: SchemaWrite>(
     b: &B::Src,
 ) -> WriteResult<usize>
     ensures ok { let tuple = ⟦<(A, B) as SchemaWrite>⟧ in IfOk result
-        (IsSized tuple.writing (tuple.seen (a.now, b.now))) }
+        (IsSized tuple.writing (tuple.model (a.now, b.now))) }
     ensures err { let tuple = ⟦<(A, B) as SchemaWrite>⟧ in IfErr result
-        (IsSizeRefused tuple.writing (tuple.seen (a.now, b.now))) }
+        (SizeRefused tuple.writing (tuple.model (a.now, b.now))) }
 {
     joined_size(A::size_of(a), B::size_of(b))
 }
@@ -109,13 +105,8 @@ fn write_2<A: SchemaWrite, B: SchemaWrite, W: Writer>(
     writer: &mut W,
     src: &(A::Src, B::Src),
 ) -> WriteResult<()>
-    ensures ok { let members = ⟦<Members2<A, B> as SchemaWrite>⟧ in OnOk result
-        (Wrote members.writing (W.state writer.old) (W.state writer.new) (members.seen src.now)) }
-    ensures value { OnOk result (⟦<Members2<A, B> as SchemaWrite>⟧.proper src.now) }
-    ensures err { let members = ⟦<Members2<A, B> as SchemaWrite>⟧ in IfErr result
-        (Unwritten members.writing (W.state writer.old) (W.state writer.new) (members.seen src.now)) }
-    ensures piece { let members = ⟦<Members2<A, B> as SchemaWrite>⟧ in IfErr result
-        (IsPieceRefused (is_static members.writing.meta) members.writing (W.state writer.old) (W.state writer.new) (members.seen src.now)) }
+    ensures { let members = ⟦<Members2<A, B> as SchemaWrite>⟧ in
+        WriteOutcome (windowed_write members.writing) (W.state writer.old) (W.state writer.new) (members.model src.now) (members.is_valid src.now) result }
 {
     write_in_window::<Members2<A, B>, W>(writer, src)
 }
@@ -126,13 +117,8 @@ pub fn write_members_2<A: SchemaWrite, B: SchemaWrite, W: Writer>(
     a: &A::Src,
     b: &B::Src,
 ) -> WriteResult<()>
-    ensures ok { let tuple = ⟦<(A, B) as SchemaWrite>⟧ in OnOk result
-        (Wrote tuple.writing (W.state writer.old) (W.state writer.new) (tuple.seen (a.now, b.now))) }
-    ensures value { OnOk result (⟦<(A, B) as SchemaWrite>⟧.proper (a.now, b.now)) }
-    ensures err { let tuple = ⟦<(A, B) as SchemaWrite>⟧ in IfErr result
-        (Unwritten tuple.writing (W.state writer.old) (W.state writer.new) (tuple.seen (a.now, b.now))) }
-    ensures piece { let tuple = ⟦<(A, B) as SchemaWrite>⟧ in IfErr result
-        (IsPieceRefused tuple.in_one_piece tuple.writing (W.state writer.old) (W.state writer.new) (tuple.seen (a.now, b.now))) }
+    ensures { let tuple = ⟦<(A, B) as SchemaWrite>⟧ in
+        WriteOutcome tuple.writing (W.state writer.old) (W.state writer.new) (tuple.model (a.now, b.now)) (tuple.is_valid (a.now, b.now)) result }
 {
     write_2::<&Member<A>, &Member<B>, W>(writer, &(a, b))
 }
@@ -142,13 +128,11 @@ impl<A: SchemaWrite, B: SchemaWrite> SchemaWrite for (A, B) {
 
     ghost Value = { ⟦<Members2<A, B> as SchemaWrite>⟧.Value };
 
-    ghost seen = { λ t. ⟦<Members2<A, B> as SchemaWrite>⟧.seen (t.0, t.1) };
+    ghost model = { λ t. ⟦<Members2<A, B> as SchemaWrite>⟧.model (t.0, t.1) };
 
-    ghost proper = { λ t. ⟦<Members2<A, B> as SchemaWrite>⟧.proper (t.0, t.1) };
+    ghost is_valid = { λ t. ⟦<Members2<A, B> as SchemaWrite>⟧.is_valid (t.0, t.1) };
 
-    ghost writing = { ⟦<Members2<A, B> as SchemaWrite>⟧.writing };
-
-    ghost in_one_piece = { is_static ⟦<Members2<A, B> as SchemaWrite>⟧.writing.meta };
+    ghost writing = { windowed_write ⟦<Members2<A, B> as SchemaWrite>⟧.writing };
 
     fn type_meta() -> TypeMeta {
         joined_meta(A::type_meta(), B::type_meta())
@@ -162,7 +146,8 @@ impl<A: SchemaWrite, B: SchemaWrite> SchemaWrite for (A, B) {
         write_members_2::<A, B, W>(writer, &src.0, &src.1)
     }
 
-    ghost write_laws = { write_laws_by (λ t. (t.0, t.1)) (pair_write_laws A.write_laws B.write_laws) };
+    ghost write_laws = { write_laws_by (λ t. (t.0, t.1))
+        (windowed_write_laws ⟦<Members2<A, B> as SchemaWrite>⟧.write_laws) };
 }
 
 /// The size of 3 members, each seen by a schema of its own: that of a tuple of them.
@@ -172,9 +157,9 @@ pub fn size_of_members_3<A: SchemaWrite, B: SchemaWrite, C: SchemaWrite>(
     c: &C::Src,
 ) -> WriteResult<usize>
     ensures ok { let tuple = ⟦<(A, B, C) as SchemaWrite>⟧ in IfOk result
-        (IsSized tuple.writing (tuple.seen (a.now, b.now, c.now))) }
+        (IsSized tuple.writing (tuple.model (a.now, b.now, c.now))) }
     ensures err { let tuple = ⟦<(A, B, C) as SchemaWrite>⟧ in IfErr result
-        (IsSizeRefused tuple.writing (tuple.seen (a.now, b.now, c.now))) }
+        (SizeRefused tuple.writing (tuple.model (a.now, b.now, c.now))) }
 {
     joined_size(A::size_of(a), size_of_members_2::<B, C>(b, c))
 }
@@ -184,13 +169,8 @@ fn write_3<A: SchemaWrite, B: SchemaWrite, C: SchemaWrite, W: Writer>(
     writer: &mut W,
     src: &(A::Src, (B::Src, C::Src)),
 ) -> WriteResult<()>
-    ensures ok { let members = ⟦<Members3<A, B, C> as SchemaWrite>⟧ in OnOk result
-        (Wrote members.writing (W.state writer.old) (W.state writer.new) (members.seen src.now)) }
-    ensures value { OnOk result (⟦<Members3<A, B, C> as SchemaWrite>⟧.proper src.now) }
-    ensures err { let members = ⟦<Members3<A, B, C> as SchemaWrite>⟧ in IfErr result
-        (Unwritten members.writing (W.state writer.old) (W.state writer.new) (members.seen src.now)) }
-    ensures piece { let members = ⟦<Members3<A, B, C> as SchemaWrite>⟧ in IfErr result
-        (IsPieceRefused (is_static members.writing.meta) members.writing (W.state writer.old) (W.state writer.new) (members.seen src.now)) }
+    ensures { let members = ⟦<Members3<A, B, C> as SchemaWrite>⟧ in
+        WriteOutcome (windowed_write members.writing) (W.state writer.old) (W.state writer.new) (members.model src.now) (members.is_valid src.now) result }
 {
     write_in_window::<Members3<A, B, C>, W>(writer, src)
 }
@@ -202,13 +182,8 @@ pub fn write_members_3<A: SchemaWrite, B: SchemaWrite, C: SchemaWrite, W: Writer
     b: &B::Src,
     c: &C::Src,
 ) -> WriteResult<()>
-    ensures ok { let tuple = ⟦<(A, B, C) as SchemaWrite>⟧ in OnOk result
-        (Wrote tuple.writing (W.state writer.old) (W.state writer.new) (tuple.seen (a.now, b.now, c.now))) }
-    ensures value { OnOk result (⟦<(A, B, C) as SchemaWrite>⟧.proper (a.now, b.now, c.now)) }
-    ensures err { let tuple = ⟦<(A, B, C) as SchemaWrite>⟧ in IfErr result
-        (Unwritten tuple.writing (W.state writer.old) (W.state writer.new) (tuple.seen (a.now, b.now, c.now))) }
-    ensures piece { let tuple = ⟦<(A, B, C) as SchemaWrite>⟧ in IfErr result
-        (IsPieceRefused tuple.in_one_piece tuple.writing (W.state writer.old) (W.state writer.new) (tuple.seen (a.now, b.now, c.now))) }
+    ensures { let tuple = ⟦<(A, B, C) as SchemaWrite>⟧ in
+        WriteOutcome tuple.writing (W.state writer.old) (W.state writer.new) (tuple.model (a.now, b.now, c.now)) (tuple.is_valid (a.now, b.now, c.now)) result }
 {
     write_3::<&Member<A>, &Member<B>, &Member<C>, W>(writer, &(a, (b, c)))
 }
@@ -218,13 +193,11 @@ impl<A: SchemaWrite, B: SchemaWrite, C: SchemaWrite> SchemaWrite for (A, B, C) {
 
     ghost Value = { ⟦<Members3<A, B, C> as SchemaWrite>⟧.Value };
 
-    ghost seen = { λ t. ⟦<Members3<A, B, C> as SchemaWrite>⟧.seen (t.0, (t.1, t.2)) };
+    ghost model = { λ t. ⟦<Members3<A, B, C> as SchemaWrite>⟧.model (t.0, (t.1, t.2)) };
 
-    ghost proper = { λ t. ⟦<Members3<A, B, C> as SchemaWrite>⟧.proper (t.0, (t.1, t.2)) };
+    ghost is_valid = { λ t. ⟦<Members3<A, B, C> as SchemaWrite>⟧.is_valid (t.0, (t.1, t.2)) };
 
-    ghost writing = { ⟦<Members3<A, B, C> as SchemaWrite>⟧.writing };
-
-    ghost in_one_piece = { is_static ⟦<Members3<A, B, C> as SchemaWrite>⟧.writing.meta };
+    ghost writing = { windowed_write ⟦<Members3<A, B, C> as SchemaWrite>⟧.writing };
 
     fn type_meta() -> TypeMeta {
         joined_meta(A::type_meta(), <(B, C) as SchemaWrite>::type_meta())
@@ -238,8 +211,8 @@ impl<A: SchemaWrite, B: SchemaWrite, C: SchemaWrite> SchemaWrite for (A, B, C) {
         write_members_3::<A, B, C, W>(writer, &src.0, &src.1, &src.2)
     }
 
-    ghost write_laws = { write_laws_by (λ t. (t.0, (t.1, t.2))) (pair_write_laws A.write_laws (pair_write_laws
-        B.write_laws C.write_laws)) };
+    ghost write_laws = { write_laws_by (λ t. (t.0, (t.1, t.2)))
+        (windowed_write_laws ⟦<Members3<A, B, C> as SchemaWrite>⟧.write_laws) };
 }
 
 /// The size of 4 members, each seen by a schema of its own: that of a tuple of them.
@@ -250,9 +223,9 @@ pub fn size_of_members_4<A: SchemaWrite, B: SchemaWrite, C: SchemaWrite, D: Sche
     d: &D::Src,
 ) -> WriteResult<usize>
     ensures ok { let tuple = ⟦<(A, B, C, D) as SchemaWrite>⟧ in IfOk result
-        (IsSized tuple.writing (tuple.seen (a.now, b.now, c.now, d.now))) }
+        (IsSized tuple.writing (tuple.model (a.now, b.now, c.now, d.now))) }
     ensures err { let tuple = ⟦<(A, B, C, D) as SchemaWrite>⟧ in IfErr result
-        (IsSizeRefused tuple.writing (tuple.seen (a.now, b.now, c.now, d.now))) }
+        (SizeRefused tuple.writing (tuple.model (a.now, b.now, c.now, d.now))) }
 {
     joined_size(A::size_of(a), size_of_members_3::<B, C, D>(b, c, d))
 }
@@ -262,13 +235,8 @@ fn write_4<A: SchemaWrite, B: SchemaWrite, C: SchemaWrite, D: SchemaWrite, W: Wr
     writer: &mut W,
     src: &(A::Src, (B::Src, (C::Src, D::Src))),
 ) -> WriteResult<()>
-    ensures ok { let members = ⟦<Members4<A, B, C, D> as SchemaWrite>⟧ in OnOk result
-        (Wrote members.writing (W.state writer.old) (W.state writer.new) (members.seen src.now)) }
-    ensures value { OnOk result (⟦<Members4<A, B, C, D> as SchemaWrite>⟧.proper src.now) }
-    ensures err { let members = ⟦<Members4<A, B, C, D> as SchemaWrite>⟧ in IfErr result
-        (Unwritten members.writing (W.state writer.old) (W.state writer.new) (members.seen src.now)) }
-    ensures piece { let members = ⟦<Members4<A, B, C, D> as SchemaWrite>⟧ in IfErr result
-        (IsPieceRefused (is_static members.writing.meta) members.writing (W.state writer.old) (W.state writer.new) (members.seen src.now)) }
+    ensures { let members = ⟦<Members4<A, B, C, D> as SchemaWrite>⟧ in
+        WriteOutcome (windowed_write members.writing) (W.state writer.old) (W.state writer.new) (members.model src.now) (members.is_valid src.now) result }
 {
     write_in_window::<Members4<A, B, C, D>, W>(writer, src)
 }
@@ -281,13 +249,8 @@ pub fn write_members_4<A: SchemaWrite, B: SchemaWrite, C: SchemaWrite, D: Schema
     c: &C::Src,
     d: &D::Src,
 ) -> WriteResult<()>
-    ensures ok { let tuple = ⟦<(A, B, C, D) as SchemaWrite>⟧ in OnOk result
-        (Wrote tuple.writing (W.state writer.old) (W.state writer.new) (tuple.seen (a.now, b.now, c.now, d.now))) }
-    ensures value { OnOk result (⟦<(A, B, C, D) as SchemaWrite>⟧.proper (a.now, b.now, c.now, d.now)) }
-    ensures err { let tuple = ⟦<(A, B, C, D) as SchemaWrite>⟧ in IfErr result
-        (Unwritten tuple.writing (W.state writer.old) (W.state writer.new) (tuple.seen (a.now, b.now, c.now, d.now))) }
-    ensures piece { let tuple = ⟦<(A, B, C, D) as SchemaWrite>⟧ in IfErr result
-        (IsPieceRefused tuple.in_one_piece tuple.writing (W.state writer.old) (W.state writer.new) (tuple.seen (a.now, b.now, c.now, d.now))) }
+    ensures { let tuple = ⟦<(A, B, C, D) as SchemaWrite>⟧ in
+        WriteOutcome tuple.writing (W.state writer.old) (W.state writer.new) (tuple.model (a.now, b.now, c.now, d.now)) (tuple.is_valid (a.now, b.now, c.now, d.now)) result }
 {
     write_4::<&Member<A>, &Member<B>, &Member<C>, &Member<D>, W>(writer, &(a, (b, (c, d))))
 }
@@ -297,13 +260,11 @@ impl<A: SchemaWrite, B: SchemaWrite, C: SchemaWrite, D: SchemaWrite> SchemaWrite
 
     ghost Value = { ⟦<Members4<A, B, C, D> as SchemaWrite>⟧.Value };
 
-    ghost seen = { λ t. ⟦<Members4<A, B, C, D> as SchemaWrite>⟧.seen (t.0, (t.1, (t.2, t.3))) };
+    ghost model = { λ t. ⟦<Members4<A, B, C, D> as SchemaWrite>⟧.model (t.0, (t.1, (t.2, t.3))) };
 
-    ghost proper = { λ t. ⟦<Members4<A, B, C, D> as SchemaWrite>⟧.proper (t.0, (t.1, (t.2, t.3))) };
+    ghost is_valid = { λ t. ⟦<Members4<A, B, C, D> as SchemaWrite>⟧.is_valid (t.0, (t.1, (t.2, t.3))) };
 
-    ghost writing = { ⟦<Members4<A, B, C, D> as SchemaWrite>⟧.writing };
-
-    ghost in_one_piece = { is_static ⟦<Members4<A, B, C, D> as SchemaWrite>⟧.writing.meta };
+    ghost writing = { windowed_write ⟦<Members4<A, B, C, D> as SchemaWrite>⟧.writing };
 
     fn type_meta() -> TypeMeta {
         joined_meta(A::type_meta(), <(B, C, D) as SchemaWrite>::type_meta())
@@ -317,8 +278,8 @@ impl<A: SchemaWrite, B: SchemaWrite, C: SchemaWrite, D: SchemaWrite> SchemaWrite
         write_members_4::<A, B, C, D, W>(writer, &src.0, &src.1, &src.2, &src.3)
     }
 
-    ghost write_laws = { write_laws_by (λ t. (t.0, (t.1, (t.2, t.3)))) (pair_write_laws A.write_laws (pair_write_laws
-        B.write_laws (pair_write_laws C.write_laws D.write_laws))) };
+    ghost write_laws = { write_laws_by (λ t. (t.0, (t.1, (t.2, t.3))))
+        (windowed_write_laws ⟦<Members4<A, B, C, D> as SchemaWrite>⟧.write_laws) };
 }
 
 /// The size of 5 members, each seen by a schema of its own: that of a tuple of them.
@@ -330,9 +291,9 @@ pub fn size_of_members_5<
     E: SchemaWrite,
 >(a: &A::Src, b: &B::Src, c: &C::Src, d: &D::Src, e: &E::Src) -> WriteResult<usize>
     ensures ok { let tuple = ⟦<(A, B, C, D, E) as SchemaWrite>⟧ in IfOk result
-        (IsSized tuple.writing (tuple.seen (a.now, b.now, c.now, d.now, e.now))) }
+        (IsSized tuple.writing (tuple.model (a.now, b.now, c.now, d.now, e.now))) }
     ensures err { let tuple = ⟦<(A, B, C, D, E) as SchemaWrite>⟧ in IfErr result
-        (IsSizeRefused tuple.writing (tuple.seen (a.now, b.now, c.now, d.now, e.now))) }
+        (SizeRefused tuple.writing (tuple.model (a.now, b.now, c.now, d.now, e.now))) }
 {
     joined_size(A::size_of(a), size_of_members_4::<B, C, D, E>(b, c, d, e))
 }
@@ -346,13 +307,8 @@ fn write_5<
     E: SchemaWrite,
     W: Writer,
 >(writer: &mut W, src: &(A::Src, (B::Src, (C::Src, (D::Src, E::Src))))) -> WriteResult<()>
-    ensures ok { let members = ⟦<Members5<A, B, C, D, E> as SchemaWrite>⟧ in OnOk result
-        (Wrote members.writing (W.state writer.old) (W.state writer.new) (members.seen src.now)) }
-    ensures value { OnOk result (⟦<Members5<A, B, C, D, E> as SchemaWrite>⟧.proper src.now) }
-    ensures err { let members = ⟦<Members5<A, B, C, D, E> as SchemaWrite>⟧ in IfErr result
-        (Unwritten members.writing (W.state writer.old) (W.state writer.new) (members.seen src.now)) }
-    ensures piece { let members = ⟦<Members5<A, B, C, D, E> as SchemaWrite>⟧ in IfErr result
-        (IsPieceRefused (is_static members.writing.meta) members.writing (W.state writer.old) (W.state writer.new) (members.seen src.now)) }
+    ensures { let members = ⟦<Members5<A, B, C, D, E> as SchemaWrite>⟧ in
+        WriteOutcome (windowed_write members.writing) (W.state writer.old) (W.state writer.new) (members.model src.now) (members.is_valid src.now) result }
 {
     write_in_window::<Members5<A, B, C, D, E>, W>(writer, src)
 }
@@ -366,13 +322,8 @@ pub fn write_members_5<
     E: SchemaWrite,
     W: Writer,
 >(writer: &mut W, a: &A::Src, b: &B::Src, c: &C::Src, d: &D::Src, e: &E::Src) -> WriteResult<()>
-    ensures ok { let tuple = ⟦<(A, B, C, D, E) as SchemaWrite>⟧ in OnOk result
-        (Wrote tuple.writing (W.state writer.old) (W.state writer.new) (tuple.seen (a.now, b.now, c.now, d.now, e.now))) }
-    ensures value { OnOk result (⟦<(A, B, C, D, E) as SchemaWrite>⟧.proper (a.now, b.now, c.now, d.now, e.now)) }
-    ensures err { let tuple = ⟦<(A, B, C, D, E) as SchemaWrite>⟧ in IfErr result
-        (Unwritten tuple.writing (W.state writer.old) (W.state writer.new) (tuple.seen (a.now, b.now, c.now, d.now, e.now))) }
-    ensures piece { let tuple = ⟦<(A, B, C, D, E) as SchemaWrite>⟧ in IfErr result
-        (IsPieceRefused tuple.in_one_piece tuple.writing (W.state writer.old) (W.state writer.new) (tuple.seen (a.now, b.now, c.now, d.now, e.now))) }
+    ensures { let tuple = ⟦<(A, B, C, D, E) as SchemaWrite>⟧ in
+        WriteOutcome tuple.writing (W.state writer.old) (W.state writer.new) (tuple.model (a.now, b.now, c.now, d.now, e.now)) (tuple.is_valid (a.now, b.now, c.now, d.now, e.now)) result }
 {
     write_5::<&Member<A>, &Member<B>, &Member<C>, &Member<D>, &Member<E>, W>(
         writer,
@@ -386,13 +337,11 @@ impl<A: SchemaWrite, B: SchemaWrite, C: SchemaWrite, D: SchemaWrite, E: SchemaWr
 
     ghost Value = { ⟦<Members5<A, B, C, D, E> as SchemaWrite>⟧.Value };
 
-    ghost seen = { λ t. ⟦<Members5<A, B, C, D, E> as SchemaWrite>⟧.seen (t.0, (t.1, (t.2, (t.3, t.4)))) };
+    ghost model = { λ t. ⟦<Members5<A, B, C, D, E> as SchemaWrite>⟧.model (t.0, (t.1, (t.2, (t.3, t.4)))) };
 
-    ghost proper = { λ t. ⟦<Members5<A, B, C, D, E> as SchemaWrite>⟧.proper (t.0, (t.1, (t.2, (t.3, t.4)))) };
+    ghost is_valid = { λ t. ⟦<Members5<A, B, C, D, E> as SchemaWrite>⟧.is_valid (t.0, (t.1, (t.2, (t.3, t.4)))) };
 
-    ghost writing = { ⟦<Members5<A, B, C, D, E> as SchemaWrite>⟧.writing };
-
-    ghost in_one_piece = { is_static ⟦<Members5<A, B, C, D, E> as SchemaWrite>⟧.writing.meta };
+    ghost writing = { windowed_write ⟦<Members5<A, B, C, D, E> as SchemaWrite>⟧.writing };
 
     fn type_meta() -> TypeMeta {
         joined_meta(A::type_meta(), <(B, C, D, E) as SchemaWrite>::type_meta())
@@ -406,8 +355,8 @@ impl<A: SchemaWrite, B: SchemaWrite, C: SchemaWrite, D: SchemaWrite, E: SchemaWr
         write_members_5::<A, B, C, D, E, W>(writer, &src.0, &src.1, &src.2, &src.3, &src.4)
     }
 
-    ghost write_laws = { write_laws_by (λ t. (t.0, (t.1, (t.2, (t.3, t.4))))) (pair_write_laws A.write_laws
-        (pair_write_laws B.write_laws (pair_write_laws C.write_laws (pair_write_laws D.write_laws E.write_laws)))) };
+    ghost write_laws = { write_laws_by (λ t. (t.0, (t.1, (t.2, (t.3, t.4)))))
+        (windowed_write_laws ⟦<Members5<A, B, C, D, E> as SchemaWrite>⟧.write_laws) };
 }
 
 /// The size of 6 members, each seen by a schema of its own: that of a tuple of them.
@@ -420,9 +369,9 @@ pub fn size_of_members_6<
     F: SchemaWrite,
 >(a: &A::Src, b: &B::Src, c: &C::Src, d: &D::Src, e: &E::Src, f: &F::Src) -> WriteResult<usize>
     ensures ok { let tuple = ⟦<(A, B, C, D, E, F) as SchemaWrite>⟧ in IfOk result
-        (IsSized tuple.writing (tuple.seen (a.now, b.now, c.now, d.now, e.now, f.now))) }
+        (IsSized tuple.writing (tuple.model (a.now, b.now, c.now, d.now, e.now, f.now))) }
     ensures err { let tuple = ⟦<(A, B, C, D, E, F) as SchemaWrite>⟧ in IfErr result
-        (IsSizeRefused tuple.writing (tuple.seen (a.now, b.now, c.now, d.now, e.now, f.now))) }
+        (SizeRefused tuple.writing (tuple.model (a.now, b.now, c.now, d.now, e.now, f.now))) }
 {
     joined_size(
         A::size_of(a),
@@ -440,13 +389,8 @@ fn write_6<
     F: SchemaWrite,
     W: Writer,
 >(writer: &mut W, src: &(A::Src, (B::Src, (C::Src, (D::Src, (E::Src, F::Src)))))) -> WriteResult<()>
-    ensures ok { let members = ⟦<Members6<A, B, C, D, E, F> as SchemaWrite>⟧ in OnOk result
-        (Wrote members.writing (W.state writer.old) (W.state writer.new) (members.seen src.now)) }
-    ensures value { OnOk result (⟦<Members6<A, B, C, D, E, F> as SchemaWrite>⟧.proper src.now) }
-    ensures err { let members = ⟦<Members6<A, B, C, D, E, F> as SchemaWrite>⟧ in IfErr result
-        (Unwritten members.writing (W.state writer.old) (W.state writer.new) (members.seen src.now)) }
-    ensures piece { let members = ⟦<Members6<A, B, C, D, E, F> as SchemaWrite>⟧ in IfErr result
-        (IsPieceRefused (is_static members.writing.meta) members.writing (W.state writer.old) (W.state writer.new) (members.seen src.now)) }
+    ensures { let members = ⟦<Members6<A, B, C, D, E, F> as SchemaWrite>⟧ in
+        WriteOutcome (windowed_write members.writing) (W.state writer.old) (W.state writer.new) (members.model src.now) (members.is_valid src.now) result }
 {
     write_in_window::<Members6<A, B, C, D, E, F>, W>(writer, src)
 }
@@ -469,13 +413,8 @@ pub fn write_members_6<
     e: &E::Src,
     f: &F::Src,
 ) -> WriteResult<()>
-    ensures ok { let tuple = ⟦<(A, B, C, D, E, F) as SchemaWrite>⟧ in OnOk result
-        (Wrote tuple.writing (W.state writer.old) (W.state writer.new) (tuple.seen (a.now, b.now, c.now, d.now, e.now, f.now))) }
-    ensures value { OnOk result (⟦<(A, B, C, D, E, F) as SchemaWrite>⟧.proper (a.now, b.now, c.now, d.now, e.now, f.now)) }
-    ensures err { let tuple = ⟦<(A, B, C, D, E, F) as SchemaWrite>⟧ in IfErr result
-        (Unwritten tuple.writing (W.state writer.old) (W.state writer.new) (tuple.seen (a.now, b.now, c.now, d.now, e.now, f.now))) }
-    ensures piece { let tuple = ⟦<(A, B, C, D, E, F) as SchemaWrite>⟧ in IfErr result
-        (IsPieceRefused tuple.in_one_piece tuple.writing (W.state writer.old) (W.state writer.new) (tuple.seen (a.now, b.now, c.now, d.now, e.now, f.now))) }
+    ensures { let tuple = ⟦<(A, B, C, D, E, F) as SchemaWrite>⟧ in
+        WriteOutcome tuple.writing (W.state writer.old) (W.state writer.new) (tuple.model (a.now, b.now, c.now, d.now, e.now, f.now)) (tuple.is_valid (a.now, b.now, c.now, d.now, e.now, f.now)) result }
 {
     write_6::<&Member<A>, &Member<B>, &Member<C>, &Member<D>, &Member<E>, &Member<F>, W>(
         writer,
@@ -495,13 +434,11 @@ impl<
 
     ghost Value = { ⟦<Members6<A, B, C, D, E, F> as SchemaWrite>⟧.Value };
 
-    ghost seen = { λ t. ⟦<Members6<A, B, C, D, E, F> as SchemaWrite>⟧.seen (t.0, (t.1, (t.2, (t.3, (t.4, t.5))))) };
+    ghost model = { λ t. ⟦<Members6<A, B, C, D, E, F> as SchemaWrite>⟧.model (t.0, (t.1, (t.2, (t.3, (t.4, t.5))))) };
 
-    ghost proper = { λ t. ⟦<Members6<A, B, C, D, E, F> as SchemaWrite>⟧.proper (t.0, (t.1, (t.2, (t.3, (t.4, t.5))))) };
+    ghost is_valid = { λ t. ⟦<Members6<A, B, C, D, E, F> as SchemaWrite>⟧.is_valid (t.0, (t.1, (t.2, (t.3, (t.4, t.5))))) };
 
-    ghost writing = { ⟦<Members6<A, B, C, D, E, F> as SchemaWrite>⟧.writing };
-
-    ghost in_one_piece = { is_static ⟦<Members6<A, B, C, D, E, F> as SchemaWrite>⟧.writing.meta };
+    ghost writing = { windowed_write ⟦<Members6<A, B, C, D, E, F> as SchemaWrite>⟧.writing };
 
     fn type_meta() -> TypeMeta {
         joined_meta(
@@ -520,9 +457,8 @@ impl<
         )
     }
 
-    ghost write_laws = { write_laws_by (λ t. (t.0, (t.1, (t.2, (t.3, (t.4, t.5)))))) (pair_write_laws A.write_laws
-        (pair_write_laws B.write_laws (pair_write_laws C.write_laws (pair_write_laws D.write_laws (pair_write_laws
-        E.write_laws F.write_laws))))) };
+    ghost write_laws = { write_laws_by (λ t. (t.0, (t.1, (t.2, (t.3, (t.4, t.5))))))
+        (windowed_write_laws ⟦<Members6<A, B, C, D, E, F> as SchemaWrite>⟧.write_laws) };
 }
 
 /// The size of 7 members, each seen by a schema of its own: that of a tuple of them.
@@ -544,9 +480,9 @@ pub fn size_of_members_7<
     g: &G::Src,
 ) -> WriteResult<usize>
     ensures ok { let tuple = ⟦<(A, B, C, D, E, F, G) as SchemaWrite>⟧ in IfOk result
-        (IsSized tuple.writing (tuple.seen (a.now, b.now, c.now, d.now, e.now, f.now, g.now))) }
+        (IsSized tuple.writing (tuple.model (a.now, b.now, c.now, d.now, e.now, f.now, g.now))) }
     ensures err { let tuple = ⟦<(A, B, C, D, E, F, G) as SchemaWrite>⟧ in IfErr result
-        (IsSizeRefused tuple.writing (tuple.seen (a.now, b.now, c.now, d.now, e.now, f.now, g.now))) }
+        (SizeRefused tuple.writing (tuple.model (a.now, b.now, c.now, d.now, e.now, f.now, g.now))) }
 {
     joined_size(
         A::size_of(a),
@@ -571,13 +507,8 @@ fn write_7<
         (B::Src, (C::Src, (D::Src, (E::Src, (F::Src, G::Src))))),
     ),
 ) -> WriteResult<()>
-    ensures ok { let members = ⟦<Members7<A, B, C, D, E, F, G> as SchemaWrite>⟧ in OnOk result
-        (Wrote members.writing (W.state writer.old) (W.state writer.new) (members.seen src.now)) }
-    ensures value { OnOk result (⟦<Members7<A, B, C, D, E, F, G> as SchemaWrite>⟧.proper src.now) }
-    ensures err { let members = ⟦<Members7<A, B, C, D, E, F, G> as SchemaWrite>⟧ in IfErr result
-        (Unwritten members.writing (W.state writer.old) (W.state writer.new) (members.seen src.now)) }
-    ensures piece { let members = ⟦<Members7<A, B, C, D, E, F, G> as SchemaWrite>⟧ in IfErr result
-        (IsPieceRefused (is_static members.writing.meta) members.writing (W.state writer.old) (W.state writer.new) (members.seen src.now)) }
+    ensures { let members = ⟦<Members7<A, B, C, D, E, F, G> as SchemaWrite>⟧ in
+        WriteOutcome (windowed_write members.writing) (W.state writer.old) (W.state writer.new) (members.model src.now) (members.is_valid src.now) result }
 {
     write_in_window::<Members7<A, B, C, D, E, F, G>, W>(writer, src)
 }
@@ -602,13 +533,8 @@ pub fn write_members_7<
     f: &F::Src,
     g: &G::Src,
 ) -> WriteResult<()>
-    ensures ok { let tuple = ⟦<(A, B, C, D, E, F, G) as SchemaWrite>⟧ in OnOk result
-        (Wrote tuple.writing (W.state writer.old) (W.state writer.new) (tuple.seen (a.now, b.now, c.now, d.now, e.now, f.now, g.now))) }
-    ensures value { OnOk result (⟦<(A, B, C, D, E, F, G) as SchemaWrite>⟧.proper (a.now, b.now, c.now, d.now, e.now, f.now, g.now)) }
-    ensures err { let tuple = ⟦<(A, B, C, D, E, F, G) as SchemaWrite>⟧ in IfErr result
-        (Unwritten tuple.writing (W.state writer.old) (W.state writer.new) (tuple.seen (a.now, b.now, c.now, d.now, e.now, f.now, g.now))) }
-    ensures piece { let tuple = ⟦<(A, B, C, D, E, F, G) as SchemaWrite>⟧ in IfErr result
-        (IsPieceRefused tuple.in_one_piece tuple.writing (W.state writer.old) (W.state writer.new) (tuple.seen (a.now, b.now, c.now, d.now, e.now, f.now, g.now))) }
+    ensures { let tuple = ⟦<(A, B, C, D, E, F, G) as SchemaWrite>⟧ in
+        WriteOutcome tuple.writing (W.state writer.old) (W.state writer.new) (tuple.model (a.now, b.now, c.now, d.now, e.now, f.now, g.now)) (tuple.is_valid (a.now, b.now, c.now, d.now, e.now, f.now, g.now)) result }
 {
     write_7::<
         &Member<A>,
@@ -635,13 +561,11 @@ impl<
 
     ghost Value = { ⟦<Members7<A, B, C, D, E, F, G> as SchemaWrite>⟧.Value };
 
-    ghost seen = { λ t. ⟦<Members7<A, B, C, D, E, F, G> as SchemaWrite>⟧.seen (t.0, (t.1, (t.2, (t.3, (t.4, (t.5, t.6)))))) };
+    ghost model = { λ t. ⟦<Members7<A, B, C, D, E, F, G> as SchemaWrite>⟧.model (t.0, (t.1, (t.2, (t.3, (t.4, (t.5, t.6)))))) };
 
-    ghost proper = { λ t. ⟦<Members7<A, B, C, D, E, F, G> as SchemaWrite>⟧.proper (t.0, (t.1, (t.2, (t.3, (t.4, (t.5, t.6)))))) };
+    ghost is_valid = { λ t. ⟦<Members7<A, B, C, D, E, F, G> as SchemaWrite>⟧.is_valid (t.0, (t.1, (t.2, (t.3, (t.4, (t.5, t.6)))))) };
 
-    ghost writing = { ⟦<Members7<A, B, C, D, E, F, G> as SchemaWrite>⟧.writing };
-
-    ghost in_one_piece = { is_static ⟦<Members7<A, B, C, D, E, F, G> as SchemaWrite>⟧.writing.meta };
+    ghost writing = { windowed_write ⟦<Members7<A, B, C, D, E, F, G> as SchemaWrite>⟧.writing };
 
     fn type_meta() -> TypeMeta {
         joined_meta(
@@ -662,9 +586,8 @@ impl<
         )
     }
 
-    ghost write_laws = { write_laws_by (λ t. (t.0, (t.1, (t.2, (t.3, (t.4, (t.5, t.6))))))) (pair_write_laws
-        A.write_laws (pair_write_laws B.write_laws (pair_write_laws C.write_laws (pair_write_laws D.write_laws
-        (pair_write_laws E.write_laws (pair_write_laws F.write_laws G.write_laws)))))) };
+    ghost write_laws = { write_laws_by (λ t. (t.0, (t.1, (t.2, (t.3, (t.4, (t.5, t.6)))))))
+        (windowed_write_laws ⟦<Members7<A, B, C, D, E, F, G> as SchemaWrite>⟧.write_laws) };
 }
 
 /// The size of 8 members, each seen by a schema of its own: that of a tuple of them.
@@ -688,9 +611,9 @@ pub fn size_of_members_8<
     h: &H::Src,
 ) -> WriteResult<usize>
     ensures ok { let tuple = ⟦<(A, B, C, D, E, F, G, H) as SchemaWrite>⟧ in IfOk result
-        (IsSized tuple.writing (tuple.seen (a.now, b.now, c.now, d.now, e.now, f.now, g.now, h.now))) }
+        (IsSized tuple.writing (tuple.model (a.now, b.now, c.now, d.now, e.now, f.now, g.now, h.now))) }
     ensures err { let tuple = ⟦<(A, B, C, D, E, F, G, H) as SchemaWrite>⟧ in IfErr result
-        (IsSizeRefused tuple.writing (tuple.seen (a.now, b.now, c.now, d.now, e.now, f.now, g.now, h.now))) }
+        (SizeRefused tuple.writing (tuple.model (a.now, b.now, c.now, d.now, e.now, f.now, g.now, h.now))) }
 {
     joined_size(
         A::size_of(a),
@@ -719,13 +642,8 @@ fn write_8<
         ),
     ),
 ) -> WriteResult<()>
-    ensures ok { let members = ⟦<Members8<A, B, C, D, E, F, G, H> as SchemaWrite>⟧ in OnOk result
-        (Wrote members.writing (W.state writer.old) (W.state writer.new) (members.seen src.now)) }
-    ensures value { OnOk result (⟦<Members8<A, B, C, D, E, F, G, H> as SchemaWrite>⟧.proper src.now) }
-    ensures err { let members = ⟦<Members8<A, B, C, D, E, F, G, H> as SchemaWrite>⟧ in IfErr result
-        (Unwritten members.writing (W.state writer.old) (W.state writer.new) (members.seen src.now)) }
-    ensures piece { let members = ⟦<Members8<A, B, C, D, E, F, G, H> as SchemaWrite>⟧ in IfErr result
-        (IsPieceRefused (is_static members.writing.meta) members.writing (W.state writer.old) (W.state writer.new) (members.seen src.now)) }
+    ensures { let members = ⟦<Members8<A, B, C, D, E, F, G, H> as SchemaWrite>⟧ in
+        WriteOutcome (windowed_write members.writing) (W.state writer.old) (W.state writer.new) (members.model src.now) (members.is_valid src.now) result }
 {
     write_in_window::<Members8<A, B, C, D, E, F, G, H>, W>(writer, src)
 }
@@ -752,13 +670,8 @@ pub fn write_members_8<
     g: &G::Src,
     h: &H::Src,
 ) -> WriteResult<()>
-    ensures ok { let tuple = ⟦<(A, B, C, D, E, F, G, H) as SchemaWrite>⟧ in OnOk result
-        (Wrote tuple.writing (W.state writer.old) (W.state writer.new) (tuple.seen (a.now, b.now, c.now, d.now, e.now, f.now, g.now, h.now))) }
-    ensures value { OnOk result (⟦<(A, B, C, D, E, F, G, H) as SchemaWrite>⟧.proper (a.now, b.now, c.now, d.now, e.now, f.now, g.now, h.now)) }
-    ensures err { let tuple = ⟦<(A, B, C, D, E, F, G, H) as SchemaWrite>⟧ in IfErr result
-        (Unwritten tuple.writing (W.state writer.old) (W.state writer.new) (tuple.seen (a.now, b.now, c.now, d.now, e.now, f.now, g.now, h.now))) }
-    ensures piece { let tuple = ⟦<(A, B, C, D, E, F, G, H) as SchemaWrite>⟧ in IfErr result
-        (IsPieceRefused tuple.in_one_piece tuple.writing (W.state writer.old) (W.state writer.new) (tuple.seen (a.now, b.now, c.now, d.now, e.now, f.now, g.now, h.now))) }
+    ensures { let tuple = ⟦<(A, B, C, D, E, F, G, H) as SchemaWrite>⟧ in
+        WriteOutcome tuple.writing (W.state writer.old) (W.state writer.new) (tuple.model (a.now, b.now, c.now, d.now, e.now, f.now, g.now, h.now)) (tuple.is_valid (a.now, b.now, c.now, d.now, e.now, f.now, g.now, h.now)) result }
 {
     write_8::<
         &Member<A>,
@@ -796,13 +709,11 @@ impl<
 
     ghost Value = { ⟦<Members8<A, B, C, D, E, F, G, H> as SchemaWrite>⟧.Value };
 
-    ghost seen = { λ t. ⟦<Members8<A, B, C, D, E, F, G, H> as SchemaWrite>⟧.seen (t.0, (t.1, (t.2, (t.3, (t.4, (t.5, (t.6, t.7))))))) };
+    ghost model = { λ t. ⟦<Members8<A, B, C, D, E, F, G, H> as SchemaWrite>⟧.model (t.0, (t.1, (t.2, (t.3, (t.4, (t.5, (t.6, t.7))))))) };
 
-    ghost proper = { λ t. ⟦<Members8<A, B, C, D, E, F, G, H> as SchemaWrite>⟧.proper (t.0, (t.1, (t.2, (t.3, (t.4, (t.5, (t.6, t.7))))))) };
+    ghost is_valid = { λ t. ⟦<Members8<A, B, C, D, E, F, G, H> as SchemaWrite>⟧.is_valid (t.0, (t.1, (t.2, (t.3, (t.4, (t.5, (t.6, t.7))))))) };
 
-    ghost writing = { ⟦<Members8<A, B, C, D, E, F, G, H> as SchemaWrite>⟧.writing };
-
-    ghost in_one_piece = { is_static ⟦<Members8<A, B, C, D, E, F, G, H> as SchemaWrite>⟧.writing.meta };
+    ghost writing = { windowed_write ⟦<Members8<A, B, C, D, E, F, G, H> as SchemaWrite>⟧.writing };
 
     fn type_meta() -> TypeMeta {
         joined_meta(
@@ -823,7 +734,6 @@ impl<
         )
     }
 
-    ghost write_laws = { write_laws_by (λ t. (t.0, (t.1, (t.2, (t.3, (t.4, (t.5, (t.6, t.7)))))))) (pair_write_laws
-        A.write_laws (pair_write_laws B.write_laws (pair_write_laws C.write_laws (pair_write_laws D.write_laws
-        (pair_write_laws E.write_laws (pair_write_laws F.write_laws (pair_write_laws G.write_laws H.write_laws))))))) };
+    ghost write_laws = { write_laws_by (λ t. (t.0, (t.1, (t.2, (t.3, (t.4, (t.5, (t.6, t.7))))))))
+        (windowed_write_laws ⟦<Members8<A, B, C, D, E, F, G, H> as SchemaWrite>⟧.write_laws) };
 }

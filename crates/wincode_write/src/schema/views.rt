@@ -3,15 +3,14 @@
 ghost use Rattle.std.specs.Prelude.{◌<◌, List, false, true, max};
 ghost use Rattle.wincode_io.specs.Joins.{Each};
 ghost use Rattle.wincode_io.specs.Viewed.{value_seen, values_seen};
-ghost use Rattle.wincode_base.specs.InWindow.{is_static};
 ghost use Rattle.wincode_base.specs.ViewLaws.{form_write_laws, lent_write_laws};
-ghost use Rattle.wincode_base.specs.Views.{counted_write, form_meta, form_write, forms_write};
+ghost use Rattle.wincode_base.specs.Views.{form_item_write, form_write, forms_write};
 ghost use Rattle.wincode_base.specs.declared.meta.TypeMeta.TheVariants.{Dynamic};
 
 use crate::schema::SchemaWrite;
 use crate::schema::to_items::{ToItems, size_of_list, write_list};
 use wincode_base::error::{WriteResult, write_length_encoding_overflow};
-use wincode_base::len::BincodeLen;
+use wincode_base::len::{BincodeLen, NO_LIMIT};
 use wincode_base::meta::TypeMeta;
 use wincode_base::parts::Pod;
 use wincode_base::sizes::meta_of_form;
@@ -23,13 +22,11 @@ impl<B: SharedBytes, T: ZeroCopy> SchemaWrite for View<B, T> {
 
     ghost Value = { T };
 
-    ghost seen = { λ v. value_seen v };
+    ghost model = { λ v. value_seen v };
 
-    ghost proper = { λ v. T.proper (value_seen v) };
+    ghost is_valid = { λ v. T.is_valid (value_seen v) };
 
-    ghost writing = { form_write T.proper T.size T.form false 8 };
-
-    ghost in_one_piece = { true };
+    ghost writing = { form_write T.is_valid T.size T.form false 8 };
 
     fn type_meta() -> TypeMeta {
         meta_of_form::<T>(false)
@@ -80,26 +77,24 @@ impl<B: SharedBytes, T: ZeroCopy> SchemaWrite for SliceView<B, T> {
 
     ghost Value = { List T };
 
-    ghost seen = { λ v. values_seen v };
+    ghost model = { λ v. values_seen v };
 
-    ghost proper = { λ v. Each T.proper (values_seen v) };
+    ghost is_valid = { λ v. Each T.is_valid (values_seen v) };
 
-    ghost writing = { forms_write T.proper T.size T.form };
-
-    ghost in_one_piece = { is_static (form_meta T.size true) };
+    ghost writing = { forms_write T.is_valid T.size T.form };
 
     fn type_meta() -> TypeMeta {
         TypeMeta::Dynamic
     }
 
     fn size_of(src: &SliceView<B, T>) -> WriteResult<usize> {
-        size_of_list::<BincodeLen<18446744073709551615>, Pod<T>, SliceView<B, T>, 16>(src)
+        size_of_list::<BincodeLen<NO_LIMIT>, Pod<T>, SliceView<B, T>, 16>(src)
     }
 
     fn write<W: Writer>(writer: &mut W, src: &SliceView<B, T>) -> WriteResult<()> {
-        write_list::<BincodeLen<18446744073709551615>, Pod<T>, SliceView<B, T>, W, 16>(writer, src)
+        write_list::<BincodeLen<NO_LIMIT>, Pod<T>, SliceView<B, T>, W, 16>(writer, src)
     }
 
-    ghost write_laws = { lent_write_laws (λ v. values_seen v) T.proper
-        (counted_write T.proper T.size T.form) (form_write_laws T.byte_form (λ v. v) true (max T.size 1)) };
+    ghost write_laws = { lent_write_laws (λ v. values_seen v) T.is_valid
+        (form_item_write T.is_valid T.size T.form) (form_write_laws T.byte_form (λ v. v) true (max T.size 1)) };
 }

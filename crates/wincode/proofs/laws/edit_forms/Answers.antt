@@ -6,7 +6,7 @@ use Rattle.wincode.proofs.laws.edit_forms.Goals as goal
 
 pub loop-i-init : goal.loop-i-init
 unfolding all_edited
-loop-i-init g c = record { same = refl; count = c.new-view.ensures.n; so_far = c.new-view.ensures.forms; proper = all_none (λ e. g.T.ZeroCopy.proper e.1) }
+loop-i-init g c = record { same = refl; count = c.new-view.ensures.n; so_far = c.new-view.ensures.forms; is_valid = all_none (λ e. g.T.ZeroCopy.is_valid e.1) }
 
 pub loop-i-preserved : goal.loop-i-preserved
 loop-i-preserved g c =
@@ -22,5 +22,5 @@ loop-i-preserved g c =
       so_far = c.set.ensures.forms ∙ ap (λ b. edited s b e.0 (form e.1)) c.loop-i.invariant.so_far
           ∙ ap (λ x. edited s (all_edited s c.args.forms.now (in_places form (take i edits))) x.0 (form x.1)) at
           ∙ sym (in_places_more s form c.args.forms.now edits i e c.loop-i-test.true);
-      proper = all_more (λ x. g.T.ZeroCopy.proper x.1) edits i e c.loop-i-test.true at c.loop-i.invariant.proper c.set.ensures.proper;
+      is_valid = all_more (λ x. g.T.ZeroCopy.is_valid x.1) edits i e c.loop-i-test.true at c.loop-i.invariant.is_valid c.set.ensures.is_valid;
     }

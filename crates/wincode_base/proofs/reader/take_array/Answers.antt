@@ -1,4 +1,4 @@
-use Rattle.wincode_base.specs.SizedLaws.{arrays_takes}
+use Rattle.wincode_base.specs.FixedSizeLaws.{arrays_takes}
 use Rattle.wincode_base.proofs.reader.take_array.Goals as goal
 
 pub returns-clause-ok : goal.returns-clause-ok

@@ -1,5 +1,5 @@
 use Rattle.std.proofs.Common.{rules, sym, ap, ◌∙◌, subst, subst₂, ◌<◌, ◌-◌}
-use Rattle.wincode_collect.specs.Runs.{Gave, Failed}
+use Rattle.wincode_collect.specs.Calls.{Gave, Failed}
 use Rattle.wincode_collect.proofs.Runs.{ran, broke}
 use Rattle.wincode_collect.proofs.array.array_from.Goals as goal
 

@@ -36,5 +36,5 @@ returns-clause-value g c told =
     let whole = windowed c.in_ok-outer.ensures.ok in
     let rest = lost whole first.loses in
     let part = windowed c.in_ok-inner.ensures.ok in
-    through _ _ _ _ _ _ (outer.loses.rest told).0 (outer.front told) (first.loses.rest whole.told).1 (first.front whole.told)
-    (inner.front rest.told) (second.front part.told)
+    through _ _ _ _ _ _ (outer.loses.rest told).0 (outer.front told) (first.loses.rest whole.is_known).1 (first.front whole.is_known)
+    (inner.front rest.is_known) (second.front part.is_known)

@@ -1,6 +1,6 @@
 //! Schemas of tuples of 9 to 12 members.
-ghost use Rattle.wincode_base.specs.InWindow.{IsStaticRefused};
-ghost use Rattle.wincode_base.specs.PairLaws.{pair_read_laws};
+ghost use Rattle.wincode_base.specs.InWindow.{windowed_read};
+ghost use Rattle.wincode_base.specs.PairLaws.{pair_read_laws, windowed_read_laws};
 
 use crate::schema::SchemaRead;
 use crate::schema::tuples::{FromPairs, read_pairs};
@@ -47,13 +47,11 @@ impl<
 
     ghost Value = { ⟦<Members9<A, B, C, D, E, F, G, H, I> as SchemaRead<L>>⟧.Value };
 
-    ghost seen = { λ t. ⟦<Members9<A, B, C, D, E, F, G, H, I> as SchemaRead<L>>⟧.seen (t.0, (t.1, (t.2, (t.3, (t.4, (t.5, (t.6, (t.7, t.8)))))))) };
+    ghost model = { λ t. ⟦<Members9<A, B, C, D, E, F, G, H, I> as SchemaRead<L>>⟧.model (t.0, (t.1, (t.2, (t.3, (t.4, (t.5, (t.6, (t.7, t.8)))))))) };
 
-    ghost proper = { ⟦<Members9<A, B, C, D, E, F, G, H, I> as SchemaRead<L>>⟧.proper };
+    ghost is_valid = { ⟦<Members9<A, B, C, D, E, F, G, H, I> as SchemaRead<L>>⟧.is_valid };
 
-    ghost reading = { ⟦<Members9<A, B, C, D, E, F, G, H, I> as SchemaRead<L>>⟧.reading };
-
-    ghost refusal = { IsStaticRefused ⟦<Members9<A, B, C, D, E, F, G, H, I> as SchemaRead<L>>⟧.reading.meta ⟦<Members9<A, B, C, D, E, F, G, H, I> as SchemaRead<L>>⟧.refusal };
+    ghost reading = { windowed_read ⟦<Members9<A, B, C, D, E, F, G, H, I> as SchemaRead<L>>⟧.reading };
 
     fn type_meta() -> TypeMeta {
         joined_meta(
@@ -76,9 +74,7 @@ impl<
         read_pairs::<L, Members9<A, B, C, D, E, F, G, H, I>, Self::Dst, R>(alloc, reader, dst)
     }
 
-    ghost read_laws = { pair_read_laws A.read_laws (pair_read_laws B.read_laws (pair_read_laws C.read_laws
-        (pair_read_laws D.read_laws (pair_read_laws E.read_laws (pair_read_laws F.read_laws (pair_read_laws
-        G.read_laws (pair_read_laws H.read_laws I.read_laws))))))) };
+    ghost read_laws = { windowed_read_laws (pair_read_laws A.read_laws (pair_read_laws B.read_laws (pair_read_laws C.read_laws (pair_read_laws D.read_laws (pair_read_laws E.read_laws (pair_read_laws F.read_laws (pair_read_laws G.read_laws (pair_read_laws H.read_laws I.read_laws)))))))) };
 }
 
 impl<A, B, C, D, E, F, G, H, I, J> FromPairs<(A, (B, (C, (D, (E, (F, (G, (H, (I, J)))))))))>
@@ -121,13 +117,11 @@ impl<
 
     ghost Value = { ⟦<Members10<A, B, C, D, E, F, G, H, I, J> as SchemaRead<L>>⟧.Value };
 
-    ghost seen = { λ t. ⟦<Members10<A, B, C, D, E, F, G, H, I, J> as SchemaRead<L>>⟧.seen (t.0, (t.1, (t.2, (t.3, (t.4, (t.5, (t.6, (t.7, (t.8, t.9))))))))) };
+    ghost model = { λ t. ⟦<Members10<A, B, C, D, E, F, G, H, I, J> as SchemaRead<L>>⟧.model (t.0, (t.1, (t.2, (t.3, (t.4, (t.5, (t.6, (t.7, (t.8, t.9))))))))) };
 
-    ghost proper = { ⟦<Members10<A, B, C, D, E, F, G, H, I, J> as SchemaRead<L>>⟧.proper };
+    ghost is_valid = { ⟦<Members10<A, B, C, D, E, F, G, H, I, J> as SchemaRead<L>>⟧.is_valid };
 
-    ghost reading = { ⟦<Members10<A, B, C, D, E, F, G, H, I, J> as SchemaRead<L>>⟧.reading };
-
-    ghost refusal = { IsStaticRefused ⟦<Members10<A, B, C, D, E, F, G, H, I, J> as SchemaRead<L>>⟧.reading.meta ⟦<Members10<A, B, C, D, E, F, G, H, I, J> as SchemaRead<L>>⟧.refusal };
+    ghost reading = { windowed_read ⟦<Members10<A, B, C, D, E, F, G, H, I, J> as SchemaRead<L>>⟧.reading };
 
     fn type_meta() -> TypeMeta {
         joined_meta(
@@ -150,9 +144,7 @@ impl<
         read_pairs::<L, Members10<A, B, C, D, E, F, G, H, I, J>, Self::Dst, R>(alloc, reader, dst)
     }
 
-    ghost read_laws = { pair_read_laws A.read_laws (pair_read_laws B.read_laws (pair_read_laws C.read_laws
-        (pair_read_laws D.read_laws (pair_read_laws E.read_laws (pair_read_laws F.read_laws (pair_read_laws
-        G.read_laws (pair_read_laws H.read_laws (pair_read_laws I.read_laws J.read_laws)))))))) };
+    ghost read_laws = { windowed_read_laws (pair_read_laws A.read_laws (pair_read_laws B.read_laws (pair_read_laws C.read_laws (pair_read_laws D.read_laws (pair_read_laws E.read_laws (pair_read_laws F.read_laws (pair_read_laws G.read_laws (pair_read_laws H.read_laws (pair_read_laws I.read_laws J.read_laws))))))))) };
 }
 
 impl<A, B, C, D, E, F, G, H, I, J, K> FromPairs<(A, (B, (C, (D, (E, (F, (G, (H, (I, (J, K))))))))))>
@@ -197,13 +189,11 @@ impl<
 
     ghost Value = { ⟦<Members11<A, B, C, D, E, F, G, H, I, J, K> as SchemaRead<L>>⟧.Value };
 
-    ghost seen = { λ t. ⟦<Members11<A, B, C, D, E, F, G, H, I, J, K> as SchemaRead<L>>⟧.seen (t.0, (t.1, (t.2, (t.3, (t.4, (t.5, (t.6, (t.7, (t.8, (t.9, t.10)))))))))) };
+    ghost model = { λ t. ⟦<Members11<A, B, C, D, E, F, G, H, I, J, K> as SchemaRead<L>>⟧.model (t.0, (t.1, (t.2, (t.3, (t.4, (t.5, (t.6, (t.7, (t.8, (t.9, t.10)))))))))) };
 
-    ghost proper = { ⟦<Members11<A, B, C, D, E, F, G, H, I, J, K> as SchemaRead<L>>⟧.proper };
+    ghost is_valid = { ⟦<Members11<A, B, C, D, E, F, G, H, I, J, K> as SchemaRead<L>>⟧.is_valid };
 
-    ghost reading = { ⟦<Members11<A, B, C, D, E, F, G, H, I, J, K> as SchemaRead<L>>⟧.reading };
-
-    ghost refusal = { IsStaticRefused ⟦<Members11<A, B, C, D, E, F, G, H, I, J, K> as SchemaRead<L>>⟧.reading.meta ⟦<Members11<A, B, C, D, E, F, G, H, I, J, K> as SchemaRead<L>>⟧.refusal };
+    ghost reading = { windowed_read ⟦<Members11<A, B, C, D, E, F, G, H, I, J, K> as SchemaRead<L>>⟧.reading };
 
     fn type_meta() -> TypeMeta {
         joined_meta(
@@ -228,10 +218,7 @@ impl<
         )
     }
 
-    ghost read_laws = { pair_read_laws A.read_laws (pair_read_laws B.read_laws (pair_read_laws C.read_laws
-        (pair_read_laws D.read_laws (pair_read_laws E.read_laws (pair_read_laws F.read_laws (pair_read_laws
-        G.read_laws (pair_read_laws H.read_laws (pair_read_laws I.read_laws (pair_read_laws J.read_laws
-        K.read_laws))))))))) };
+    ghost read_laws = { windowed_read_laws (pair_read_laws A.read_laws (pair_read_laws B.read_laws (pair_read_laws C.read_laws (pair_read_laws D.read_laws (pair_read_laws E.read_laws (pair_read_laws F.read_laws (pair_read_laws G.read_laws (pair_read_laws H.read_laws (pair_read_laws I.read_laws (pair_read_laws J.read_laws K.read_laws)))))))))) };
 }
 
 impl<A, B, C, D, E, F, G, H, I, J, K, M> FromPairs<
@@ -279,13 +266,11 @@ impl<
 
     ghost Value = { ⟦<Members12<A, B, C, D, E, F, G, H, I, J, K, M> as SchemaRead<L>>⟧.Value };
 
-    ghost seen = { λ t. ⟦<Members12<A, B, C, D, E, F, G, H, I, J, K, M> as SchemaRead<L>>⟧.seen (t.0, (t.1, (t.2, (t.3, (t.4, (t.5, (t.6, (t.7, (t.8, (t.9, (t.10, t.11))))))))))) };
+    ghost model = { λ t. ⟦<Members12<A, B, C, D, E, F, G, H, I, J, K, M> as SchemaRead<L>>⟧.model (t.0, (t.1, (t.2, (t.3, (t.4, (t.5, (t.6, (t.7, (t.8, (t.9, (t.10, t.11))))))))))) };
 
-    ghost proper = { ⟦<Members12<A, B, C, D, E, F, G, H, I, J, K, M> as SchemaRead<L>>⟧.proper };
+    ghost is_valid = { ⟦<Members12<A, B, C, D, E, F, G, H, I, J, K, M> as SchemaRead<L>>⟧.is_valid };
 
-    ghost reading = { ⟦<Members12<A, B, C, D, E, F, G, H, I, J, K, M> as SchemaRead<L>>⟧.reading };
-
-    ghost refusal = { IsStaticRefused ⟦<Members12<A, B, C, D, E, F, G, H, I, J, K, M> as SchemaRead<L>>⟧.reading.meta ⟦<Members12<A, B, C, D, E, F, G, H, I, J, K, M> as SchemaRead<L>>⟧.refusal };
+    ghost reading = { windowed_read ⟦<Members12<A, B, C, D, E, F, G, H, I, J, K, M> as SchemaRead<L>>⟧.reading };
 
     fn type_meta() -> TypeMeta {
         joined_meta(
@@ -310,8 +295,5 @@ impl<
         )
     }
 
-    ghost read_laws = { pair_read_laws A.read_laws (pair_read_laws B.read_laws (pair_read_laws C.read_laws
-        (pair_read_laws D.read_laws (pair_read_laws E.read_laws (pair_read_laws F.read_laws (pair_read_laws
-        G.read_laws (pair_read_laws H.read_laws (pair_read_laws I.read_laws (pair_read_laws J.read_laws
-        (pair_read_laws K.read_laws M.read_laws)))))))))) };
+    ghost read_laws = { windowed_read_laws (pair_read_laws A.read_laws (pair_read_laws B.read_laws (pair_read_laws C.read_laws (pair_read_laws D.read_laws (pair_read_laws E.read_laws (pair_read_laws F.read_laws (pair_read_laws G.read_laws (pair_read_laws H.read_laws (pair_read_laws I.read_laws (pair_read_laws J.read_laws (pair_read_laws K.read_laws M.read_laws))))))))))) };
 }

@@ -5,7 +5,8 @@ use Rattle.wincode_show.specs.Cases.{IsNoTag}
 use Rattle.wincode_show.specs.EventLaws.{first_tags}
 use Rattle.wincode_show.proofs.event.get_mark.Goals as goal
 
-pub returns-in_default-clause-err : goal.returns-in_default-clause-err
-returns-in_default-clause-err g c =
+pub returns-in_default : goal.returns-in_default
+returns-in_default g c =
     let none : IsNoTag 0 1 2 c.in_ok-tag.tag = search rules in
-    rw c.invalid_tag_encoding.ensures (none_refused 1 first_tags unit_read unit_read unit_read _ _ c.in_ok-tag.tag _ none c.in_ok-tag.ensures.ok)
+    let t = c.in_ok-tag.ensures.ok in
+    rw c.invalid_tag_encoding.ensures (record { ok = tt; refused = none_refused 1 first_tags unit_read unit_read unit_read _ _ c.in_ok-tag.tag _ none t; place = (none, t) })

@@ -1,8 +1,8 @@
 //! Schemas of tuples of 9 to 12 members.
-ghost use Rattle.std.specs.Prelude.{IfOk, IfErr, OnOk};
-ghost use Rattle.wincode_base.specs.InWindow.{is_static};
-ghost use Rattle.wincode_base.specs.Outcomes.{IsSized, Wrote, Unwritten, IsPieceRefused, IsSizeRefused};
-ghost use Rattle.wincode_base.specs.PairLaws.{pair_write_laws, write_laws_by};
+ghost use Rattle.std.specs.Prelude.{IfOk, IfErr};
+ghost use Rattle.wincode_base.specs.InWindow.{windowed_write};
+ghost use Rattle.wincode_base.specs.Outcomes.{IsSized, SizeRefused, WriteOutcome};
+ghost use Rattle.wincode_base.specs.PairLaws.{write_laws_by, windowed_write_laws};
 
 use super::size_of_members_8;
 use crate::schema::SchemaWrite;
@@ -36,9 +36,9 @@ pub fn size_of_members_9<
     i: &I::Src,
 ) -> WriteResult<usize>
     ensures ok { let tuple = ⟦<(A, B, C, D, E, F, G, H, I) as SchemaWrite>⟧ in IfOk result
-        (IsSized tuple.writing (tuple.seen (a.now, b.now, c.now, d.now, e.now, f.now, g.now, h.now, i.now))) }
+        (IsSized tuple.writing (tuple.model (a.now, b.now, c.now, d.now, e.now, f.now, g.now, h.now, i.now))) }
     ensures err { let tuple = ⟦<(A, B, C, D, E, F, G, H, I) as SchemaWrite>⟧ in IfErr result
-        (IsSizeRefused tuple.writing (tuple.seen (a.now, b.now, c.now, d.now, e.now, f.now, g.now, h.now, i.now))) }
+        (SizeRefused tuple.writing (tuple.model (a.now, b.now, c.now, d.now, e.now, f.now, g.now, h.now, i.now))) }
 {
     joined_size(
         A::size_of(a),
@@ -71,13 +71,8 @@ fn write_9<
         ),
     ),
 ) -> WriteResult<()>
-    ensures ok { let members = ⟦<Members9<A, B, C, D, E, F, G, H, I> as SchemaWrite>⟧ in OnOk result
-        (Wrote members.writing (W.state writer.old) (W.state writer.new) (members.seen src.now)) }
-    ensures value { OnOk result (⟦<Members9<A, B, C, D, E, F, G, H, I> as SchemaWrite>⟧.proper src.now) }
-    ensures err { let members = ⟦<Members9<A, B, C, D, E, F, G, H, I> as SchemaWrite>⟧ in IfErr result
-        (Unwritten members.writing (W.state writer.old) (W.state writer.new) (members.seen src.now)) }
-    ensures piece { let members = ⟦<Members9<A, B, C, D, E, F, G, H, I> as SchemaWrite>⟧ in IfErr result
-        (IsPieceRefused (is_static members.writing.meta) members.writing (W.state writer.old) (W.state writer.new) (members.seen src.now)) }
+    ensures { let members = ⟦<Members9<A, B, C, D, E, F, G, H, I> as SchemaWrite>⟧ in
+        WriteOutcome (windowed_write members.writing) (W.state writer.old) (W.state writer.new) (members.model src.now) (members.is_valid src.now) result }
 {
     write_in_window::<Members9<A, B, C, D, E, F, G, H, I>, W>(writer, src)
 }
@@ -106,13 +101,8 @@ pub fn write_members_9<
     h: &H::Src,
     i: &I::Src,
 ) -> WriteResult<()>
-    ensures ok { let tuple = ⟦<(A, B, C, D, E, F, G, H, I) as SchemaWrite>⟧ in OnOk result
-        (Wrote tuple.writing (W.state writer.old) (W.state writer.new) (tuple.seen (a.now, b.now, c.now, d.now, e.now, f.now, g.now, h.now, i.now))) }
-    ensures value { OnOk result (⟦<(A, B, C, D, E, F, G, H, I) as SchemaWrite>⟧.proper (a.now, b.now, c.now, d.now, e.now, f.now, g.now, h.now, i.now)) }
-    ensures err { let tuple = ⟦<(A, B, C, D, E, F, G, H, I) as SchemaWrite>⟧ in IfErr result
-        (Unwritten tuple.writing (W.state writer.old) (W.state writer.new) (tuple.seen (a.now, b.now, c.now, d.now, e.now, f.now, g.now, h.now, i.now))) }
-    ensures piece { let tuple = ⟦<(A, B, C, D, E, F, G, H, I) as SchemaWrite>⟧ in IfErr result
-        (IsPieceRefused tuple.in_one_piece tuple.writing (W.state writer.old) (W.state writer.new) (tuple.seen (a.now, b.now, c.now, d.now, e.now, f.now, g.now, h.now, i.now))) }
+    ensures { let tuple = ⟦<(A, B, C, D, E, F, G, H, I) as SchemaWrite>⟧ in
+        WriteOutcome tuple.writing (W.state writer.old) (W.state writer.new) (tuple.model (a.now, b.now, c.now, d.now, e.now, f.now, g.now, h.now, i.now)) (tuple.is_valid (a.now, b.now, c.now, d.now, e.now, f.now, g.now, h.now, i.now)) result }
 {
     write_9::<
         &Member<A>,
@@ -153,13 +143,11 @@ impl<
 
     ghost Value = { ⟦<Members9<A, B, C, D, E, F, G, H, I> as SchemaWrite>⟧.Value };
 
-    ghost seen = { λ t. ⟦<Members9<A, B, C, D, E, F, G, H, I> as SchemaWrite>⟧.seen (t.0, (t.1, (t.2, (t.3, (t.4, (t.5, (t.6, (t.7, t.8)))))))) };
+    ghost model = { λ t. ⟦<Members9<A, B, C, D, E, F, G, H, I> as SchemaWrite>⟧.model (t.0, (t.1, (t.2, (t.3, (t.4, (t.5, (t.6, (t.7, t.8)))))))) };
 
-    ghost proper = { λ t. ⟦<Members9<A, B, C, D, E, F, G, H, I> as SchemaWrite>⟧.proper (t.0, (t.1, (t.2, (t.3, (t.4, (t.5, (t.6, (t.7, t.8)))))))) };
+    ghost is_valid = { λ t. ⟦<Members9<A, B, C, D, E, F, G, H, I> as SchemaWrite>⟧.is_valid (t.0, (t.1, (t.2, (t.3, (t.4, (t.5, (t.6, (t.7, t.8)))))))) };
 
-    ghost writing = { ⟦<Members9<A, B, C, D, E, F, G, H, I> as SchemaWrite>⟧.writing };
-
-    ghost in_one_piece = { is_static ⟦<Members9<A, B, C, D, E, F, G, H, I> as SchemaWrite>⟧.writing.meta };
+    ghost writing = { windowed_write ⟦<Members9<A, B, C, D, E, F, G, H, I> as SchemaWrite>⟧.writing };
 
     fn type_meta() -> TypeMeta {
         joined_meta(
@@ -181,9 +169,7 @@ impl<
     }
 
     ghost write_laws = { write_laws_by (λ t. (t.0, (t.1, (t.2, (t.3, (t.4, (t.5, (t.6, (t.7, t.8)))))))))
-        (pair_write_laws A.write_laws (pair_write_laws B.write_laws (pair_write_laws C.write_laws (pair_write_laws
-        D.write_laws (pair_write_laws E.write_laws (pair_write_laws F.write_laws (pair_write_laws G.write_laws
-        (pair_write_laws H.write_laws I.write_laws)))))))) };
+        (windowed_write_laws ⟦<Members9<A, B, C, D, E, F, G, H, I> as SchemaWrite>⟧.write_laws) };
 }
 
 /// The size of 10 members, each seen by a schema of its own: that of a tuple of them.
@@ -211,9 +197,9 @@ pub fn size_of_members_10<
     j: &J::Src,
 ) -> WriteResult<usize>
     ensures ok { let tuple = ⟦<(A, B, C, D, E, F, G, H, I, J) as SchemaWrite>⟧ in IfOk result
-        (IsSized tuple.writing (tuple.seen (a.now, b.now, c.now, d.now, e.now, f.now, g.now, h.now, i.now, j.now))) }
+        (IsSized tuple.writing (tuple.model (a.now, b.now, c.now, d.now, e.now, f.now, g.now, h.now, i.now, j.now))) }
     ensures err { let tuple = ⟦<(A, B, C, D, E, F, G, H, I, J) as SchemaWrite>⟧ in IfErr result
-        (IsSizeRefused tuple.writing (tuple.seen (a.now, b.now, c.now, d.now, e.now, f.now, g.now, h.now, i.now, j.now))) }
+        (SizeRefused tuple.writing (tuple.model (a.now, b.now, c.now, d.now, e.now, f.now, g.now, h.now, i.now, j.now))) }
 {
     joined_size(
         A::size_of(a),
@@ -250,13 +236,8 @@ fn write_10<
         ),
     ),
 ) -> WriteResult<()>
-    ensures ok { let members = ⟦<Members10<A, B, C, D, E, F, G, H, I, J> as SchemaWrite>⟧ in OnOk result
-        (Wrote members.writing (W.state writer.old) (W.state writer.new) (members.seen src.now)) }
-    ensures value { OnOk result (⟦<Members10<A, B, C, D, E, F, G, H, I, J> as SchemaWrite>⟧.proper src.now) }
-    ensures err { let members = ⟦<Members10<A, B, C, D, E, F, G, H, I, J> as SchemaWrite>⟧ in IfErr result
-        (Unwritten members.writing (W.state writer.old) (W.state writer.new) (members.seen src.now)) }
-    ensures piece { let members = ⟦<Members10<A, B, C, D, E, F, G, H, I, J> as SchemaWrite>⟧ in IfErr result
-        (IsPieceRefused (is_static members.writing.meta) members.writing (W.state writer.old) (W.state writer.new) (members.seen src.now)) }
+    ensures { let members = ⟦<Members10<A, B, C, D, E, F, G, H, I, J> as SchemaWrite>⟧ in
+        WriteOutcome (windowed_write members.writing) (W.state writer.old) (W.state writer.new) (members.model src.now) (members.is_valid src.now) result }
 {
     write_in_window::<Members10<A, B, C, D, E, F, G, H, I, J>, W>(writer, src)
 }
@@ -287,13 +268,8 @@ pub fn write_members_10<
     i: &I::Src,
     j: &J::Src,
 ) -> WriteResult<()>
-    ensures ok { let tuple = ⟦<(A, B, C, D, E, F, G, H, I, J) as SchemaWrite>⟧ in OnOk result
-        (Wrote tuple.writing (W.state writer.old) (W.state writer.new) (tuple.seen (a.now, b.now, c.now, d.now, e.now, f.now, g.now, h.now, i.now, j.now))) }
-    ensures value { OnOk result (⟦<(A, B, C, D, E, F, G, H, I, J) as SchemaWrite>⟧.proper (a.now, b.now, c.now, d.now, e.now, f.now, g.now, h.now, i.now, j.now)) }
-    ensures err { let tuple = ⟦<(A, B, C, D, E, F, G, H, I, J) as SchemaWrite>⟧ in IfErr result
-        (Unwritten tuple.writing (W.state writer.old) (W.state writer.new) (tuple.seen (a.now, b.now, c.now, d.now, e.now, f.now, g.now, h.now, i.now, j.now))) }
-    ensures piece { let tuple = ⟦<(A, B, C, D, E, F, G, H, I, J) as SchemaWrite>⟧ in IfErr result
-        (IsPieceRefused tuple.in_one_piece tuple.writing (W.state writer.old) (W.state writer.new) (tuple.seen (a.now, b.now, c.now, d.now, e.now, f.now, g.now, h.now, i.now, j.now))) }
+    ensures { let tuple = ⟦<(A, B, C, D, E, F, G, H, I, J) as SchemaWrite>⟧ in
+        WriteOutcome tuple.writing (W.state writer.old) (W.state writer.new) (tuple.model (a.now, b.now, c.now, d.now, e.now, f.now, g.now, h.now, i.now, j.now)) (tuple.is_valid (a.now, b.now, c.now, d.now, e.now, f.now, g.now, h.now, i.now, j.now)) result }
 {
     write_10::<
         &Member<A>,
@@ -337,13 +313,11 @@ impl<
 
     ghost Value = { ⟦<Members10<A, B, C, D, E, F, G, H, I, J> as SchemaWrite>⟧.Value };
 
-    ghost seen = { λ t. ⟦<Members10<A, B, C, D, E, F, G, H, I, J> as SchemaWrite>⟧.seen (t.0, (t.1, (t.2, (t.3, (t.4, (t.5, (t.6, (t.7, (t.8, t.9))))))))) };
+    ghost model = { λ t. ⟦<Members10<A, B, C, D, E, F, G, H, I, J> as SchemaWrite>⟧.model (t.0, (t.1, (t.2, (t.3, (t.4, (t.5, (t.6, (t.7, (t.8, t.9))))))))) };
 
-    ghost proper = { λ t. ⟦<Members10<A, B, C, D, E, F, G, H, I, J> as SchemaWrite>⟧.proper (t.0, (t.1, (t.2, (t.3, (t.4, (t.5, (t.6, (t.7, (t.8, t.9))))))))) };
+    ghost is_valid = { λ t. ⟦<Members10<A, B, C, D, E, F, G, H, I, J> as SchemaWrite>⟧.is_valid (t.0, (t.1, (t.2, (t.3, (t.4, (t.5, (t.6, (t.7, (t.8, t.9))))))))) };
 
-    ghost writing = { ⟦<Members10<A, B, C, D, E, F, G, H, I, J> as SchemaWrite>⟧.writing };
-
-    ghost in_one_piece = { is_static ⟦<Members10<A, B, C, D, E, F, G, H, I, J> as SchemaWrite>⟧.writing.meta };
+    ghost writing = { windowed_write ⟦<Members10<A, B, C, D, E, F, G, H, I, J> as SchemaWrite>⟧.writing };
 
     fn type_meta() -> TypeMeta {
         joined_meta(
@@ -365,9 +339,7 @@ impl<
     }
 
     ghost write_laws = { write_laws_by (λ t. (t.0, (t.1, (t.2, (t.3, (t.4, (t.5, (t.6, (t.7, (t.8, t.9))))))))))
-        (pair_write_laws A.write_laws (pair_write_laws B.write_laws (pair_write_laws C.write_laws (pair_write_laws
-        D.write_laws (pair_write_laws E.write_laws (pair_write_laws F.write_laws (pair_write_laws G.write_laws
-        (pair_write_laws H.write_laws (pair_write_laws I.write_laws J.write_laws))))))))) };
+        (windowed_write_laws ⟦<Members10<A, B, C, D, E, F, G, H, I, J> as SchemaWrite>⟧.write_laws) };
 }
 
 /// The size of 11 members, each seen by a schema of its own: that of a tuple of them.
@@ -397,9 +369,9 @@ pub fn size_of_members_11<
     k: &K::Src,
 ) -> WriteResult<usize>
     ensures ok { let tuple = ⟦<(A, B, C, D, E, F, G, H, I, J, K) as SchemaWrite>⟧ in IfOk result
-        (IsSized tuple.writing (tuple.seen (a.now, b.now, c.now, d.now, e.now, f.now, g.now, h.now, i.now, j.now, k.now))) }
+        (IsSized tuple.writing (tuple.model (a.now, b.now, c.now, d.now, e.now, f.now, g.now, h.now, i.now, j.now, k.now))) }
     ensures err { let tuple = ⟦<(A, B, C, D, E, F, G, H, I, J, K) as SchemaWrite>⟧ in IfErr result
-        (IsSizeRefused tuple.writing (tuple.seen (a.now, b.now, c.now, d.now, e.now, f.now, g.now, h.now, i.now, j.now, k.now))) }
+        (SizeRefused tuple.writing (tuple.model (a.now, b.now, c.now, d.now, e.now, f.now, g.now, h.now, i.now, j.now, k.now))) }
 {
     joined_size(
         A::size_of(a),
@@ -440,13 +412,8 @@ fn write_11<
         ),
     ),
 ) -> WriteResult<()>
-    ensures ok { let members = ⟦<Members11<A, B, C, D, E, F, G, H, I, J, K> as SchemaWrite>⟧ in OnOk result
-        (Wrote members.writing (W.state writer.old) (W.state writer.new) (members.seen src.now)) }
-    ensures value { OnOk result (⟦<Members11<A, B, C, D, E, F, G, H, I, J, K> as SchemaWrite>⟧.proper src.now) }
-    ensures err { let members = ⟦<Members11<A, B, C, D, E, F, G, H, I, J, K> as SchemaWrite>⟧ in IfErr result
-        (Unwritten members.writing (W.state writer.old) (W.state writer.new) (members.seen src.now)) }
-    ensures piece { let members = ⟦<Members11<A, B, C, D, E, F, G, H, I, J, K> as SchemaWrite>⟧ in IfErr result
-        (IsPieceRefused (is_static members.writing.meta) members.writing (W.state writer.old) (W.state writer.new) (members.seen src.now)) }
+    ensures { let members = ⟦<Members11<A, B, C, D, E, F, G, H, I, J, K> as SchemaWrite>⟧ in
+        WriteOutcome (windowed_write members.writing) (W.state writer.old) (W.state writer.new) (members.model src.now) (members.is_valid src.now) result }
 {
     write_in_window::<Members11<A, B, C, D, E, F, G, H, I, J, K>, W>(writer, src)
 }
@@ -479,13 +446,8 @@ pub fn write_members_11<
     j: &J::Src,
     k: &K::Src,
 ) -> WriteResult<()>
-    ensures ok { let tuple = ⟦<(A, B, C, D, E, F, G, H, I, J, K) as SchemaWrite>⟧ in OnOk result
-        (Wrote tuple.writing (W.state writer.old) (W.state writer.new) (tuple.seen (a.now, b.now, c.now, d.now, e.now, f.now, g.now, h.now, i.now, j.now, k.now))) }
-    ensures value { OnOk result (⟦<(A, B, C, D, E, F, G, H, I, J, K) as SchemaWrite>⟧.proper (a.now, b.now, c.now, d.now, e.now, f.now, g.now, h.now, i.now, j.now, k.now)) }
-    ensures err { let tuple = ⟦<(A, B, C, D, E, F, G, H, I, J, K) as SchemaWrite>⟧ in IfErr result
-        (Unwritten tuple.writing (W.state writer.old) (W.state writer.new) (tuple.seen (a.now, b.now, c.now, d.now, e.now, f.now, g.now, h.now, i.now, j.now, k.now))) }
-    ensures piece { let tuple = ⟦<(A, B, C, D, E, F, G, H, I, J, K) as SchemaWrite>⟧ in IfErr result
-        (IsPieceRefused tuple.in_one_piece tuple.writing (W.state writer.old) (W.state writer.new) (tuple.seen (a.now, b.now, c.now, d.now, e.now, f.now, g.now, h.now, i.now, j.now, k.now))) }
+    ensures { let tuple = ⟦<(A, B, C, D, E, F, G, H, I, J, K) as SchemaWrite>⟧ in
+        WriteOutcome tuple.writing (W.state writer.old) (W.state writer.new) (tuple.model (a.now, b.now, c.now, d.now, e.now, f.now, g.now, h.now, i.now, j.now, k.now)) (tuple.is_valid (a.now, b.now, c.now, d.now, e.now, f.now, g.now, h.now, i.now, j.now, k.now)) result }
 {
     write_11::<
         &Member<A>,
@@ -532,13 +494,11 @@ impl<
 
     ghost Value = { ⟦<Members11<A, B, C, D, E, F, G, H, I, J, K> as SchemaWrite>⟧.Value };
 
-    ghost seen = { λ t. ⟦<Members11<A, B, C, D, E, F, G, H, I, J, K> as SchemaWrite>⟧.seen (t.0, (t.1, (t.2, (t.3, (t.4, (t.5, (t.6, (t.7, (t.8, (t.9, t.10)))))))))) };
+    ghost model = { λ t. ⟦<Members11<A, B, C, D, E, F, G, H, I, J, K> as SchemaWrite>⟧.model (t.0, (t.1, (t.2, (t.3, (t.4, (t.5, (t.6, (t.7, (t.8, (t.9, t.10)))))))))) };
 
-    ghost proper = { λ t. ⟦<Members11<A, B, C, D, E, F, G, H, I, J, K> as SchemaWrite>⟧.proper (t.0, (t.1, (t.2, (t.3, (t.4, (t.5, (t.6, (t.7, (t.8, (t.9, t.10)))))))))) };
+    ghost is_valid = { λ t. ⟦<Members11<A, B, C, D, E, F, G, H, I, J, K> as SchemaWrite>⟧.is_valid (t.0, (t.1, (t.2, (t.3, (t.4, (t.5, (t.6, (t.7, (t.8, (t.9, t.10)))))))))) };
 
-    ghost writing = { ⟦<Members11<A, B, C, D, E, F, G, H, I, J, K> as SchemaWrite>⟧.writing };
-
-    ghost in_one_piece = { is_static ⟦<Members11<A, B, C, D, E, F, G, H, I, J, K> as SchemaWrite>⟧.writing.meta };
+    ghost writing = { windowed_write ⟦<Members11<A, B, C, D, E, F, G, H, I, J, K> as SchemaWrite>⟧.writing };
 
     fn type_meta() -> TypeMeta {
         joined_meta(
@@ -560,40 +520,8 @@ impl<
         )
     }
 
-    ghost write_laws = { write_laws_by (λ t. (
-      t.0,
-      (
-        t.1,
-        (
-          t.2,
-          (
-            t.3,
-            (
-              t.4,
-              (
-                t.5,
-                (
-                  t.6,
-                  (
-                    t.7,
-                    (
-                      t.8,
-                      (
-                        t.9,
-                        t.10,
-                      ),
-                    ),
-                  ),
-                ),
-              ),
-            ),
-          ),
-        ),
-      ),
-    )) (pair_write_laws A.write_laws (pair_write_laws B.write_laws (pair_write_laws C.write_laws
-        (pair_write_laws D.write_laws (pair_write_laws E.write_laws (pair_write_laws F.write_laws (pair_write_laws
-        G.write_laws (pair_write_laws H.write_laws (pair_write_laws I.write_laws (pair_write_laws J.write_laws
-        K.write_laws)))))))))) };
+    ghost write_laws = { write_laws_by (λ t. (t.0, (t.1, (t.2, (t.3, (t.4, (t.5, (t.6, (t.7, (t.8, (t.9, t.10)))))))))))
+        (windowed_write_laws ⟦<Members11<A, B, C, D, E, F, G, H, I, J, K> as SchemaWrite>⟧.write_laws) };
 }
 
 /// The size of 12 members, each seen by a schema of its own: that of a tuple of them.
@@ -625,9 +553,9 @@ pub fn size_of_members_12<
     m: &M::Src,
 ) -> WriteResult<usize>
     ensures ok { let tuple = ⟦<(A, B, C, D, E, F, G, H, I, J, K, M) as SchemaWrite>⟧ in IfOk result
-        (IsSized tuple.writing (tuple.seen (a.now, b.now, c.now, d.now, e.now, f.now, g.now, h.now, i.now, j.now, k.now, m.now))) }
+        (IsSized tuple.writing (tuple.model (a.now, b.now, c.now, d.now, e.now, f.now, g.now, h.now, i.now, j.now, k.now, m.now))) }
     ensures err { let tuple = ⟦<(A, B, C, D, E, F, G, H, I, J, K, M) as SchemaWrite>⟧ in IfErr result
-        (IsSizeRefused tuple.writing (tuple.seen (a.now, b.now, c.now, d.now, e.now, f.now, g.now, h.now, i.now, j.now, k.now, m.now))) }
+        (SizeRefused tuple.writing (tuple.model (a.now, b.now, c.now, d.now, e.now, f.now, g.now, h.now, i.now, j.now, k.now, m.now))) }
 {
     joined_size(
         A::size_of(a),
@@ -672,13 +600,8 @@ fn write_12<
         ),
     ),
 ) -> WriteResult<()>
-    ensures ok { let members = ⟦<Members12<A, B, C, D, E, F, G, H, I, J, K, M> as SchemaWrite>⟧ in OnOk result
-        (Wrote members.writing (W.state writer.old) (W.state writer.new) (members.seen src.now)) }
-    ensures value { OnOk result (⟦<Members12<A, B, C, D, E, F, G, H, I, J, K, M> as SchemaWrite>⟧.proper src.now) }
-    ensures err { let members = ⟦<Members12<A, B, C, D, E, F, G, H, I, J, K, M> as SchemaWrite>⟧ in IfErr result
-        (Unwritten members.writing (W.state writer.old) (W.state writer.new) (members.seen src.now)) }
-    ensures piece { let members = ⟦<Members12<A, B, C, D, E, F, G, H, I, J, K, M> as SchemaWrite>⟧ in IfErr result
-        (IsPieceRefused (is_static members.writing.meta) members.writing (W.state writer.old) (W.state writer.new) (members.seen src.now)) }
+    ensures { let members = ⟦<Members12<A, B, C, D, E, F, G, H, I, J, K, M> as SchemaWrite>⟧ in
+        WriteOutcome (windowed_write members.writing) (W.state writer.old) (W.state writer.new) (members.model src.now) (members.is_valid src.now) result }
 {
     write_in_window::<Members12<A, B, C, D, E, F, G, H, I, J, K, M>, W>(writer, src)
 }
@@ -713,13 +636,8 @@ pub fn write_members_12<
     k: &K::Src,
     m: &M::Src,
 ) -> WriteResult<()>
-    ensures ok { let tuple = ⟦<(A, B, C, D, E, F, G, H, I, J, K, M) as SchemaWrite>⟧ in OnOk result
-        (Wrote tuple.writing (W.state writer.old) (W.state writer.new) (tuple.seen (a.now, b.now, c.now, d.now, e.now, f.now, g.now, h.now, i.now, j.now, k.now, m.now))) }
-    ensures value { OnOk result (⟦<(A, B, C, D, E, F, G, H, I, J, K, M) as SchemaWrite>⟧.proper (a.now, b.now, c.now, d.now, e.now, f.now, g.now, h.now, i.now, j.now, k.now, m.now)) }
-    ensures err { let tuple = ⟦<(A, B, C, D, E, F, G, H, I, J, K, M) as SchemaWrite>⟧ in IfErr result
-        (Unwritten tuple.writing (W.state writer.old) (W.state writer.new) (tuple.seen (a.now, b.now, c.now, d.now, e.now, f.now, g.now, h.now, i.now, j.now, k.now, m.now))) }
-    ensures piece { let tuple = ⟦<(A, B, C, D, E, F, G, H, I, J, K, M) as SchemaWrite>⟧ in IfErr result
-        (IsPieceRefused tuple.in_one_piece tuple.writing (W.state writer.old) (W.state writer.new) (tuple.seen (a.now, b.now, c.now, d.now, e.now, f.now, g.now, h.now, i.now, j.now, k.now, m.now))) }
+    ensures { let tuple = ⟦<(A, B, C, D, E, F, G, H, I, J, K, M) as SchemaWrite>⟧ in
+        WriteOutcome tuple.writing (W.state writer.old) (W.state writer.new) (tuple.model (a.now, b.now, c.now, d.now, e.now, f.now, g.now, h.now, i.now, j.now, k.now, m.now)) (tuple.is_valid (a.now, b.now, c.now, d.now, e.now, f.now, g.now, h.now, i.now, j.now, k.now, m.now)) result }
 {
     write_12::<
         &Member<A>,
@@ -772,13 +690,11 @@ impl<
 
     ghost Value = { ⟦<Members12<A, B, C, D, E, F, G, H, I, J, K, M> as SchemaWrite>⟧.Value };
 
-    ghost seen = { λ t. ⟦<Members12<A, B, C, D, E, F, G, H, I, J, K, M> as SchemaWrite>⟧.seen (t.0, (t.1, (t.2, (t.3, (t.4, (t.5, (t.6, (t.7, (t.8, (t.9, (t.10, t.11))))))))))) };
+    ghost model = { λ t. ⟦<Members12<A, B, C, D, E, F, G, H, I, J, K, M> as SchemaWrite>⟧.model (t.0, (t.1, (t.2, (t.3, (t.4, (t.5, (t.6, (t.7, (t.8, (t.9, (t.10, t.11))))))))))) };
 
-    ghost proper = { λ t. ⟦<Members12<A, B, C, D, E, F, G, H, I, J, K, M> as SchemaWrite>⟧.proper (t.0, (t.1, (t.2, (t.3, (t.4, (t.5, (t.6, (t.7, (t.8, (t.9, (t.10, t.11))))))))))) };
+    ghost is_valid = { λ t. ⟦<Members12<A, B, C, D, E, F, G, H, I, J, K, M> as SchemaWrite>⟧.is_valid (t.0, (t.1, (t.2, (t.3, (t.4, (t.5, (t.6, (t.7, (t.8, (t.9, (t.10, t.11))))))))))) };
 
-    ghost writing = { ⟦<Members12<A, B, C, D, E, F, G, H, I, J, K, M> as SchemaWrite>⟧.writing };
-
-    ghost in_one_piece = { is_static ⟦<Members12<A, B, C, D, E, F, G, H, I, J, K, M> as SchemaWrite>⟧.writing.meta };
+    ghost writing = { windowed_write ⟦<Members12<A, B, C, D, E, F, G, H, I, J, K, M> as SchemaWrite>⟧.writing };
 
     fn type_meta() -> TypeMeta {
         joined_meta(
@@ -801,41 +717,6 @@ impl<
         )
     }
 
-    ghost write_laws = { write_laws_by (λ t. (
-      t.0,
-      (
-        t.1,
-        (
-          t.2,
-          (
-            t.3,
-            (
-              t.4,
-              (
-                t.5,
-                (
-                  t.6,
-                  (
-                    t.7,
-                    (
-                      t.8,
-                      (
-                        t.9,
-                        (
-                          t.10,
-                          t.11,
-                        ),
-                      ),
-                    ),
-                  ),
-                ),
-              ),
-            ),
-          ),
-        ),
-      ),
-    )) (pair_write_laws A.write_laws (pair_write_laws B.write_laws (pair_write_laws C.write_laws
-        (pair_write_laws D.write_laws (pair_write_laws E.write_laws (pair_write_laws F.write_laws (pair_write_laws
-        G.write_laws (pair_write_laws H.write_laws (pair_write_laws I.write_laws (pair_write_laws J.write_laws
-        (pair_write_laws K.write_laws M.write_laws))))))))))) };
+    ghost write_laws = { write_laws_by (λ t. (t.0, (t.1, (t.2, (t.3, (t.4, (t.5, (t.6, (t.7, (t.8, (t.9, (t.10, t.11))))))))))))
+        (windowed_write_laws ⟦<Members12<A, B, C, D, E, F, G, H, I, J, K, M> as SchemaWrite>⟧.write_laws) };
 }

@@ -1,25 +1,34 @@
-use Rattle.std.proofs.Common.{rules, arith, ◌<◌, ◌≤◌, ◌*◌, ◌^◌}
+use Rattle.std.proofs.Common.{rules, arith, refl, min, ◌≡◌, ◌<◌, ◌≤◌, ◌*◌, ◌^◌}
+use Rattle.wincode_io.specs.Writers.{byte_limit}
 use Rattle.wincode_base.proofs.Lengths.{length_denied, length_given, length_not_accepted}
 use Rattle.wincode_base.proofs.len.BincodeLenSeqLen.read.Goals as goal
 
-pub returns-in_err-len-clause-err : goal.returns-in_err-len-clause-err
-returns-in_err-len-clause-err g c = let h = length_denied g.row.MAX_SIZE c.args.prealloc _ _ _ c.in_err-len.ensures.err in search (rules, h)
+pub returns-in_err-len : goal.returns-in_err-len
+returns-in_err-len g c =
+    let d = length_denied g.row.MAX_SIZE c.args.prealloc _ _ _ c.in_err-len.ensures.err in
+    let u = d.0 in
+    let p = d.1 in search (rules, u, p)
 
-pub returns-in-Some-clause-ok : goal.returns-in-Some-clause-ok
-returns-in-Some-clause-ok g c =
+pub returns-in-Some : goal.returns-in-Some
+returns-in-Some g c =
     let product = c.in-Some.ensures in
     let within : c.in_ok-len.len * c.args.prealloc ≤ g.row.MAX_SIZE = omega (arith, product.1) in
-    length_given g.row.MAX_SIZE c.args.prealloc _ _ _ c.in_ok-len.ensures.ok within
+    record { ok = length_given g.row.MAX_SIZE c.args.prealloc _ _ _ c.in_ok-len.ensures.ok within; refused = tt; place = tt }
 
-pub returns-in-Some-2-clause-err : goal.returns-in-Some-2-clause-err
-returns-in-Some-2-clause-err g c =
+pub returns-in-Some-2 : goal.returns-in-Some-2
+returns-in-Some-2 g c =
     let product = c.in-Some-2.ensures in
     let over : g.row.MAX_SIZE < c.in_ok-len.len * c.args.prealloc = omega (arith, product.1) in
-    rw c.preallocation_size_limit.ensures (length_not_accepted g.row.MAX_SIZE c.args.prealloc _ _ _ c.in_ok-len.ensures.ok over _ _)
+    let taken = c.in_ok-len.ensures.ok in
+    let first = c.in-Some.ensures in
+    let needed : c.in-Some.needed ≡ min (c.in_ok-len.len * c.args.prealloc) byte_limit = omega (arith, first.0, first.1) in
+    rw c.preallocation_size_limit.ensures (record { ok = tt; refused = length_not_accepted g.row.MAX_SIZE c.args.prealloc _ _ _ taken over _ _; place = (_, (taken, over, needed, refl)) })
 
-pub returns-in-None-clause-err : goal.returns-in-None-clause-err
-returns-in-None-clause-err g c =
+pub returns-in-None : goal.returns-in-None
+returns-in-None g c =
     let product : c.in_ok-len.len * c.args.prealloc < 2 ^ 64 → ⊥ = c.in-None.ensures in
     let fits : g.row.MAX_SIZE < 2 ^ 64 = omega (arith, g.MAX_SIZE.fits) in
     let over : g.row.MAX_SIZE < c.in_ok-len.len * c.args.prealloc = omega (arith, product) in
-    rw c.preallocation_size_limit-in-None.ensures (length_not_accepted g.row.MAX_SIZE c.args.prealloc _ _ _ c.in_ok-len.ensures.ok over _ _)
+    let taken = c.in_ok-len.ensures.ok in
+    let needed : byte_limit ≡ min (c.in_ok-len.len * c.args.prealloc) byte_limit = omega (arith, product) in
+    rw c.preallocation_size_limit-in-None.ensures (record { ok = tt; refused = length_not_accepted g.row.MAX_SIZE c.args.prealloc _ _ _ taken over _ _; place = (_, (taken, over, needed, refl)) })

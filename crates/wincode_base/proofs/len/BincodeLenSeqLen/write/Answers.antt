@@ -1,13 +1,16 @@
 use Rattle.std.proofs.Common.{rules, arith, ◌<◌, ◌^◌}
-use Rattle.wincode_base.proofs.Lengths.{length_wrote, length_unwritten}
+use Rattle.wincode_base.proofs.Lengths.{length_wrote, length_unwritten, length_halted}
 use Rattle.wincode_base.proofs.len.BincodeLenSeqLen.write.Goals as goal
 
-pub returns-in_err-write-clause-err : goal.returns-in_err-write-clause-err
-returns-in_err-write-clause-err g c =
+pub returns-in_err-write : goal.returns-in_err-write
+returns-in_err-write g c =
     let fits : c.args.len < 2 ^ 64 = omega (arith, c.ranges.len.fits) in
-    let h = length_unwritten g.row.MAX_SIZE c.args.len fits c.to_le_bytes.ensures g.met.W.Writer.writer_laws _ c.in_err-write.ensures.err in search (rules, h)
+    let laws = g.met.W.Writer.writer_laws in
+    let d = c.in_err-write.ensures.err in
+    let u = length_unwritten g.row.MAX_SIZE c.args.len fits c.to_le_bytes.ensures laws _ d in
+    let p = length_halted g.row.MAX_SIZE c.args.len fits c.to_le_bytes.ensures laws _ d in search (rules, u, p)
 
-pub returns-clause-ok : goal.returns-clause-ok
-returns-clause-ok g c =
+pub returns : goal.returns
+returns g c =
     let fits : c.args.len < 2 ^ 64 = omega (arith, c.ranges.len.fits) in
-    length_wrote g.row.MAX_SIZE c.args.len fits c.to_le_bytes.ensures c.in_ok-write.ensures.ok
+    record { ok = length_wrote g.row.MAX_SIZE c.args.len fits c.to_le_bytes.ensures c.in_ok-write.ensures.ok; value = tt; refused = tt; place = tt }

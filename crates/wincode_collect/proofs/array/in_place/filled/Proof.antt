@@ -51,7 +51,7 @@ use denote.Triple.Statement.{Contract, Triple}
 use denote.Triple.Table.{entered}
 use denote.Triple.Walked.{says, Stays, walk_of, ends_at, walked, walk_Meets}
 use borrow.Table.OneValue.{part_out}
-use Rattle.wincode_collect.specs.Runs.{Runs, Stops}
+use Rattle.wincode_collect.specs.Calls.{GaveEach, Stops}
 use Rattle.core.specs.Bool.{MatchBool}
 use Rattle.core.specs.Result.{MatchResult}
 use Rattle.core.specs.Mem.Slots.{SamePlaces, IsFull}
@@ -204,7 +204,7 @@ module _ (A : Elem) (X : RattleType) (n : ℕ) (g : Ghosts X.Denot A.row.Denot) 
       Gone z w = fsep (fres z.0.3.0.ghost_name (Sx.coded.code w)) (fbor z.0.0.0 (Borrowed (mem Sx) z.0.3.0.ref_ptr.0 z.0.3.0.ref_ptr.1 z.0.3.0.ghost_name))
 
       abbrev Said : X.Denot → Out.Denot → X.Denot → Type 0
-      Said s r w = MatchResult r (λ ys. (length ys ≡ n) × Runs g.gives s ys w) (λ _. Stops g.gives s n w)
+      Said s r w = MatchResult r (λ ys. (length ys ≡ n) × GaveEach g.gives s ys w) (λ _. Stops g.gives s n w)
 
       exits : (z : Bound) (r : Out.Denot) (v : Val) (w : X.Denot) → Said z.0.3.0.now r w
           → ent 𝓤 (sep 𝓤 (sem 𝓛 (Out.own_val r (v ∷ []))) (sep 𝓤 (sem 𝓛 (Gone z w)) (alive 𝓛 ended.signature z.0.0 z.0.1))) ((walk_of 𝓛 ended stayed held).post (spelled z) v)
@@ -254,7 +254,7 @@ module _ (A : Elem) (X : RattleType) (n : ℕ) (g : Ghosts X.Denot A.row.Denot) 
           nothing ! $ use0 𝓛 (raw (fact 𝓤 (κX ⊑ X.lives))) (fact_i 𝓤 (κX ⊑ X.lives) (emp 𝓤) inX) $ join ! $ use0 𝓛 (raw (fact 𝓤 (κT ⊑ E.row.lives))) (fact_i 𝓤 (κT ⊑ E.row.lives) (emp 𝓤) inT) $ join ! $
           move ! (1 ∷ 0 ∷ []) $ join ! $ use1 𝓛 (raw (Puts.pre y')) (id⊢ 𝓤 (Puts.pre y')) $
           calls_at ! (fm_of 𝓤 H 𝓛.laws 𝓣) Puts met y' (and_then ! (get ! refl) (and_then ! (get ! refl) (no_more !))) (λ got.
-          let Told : Two.Denot → X.Denot → Type 0 = λ r w. MatchBool r.1 (IsFull r.0 × Runs g.gives s r.0.items w) (Stops g.gives s new.len w) in
+          let Told : Two.Denot → X.Denot → Type 0 = λ r w. MatchBool r.1 (IsFull r.0 × GaveEach g.gives s r.0.items w) (Stops g.gives s new.len w) in
           use1 𝓛 (later (some (λ (r : Two.Denot). ((‵ (flft κ q) ⊛ ‵ (flft κT qT) ⊛ ‵ (flft κX qX) ⊛ ‵ ftrue) ⊛ ‵ (Two.own_val r (got ∷ [])))
           ⊛ some (λ (ws : Lasts inner κs (new, (f, tt))). ‵ (lasts inner κs (new, (f, tt)) ws) ⊛ raw (fact 𝓤 (SamePlaces new r.0)) ⊛ raw (fact 𝓤 (Told r ws.1.0)))))) (id⊢ 𝓤 (Puts.post y' got)) $
           await ! tt $ pick ! (λ r. split ! $ move ! (1 ∷ []) $ pick ! (λ ws. split3 ! $ fsplit ! $ drop ! $ fsplit ! $ move ! (1 ∷ []) $ drop ! $

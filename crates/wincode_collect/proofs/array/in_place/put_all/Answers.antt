@@ -5,7 +5,7 @@ use native.Mathlib.Omega.{arith}
 use lib.ListN.{take}
 use lib.Seq.{take_all, length-take-le}
 use Rattle.core.proofs.slots.Fills.{Filled-put, Filled-none, Filled-within}
-use Rattle.wincode_collect.specs.Runs.{Runs}
+use Rattle.wincode_collect.specs.Calls.{GaveEach}
 use Rattle.wincode_collect.proofs.Runs.{runs_more, placed}
 use Rattle.wincode_collect.proofs.array.in_place.put_all.Goals as goal
 
@@ -20,7 +20,7 @@ loop-i-preserved g c =
       l.invariant.1 ∙ sym told.places.count,
       omega (arith, c.loop-i-test.true),
       Filled-put l.row.filled _ l.i 0 (l.i + 1) told.filled (omega (arith, l.row.ok.1, l.invariant.1, c.loop-i-test.true)) l.invariant.3 (Filled-none _ _ _ (omega arith)),
-      subst (λ xs. Runs g.F.Fill.gives c.args.f.now xs c.next.new.self) (sym written)
+      subst (λ xs. GaveEach g.F.Fill.gives c.args.f.now xs c.next.new.self) (sym written)
           (runs_more g.F.Fill.gives _ (take l.i l.row.items) l.f c.next.new.self x l.invariant.4 (subst (λ r. g.F.Fill.gives l.f r c.next.new.self) c.in-Some.is c.next.ensures)),
     )
 
@@ -28,7 +28,7 @@ pub returns-clause-items : goal.returns-clause-items
 returns-clause-items g c =
     let l = c.loop-i in (
       Filled-within _ 0 l.i 0 l.row.len (omega arith) (omega (arith, l.invariant.1, c.loop-i-test.false)) l.invariant.3,
-      subst (λ xs. Runs g.F.Fill.gives c.args.f.now xs l.f) (take_all l.i l.row.items (omega (arith, l.row.ok.0, l.invariant.1, c.loop-i-test.false))) l.invariant.4,
+      subst (λ xs. GaveEach g.F.Fill.gives c.args.f.now xs l.f) (take_all l.i l.row.items (omega (arith, l.row.ok.0, l.invariant.1, c.loop-i-test.false))) l.invariant.4,
     )
 
 pub returns-in-None-clause-items : goal.returns-in-None-clause-items

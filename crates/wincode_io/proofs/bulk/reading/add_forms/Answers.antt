@@ -4,6 +4,7 @@ use Rattle.std.proofs.lemmas.Iterator.Adapters.{items_from_extend}
 use Rattle.wincode_io.proofs.Chunks.{chunks_yield, chunk_values, same_values, no_values, went, appended}
 use Rattle.wincode_io.proofs.bulk.reading.add_forms.Goals as goal
 use Rattle.wincode_io.proofs.bulk.reading.add_forms.Goals.{in-Some, in-Some-2, in-None}
+use Rattle.wincode_io.specs.Writers.{byte_limit}
 
 pub returns-clause-ok : goal.returns-clause-ok
 returns-clause-ok g c =
@@ -20,5 +21,5 @@ returns-clause-ok g c =
           let h = items_from_extend w.extend-added-in-Some-2.result w.extend-added-in-Some-2.ensures.ran all in
           appended (ap (λ v. v.items) w.into-is ∙ (went w.extend-added-in-Some-2.result (search rules) h).0) c.reserve.ensures.items (same_values T.value T.size n b (search (arith, rules)))
       | in-None w ↦
-          appended (ap (λ v. v.items) w.into-is ∙ sym (append-nil c.reserve.new.self.items)) c.reserve.ensures.items (sym (no_values T.value T.size 18446744073709551615 n b (search rules) c.requires (search (arith, rules))))
+          appended (ap (λ v. v.items) w.into-is ∙ sym (append-nil c.reserve.new.self.items)) c.reserve.ensures.items (sym (no_values T.value T.size byte_limit n b (search rules) c.requires (search (arith, rules))))
     ]

@@ -20,13 +20,13 @@ loop-rest-preserved g c =
     let wrote = c.write_ready.ensures in
     let counts : length rest ≡ length block + length more = ap length cut ∙ length-append block more in
     let sizes : length rest * T.size ≡ (length block + length more) * T.size = ap (λ n. n * T.size) counts in
-    let long = length-joined T.form T.size block (λ k d h. g.met.T.ZeroCopy.byte_form.long _ (put.proper k d h)) in
+    let long = length-joined T.form T.size block (λ k d h. g.T.ZeroCopy.byte_form.long _ (put.is_valid k d h)) in
     let ready = rw put.forms at wrote.ready in
     record {
-      took = took_more xs block more done left g.met.W.Writer.writer_laws T.form T.size (W.state c.args.writer.now) (W.state c.loop-rest.writer) _ (λ k d h. g.met.T.ZeroCopy.byte_form.long _ (so_far.proper k d h)) (λ k d h. g.met.T.ZeroCopy.byte_form.long _ (put.proper k d h))
+      took = took_more xs block more done left g.met.W.Writer.writer_laws T.form T.size (W.state c.args.writer.now) (W.state c.loop-rest.writer) _ (λ k d h. g.T.ZeroCopy.byte_form.long _ (so_far.is_valid k d h)) (λ k d h. g.T.ZeroCopy.byte_form.long _ (put.is_valid k d h))
           (omega (arith, c.requires.room, g.met.W.Writer.ready_room c.args.writer.now)) so_far.took (rw put.forms at wrote.took);
       rest = left_more xs block more done left;
       within = omega (arith, so_far.within, counts);
       ready = omega (arith, so_far.ready, ready, long, sizes);
-      proper = rw (done_more xs block more done left) (All-append T.proper (take done xs) block so_far.proper put.proper);
+      is_valid = rw (done_more xs block more done left) (All-append T.is_valid (take done xs) block so_far.is_valid put.is_valid);
     }

@@ -12,5 +12,5 @@ invariant-loop-rest g l = let W = g.W.Writer in let T = g.T.ZeroCopy in let done
   rest : l.rest ≡ drop done l.values;
   within : length l.rest ≤ length l.values;
   ready : length l.rest * T.size ≤ (W.state l.writer).ready;
-  proper : All T.proper (take done l.values);
+  is_valid : All T.is_valid (take done l.values);
 }

@@ -8,5 +8,5 @@ invariant-loop-value g l = let W = g.W.Writer in let T = g.T.ZeroCopy in record 
   took : Took (flat_map T.form (take l.value-index l.values)) (W.state l.fn.writer) (W.state l.writer);
   long : length (flat_map T.form (take l.value-index l.values)) ≡ l.value-index * T.size;
   ready : length l.values * T.size ≤ (W.state l.writer).ready + l.value-index * T.size;
-  proper : All T.proper (take l.value-index l.values);
+  is_valid : All T.is_valid (take l.value-index l.values);
 }

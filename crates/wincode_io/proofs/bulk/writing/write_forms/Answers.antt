@@ -8,12 +8,12 @@ returns-clause-ok g c =
     let T = g.T.ZeroCopy in
     let made = c.in_ok-make_room.ensures.ok in
     let vs = c.args.values.now in
-    let long = length-joined T.form T.size vs (λ k d h. g.met.T.ZeroCopy.byte_form.long _ (c.write_ready_forms.ensures.proper k d h)) in
+    let long = length-joined T.form T.size vs (λ k d h. g.T.ZeroCopy.byte_form.long _ (c.write_ready_forms.ensures.is_valid k d h)) in
     let took = c.write_ready_forms.ensures.took in
     record {
       fits = omega (arith, long, made.fits, c.in-Some.ensures);
       took = record {
-        same = record { kept = took.same.kept ∙ made.unmoved.same.kept; steady = took.same.steady ∙ made.unmoved.same.steady };
+        same = record { kept = took.same.kept ∙ made.unmoved.same.kept; never_fails = took.same.never_fails ∙ made.unmoved.same.never_fails };
         content = took.content ∙ ap (λ c. g.W.Writer.put c (flat_map T.form vs)) made.unmoved.content;
       };
     }

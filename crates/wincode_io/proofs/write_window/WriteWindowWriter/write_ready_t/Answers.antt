@@ -3,5 +3,5 @@ use Rattle.wincode_io.proofs.write_window.WriteWindowWriter.write_ready_t.Goals 
 
 pub returns-clause-took : goal.returns-clause-took
 returns-clause-took g c =
-    let size : length (g.T.ZeroCopy.form c.args.src.now) ≡ g.T.ZeroCopy.size = g.met.T.ZeroCopy.byte_form.long c.args.src.now c.write_ready_t.ensures.proper in
+    let size : length (g.T.ZeroCopy.form c.args.src.now) ≡ g.T.ZeroCopy.size = g.T.ZeroCopy.byte_form.long c.args.src.now c.write_ready_t.ensures.is_valid in
     search (rules, size)

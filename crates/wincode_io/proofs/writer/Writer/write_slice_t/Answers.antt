@@ -17,7 +17,7 @@ loop-value-init g c =
       long = omega arith;
       room = rw (← c.in-Some.ensures) made.fits;
       ready = let r = rw c.in-Some.ensures at made.ready in omega (arith, r);
-      proper = λ k d l. absurd (omega (arith, l));
+      is_valid = λ k d l. absurd (omega (arith, l));
     }
 
 pub write_ready_t-requires : goal.write_ready_t-requires
@@ -39,13 +39,13 @@ loop-value-preserved g c =
     let old = (W.state c.args.self.now).content in
     let front = flat_map form (take i vs) in
     let fits = place_fits i (length vs) s c.loop-value-test.true in
-    let size : length (form v) ≡ s = g.met.T.ZeroCopy.byte_form.long v wrote.proper in
-    let P : g.row.T.Denot → Type 0 = g.T.ZeroCopy.proper in
+    let size : length (form v) ≡ s = g.T.ZeroCopy.byte_form.long v wrote.is_valid in
+    let P : g.row.T.Denot → Type 0 = g.T.ZeroCopy.is_valid in
     record {
       took = record {
         same = record {
           kept = wrote.took.same.kept ∙ so_far.took.same.kept;
-          steady = wrote.took.same.steady ∙ so_far.took.same.steady;
+          never_fails = wrote.took.same.never_fails ∙ so_far.took.same.never_fails;
         };
         content = wrote.took.content ∙ ap (λ t. W.put t (form v)) so_far.took.content
             ∙ g.met.Self.Writer.writer_laws.join old front (form v) (omega (arith, size, so_far.long, so_far.room, fits))
@@ -55,7 +55,7 @@ loop-value-preserved g c =
       long = joined_more form s vs i v c.loop-value-test.true so_far.long (rw (← at) size);
       room = so_far.room;
       ready = omega (arith, so_far.ready, wrote.ready);
-      proper = All-more P vs i v c.loop-value-test.true so_far.proper (rw (← at) wrote.proper);
+      is_valid = All-more P vs i v c.loop-value-test.true so_far.is_valid (rw (← at) wrote.is_valid);
     }
 
 pub returns-clause-ok : goal.returns-clause-ok
@@ -68,5 +68,5 @@ returns-clause-ok g c =
     let e : c.loop-value.value-index ≡ length c.args.src.now = omega (arith, c.loop-value-test.false, c.loop-value.auto.value-index-end) in
     record { fits = rw (long, e) so_far.room; took = took }
 
-pub returns-clause-proper : goal.returns-clause-proper
-returns-clause-proper g c = rw (take_all c.loop-value.value-index c.args.src.now c.loop-value-test.false) at c.loop-value.invariant.proper
+pub returns-clause-is_valid : goal.returns-clause-is_valid
+returns-clause-is_valid g c = rw (take_all c.loop-value.value-index c.args.src.now c.loop-value-test.false) at c.loop-value.invariant.is_valid

@@ -9,5 +9,5 @@ invariant-loop-value g l = let W = g.Self.Writer in let T = g.T.ZeroCopy in reco
   long : length (flat_map T.form (take l.value-index l.src)) ≡ l.value-index * T.size;
   room : length l.src * T.size ≤ W.room (W.state l.fn.self).content;
   ready : length l.src * T.size ≤ (W.state l.self).ready + l.value-index * T.size;
-  proper : All T.proper (take l.value-index l.src);
+  is_valid : All T.is_valid (take l.value-index l.src);
 }

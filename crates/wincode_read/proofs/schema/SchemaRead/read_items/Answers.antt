@@ -1,35 +1,46 @@
-use Rattle.std.proofs.Common.{◌≡◌, ◌+◌, ◌≤◌, [], ◌∷◌, ◌++◌, arith}
+use Rattle.std.proofs.Common.{rules, length, ◌∙◌, ◌≡◌, ◌+◌, ◌≤◌, [], ◌∷◌, ◌++◌, arith}
 use Rattle.wincode_base.specs.ListLaws.{items_none, items_refused, items_more, no_memory}
-use Rattle.wincode_base.proofs.Items.{adds_none, adds_more, put_gives, item_stopped, item_wanted}
+use Rattle.wincode_base.proofs.Items.{cut_back, adds_none, adds_more, put_gives, item_stopped, item_wanted}
 use Rattle.wincode_read.proofs.schema.SchemaRead.read_items.Goals as goal
 
 pub loop-i-init : goal.loop-i-init
-loop-i-init g c = let T = g.Self.SchemaRead in adds_none T.reading.reads T.seen _ _ _ c.reserve.ensures.items
-
-pub returns-in-Err-clause-err : goal.returns-in-Err-clause-err
-returns-in-Err-clause-err g c =
-    let T = g.Self.SchemaRead.reading in
-    items_refused T.reads g.met.Self.SchemaRead.read_laws.one_front c.loop-i._i c.args.n T.asks T.sparing c.loop-i-test.true _ _ _ _ _ c.loop-i.invariant.gives c.in-Err.ensures.err
-
-pub returns-then-is_err-2-clause-err : goal.returns-then-is_err-2-clause-err
-returns-then-is_err-2-clause-err g c =
-    let T = g.Self.SchemaRead in
-    no_memory _ _ _ _ _ _ (items_more T.reading.reads _ _ _ _ _ _ c.loop-i.invariant.gives (put_gives T.reading.reads T.seen _ _ _ _ c.in_default.ensures.ok c.in-Some.is))
+loop-i-init g c = let T = g.Self.SchemaRead in adds_none T.reading.reads T.model _ _ _ c.reserve.ensures.items
 
 pub loop-i-preserved : goal.loop-i-preserved
 loop-i-preserved g c =
     let T = g.Self.SchemaRead in
     let pushed : c.push.new.self.items ≡ c.loop-i.into.items ++ (c.in-Some.value ∷ []) = rw c.if-is_err-2.ensures.negation at c.push.ensures.items in
-    adds_more T.reading.reads T.seen _ _ _ _ _ _ _ _ c.loop-i.invariant (put_gives T.reading.reads T.seen _ _ _ _ c.in_default.ensures.ok c.in-Some.is) pushed
+    adds_more T.reading.reads T.model _ _ _ _ _ _ _ _ c.loop-i.invariant (put_gives T.reading.reads T.model _ _ _ _ c.in_default.ensures.ok c.in-Some.is) pushed
 
-pub returns-then-is_err-clause-refused : goal.returns-then-is_err-clause-refused
-returns-then-is_err-clause-refused g c = λ dynamic. item_wanted c.args.n g.Self.SchemaRead.reading g.Self.SchemaRead.refusal 0 _ _ [] (omega arith) (items_none g.Self.SchemaRead.reading.reads _)
+pub returns-then-is_err : goal.returns-then-is_err
+returns-then-is_err g c = let T = g.Self.SchemaRead in record {
+  ok = tt;
+  refused = no_memory _ _ _ _ _ _ (items_none T.reading.reads _);
+  place = λ dynamic. item_wanted c.args.n T.reading 0 _ _ [] (omega arith) (items_none T.reading.reads _);
+  same = c.reserve.ensures.items;
+}
 
-pub returns-in-Err-clause-refused : goal.returns-in-Err-clause-refused
-returns-in-Err-clause-refused g c = λ dynamic. item_stopped c.args.n g.Self.SchemaRead.reading g.Self.SchemaRead.refusal c.loop-i._i _ _ _ _ _ c.loop-i-test.true c.loop-i.invariant.gives c.in-Err.ensures.err c.in-Err.ensures.refused
-
-pub returns-then-is_err-2-clause-refused : goal.returns-then-is_err-2-clause-refused
-returns-then-is_err-2-clause-refused g c = λ dynamic.
+pub returns-in-Err : goal.returns-in-Err
+returns-in-Err g c =
     let T = g.Self.SchemaRead in
+    let o = c.in-Err.ensures in
+    let size : c.len-before.result ≡ length c.args.into.now.items = search rules in
+    record {
+      ok = tt;
+      refused = items_refused T.reading.reads g.met.Self.SchemaRead.read_laws.one_front c.loop-i._i c.args.n T.reading.borrow T.reading.takes_no_memory c.loop-i-test.true _ _ _ _ _ c.loop-i.invariant.gives o.refused;
+      place = λ dynamic. item_stopped c.args.n T.reading c.loop-i._i _ _ _ _ _ c.loop-i-test.true c.loop-i.invariant.gives (o.refused, o.place);
+      same = cut_back _ _ _ _ _ size c.loop-i.invariant.is c.truncate.ensures.items;
+    }
+
+pub returns-then-is_err-2 : goal.returns-then-is_err-2
+returns-then-is_err-2 g c = let T = g.Self.SchemaRead in
+    let all = items_more T.reading.reads _ _ _ _ _ _ c.loop-i.invariant.gives (put_gives T.reading.reads T.model _ _ _ _ c.in_default.ensures.ok c.in-Some.is) in
     let l : c.loop-i._i + 1 ≤ c.args.n = omega (arith, c.loop-i-test.true) in
-    item_wanted c.args.n T.reading T.refusal (c.loop-i._i + 1) _ _ _ l (items_more T.reading.reads _ _ _ _ _ _ c.loop-i.invariant.gives (put_gives T.reading.reads T.seen _ _ _ _ c.in_default.ensures.ok c.in-Some.is))
+    let size : c.len-before.result ≡ length c.args.into.now.items = search rules in
+    let kept : c.push.new.self.items ≡ c.loop-i.into.items = rw c.if-is_err-2.ensures.negation at c.push.ensures.items in
+    record {
+      ok = tt;
+      refused = no_memory _ _ _ _ _ _ all;
+      place = λ dynamic. item_wanted c.args.n T.reading (c.loop-i._i + 1) _ _ _ l all;
+      same = cut_back _ _ _ _ _ size (kept ∙ c.loop-i.invariant.is) c.truncate-then-is_err-2.ensures.items;
+    }

@@ -5,17 +5,17 @@ use Rattle.wincode_base.proofs.FormRuns.{forms_added, forms_refused, forms_vast}
 use Rattle.wincode_read.proofs.schema.as_forms.read_all.Goals as goal
 
 pub returns-in_default-clause-err : goal.returns-in_default-clause-err
-returns-in_default-clause-err g c = rw c.read_length_encoding_overflow.ensures (forms_vast g.met.T.ZeroCopy.byte_form c.args.n _ _ (search rules))
+returns-in_default-clause-err g c = rw c.read_length_encoding_overflow.ensures (forms_vast g.T.ZeroCopy.byte_form c.args.n _ _ (search rules))
 
 pub returns-in_err-bytes-clause-err : goal.returns-in_err-bytes-clause-err
 returns-in_err-bytes-clause-err g c =
     let follows = rw c.in_err-bytes.was at c.fill_exact.follows.holds-at-none in
     let size = c.in-Some.ensures in
-    let h = forms_refused g.met.T.ZeroCopy.byte_form c.args.n _ _ _ follows.0 (rw size at follows.2) in search (rules, h)
+    let h = forms_refused g.T.ZeroCopy.byte_form c.args.n _ _ _ follows.0 (rw size at follows.2) in search (rules, h)
 
 pub returns-clause-ok : goal.returns-clause-ok
 returns-clause-ok g c =
     let follows = rw c.in_ok-bytes.was at c.fill_exact.follows.holds-at-none in
     let shown = c.in_ok-bytes.ensures.shown in
     let size = c.in-Some.ensures in
-    forms_added g.met.T.ZeroCopy.byte_form c.args.n _ _ _ c.in_ok-bytes.bytes.now _ _ (are_bytes c.in_ok-bytes.bytes.now c.add_forms.ensures.small) (rw size at shown.0) (rw size at shown.1) follows.0 (rw size at c.consume_unchecked.ensures) (went_well c.add_forms.result c.if-is_err.ensures.negation c.add_forms.ensures.ok)
+    forms_added g.T.ZeroCopy.byte_form c.args.n _ _ _ c.in_ok-bytes.bytes.now _ _ (are_bytes c.in_ok-bytes.bytes.now c.add_forms.ensures.small) (rw size at shown.0) (rw size at shown.1) follows.0 (rw size at c.consume_unchecked.ensures) (went_well c.add_forms.result c.if-is_err.ensures.negation c.add_forms.ensures.ok)

@@ -1,22 +1,16 @@
-use Rattle.std.proofs.Common.{rules, inr}
-use Rattle.std.proofs.lemmas.Result.{IfOk-weaker, IfErr-weaker}
+use Rattle.std.proofs.Common.{inl, inr}
 use Rattle.wincode_base.specs.ListLaws.{list_gives, list_first, list_second}
+use Rattle.wincode_base.specs.Lists.{run_read, list_read_of}
+use Rattle.wincode_base.proofs.ReadAnswers.{make_refused, make_map}
 use Rattle.wincode_read.proofs.schema.from_items.get_list_of.Goals as goal
 
-pub returns-in_err-n-clause-err : goal.returns-in_err-n-clause-err
-returns-in_err-n-clause-err g c =
-    let h = list_first g.Len.SeqLen.scheme g.T.SchemaRead.reading _ _ _ (rw c.prealloc_size.ensures at c.in_err-n.ensures.err) in search (rules, h)
+pub returns-in_err-n : goal.returns-in_err-n
+returns-in_err-n g c = let T = g.T.SchemaRead.reading in let S = g.T.SchemaRead.model in
+    let o = rw c.prealloc_size.ensures at c.in_err-n.ensures in
+    make_refused (list_read_of g.Len.SeqLen.scheme 1 c.args.size T) S _ _ _ c.from_residual.ensures (list_first g.Len.SeqLen.scheme T _ _ _ o.refused, inl (o.refused, o.place))
 
-pub returns-in_err-n-clause-refused : goal.returns-in_err-n-clause-refused
-returns-in_err-n-clause-refused g c =
-    let e = rw c.prealloc_size.ensures at c.in_err-n.ensures.err in
-    let r = rw c.prealloc_size.ensures at c.in_err-n.ensures.refused in search (rules, e, r)
-
-pub returns-clause-ok : goal.returns-clause-ok
-returns-clause-ok g c = IfOk-weaker c.get_run.result _ _ (λ v p. (p.0, list_gives g.Len.SeqLen.scheme g.T.SchemaRead.reading _ _ _ _ _ (rw c.prealloc_size.ensures at c.in_ok-n.ensures.ok) p.1, p.2)) c.get_run.ensures.ok
-
-pub returns-clause-err : goal.returns-clause-err
-returns-clause-err g c = IfErr-weaker c.get_run.result _ _ (λ e p. list_second g.Len.SeqLen.scheme g.T.SchemaRead.reading g.met.Len.SeqLen.scheme_laws _ _ _ _ _ (rw c.prealloc_size.ensures at c.in_ok-n.ensures.ok) p) c.get_run.ensures.err
-
-pub returns-clause-refused : goal.returns-clause-refused
-returns-clause-refused g c = IfErr-weaker c.get_run.result _ _ (λ e p. inr (_, _, rw c.prealloc_size.ensures at c.in_ok-n.ensures.ok, p)) c.get_run.ensures.refused
+pub returns : goal.returns
+returns g c = let T = g.T.SchemaRead.reading in let S = g.T.SchemaRead.model in
+    let s = g.Len.SeqLen.scheme in
+    let o = rw c.prealloc_size.ensures at c.in_ok-n.ensures in
+    make_map (run_read _ c.args.size T) S _ (list_read_of s 1 c.args.size T) c.get_run.result (λ vs x. list_gives s T _ _ _ _ vs o.ok x) (λ e p. (list_second s T g.Len.SeqLen.scheme_laws _ _ _ _ e o.ok p.0, inr (_, _, o.ok, p.1))) c.get_run.ensures

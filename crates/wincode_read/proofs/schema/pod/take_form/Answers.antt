@@ -1,24 +1,22 @@
-use Rattle.std.proofs.Common.{rules, ◌≤◌, true}
+use Rattle.std.proofs.Common.{rules, ◌≤◌}
 use Rattle.wincode_io.specs.Writers.{byte_limit}
-use Rattle.wincode_base.specs.Views.{form_prealloc}
 use Rattle.wincode_base.specs.declared.error.ReadError.TheVariants as reading
 use Rattle.wincode_base.proofs.Bulk.{shown_takes}
 use Rattle.wincode_base.proofs.Views.{form_gives, form_refuses, fill_denied}
 use Rattle.wincode_read.proofs.schema.pod.take_form.Goals as goal
 
-pub returns-in_err-bytes-clause-err : goal.returns-in_err-bytes-clause-err
-returns-in_err-bytes-clause-err g c =
+pub returns-in_err-bytes : goal.returns-in_err-bytes
+returns-in_err-bytes g c =
     let s = g.T.ZeroCopy.size in
     let fills = rw c.in-Some.ensures at (rw c.in_err-bytes.was at c.fill_exact.follows.holds-at-none) in
     let within : s ≤ byte_limit = search rules in
     let denied = fill_denied s _ _ c.in_err-bytes.field-0.0 within fills.0 fills.2 in
-    let h = form_refuses g.met.T.ZeroCopy.byte_form true (form_prealloc s) 0 _ _ (reading.Io c.in_err-bytes.field-0.0) denied in search (rules, h)
+    let h = form_refuses g.T.ZeroCopy.byte_form 0 _ _ (reading.Io c.in_err-bytes.field-0.0) denied in search (rules, h, denied)
 
-pub returns-clause-ok : goal.returns-clause-ok
-returns-clause-ok g c =
-    let s = g.T.ZeroCopy.size in
+pub returns : goal.returns
+returns g c =
     let fills = rw c.in_ok-bytes.was at c.fill_exact.follows.holds-at-none in
     let shown = c.in_ok-bytes.ensures.shown in
     let taken = shown_takes c.in-Some.size _ _ _ c.in_ok-bytes.bytes.now shown.0 shown.1 fills.0 c.consume_unchecked.ensures in
     let takes = rw c.in-Some.ensures at taken in
-    rw c.of_form-value.ensures (form_gives g.met.T.ZeroCopy.byte_form true (form_prealloc s) 0 _ _ _ takes c.see_bytes.ensures)
+    record { ok = rw c.of_form-value.ensures (form_gives g.T.ZeroCopy.byte_form _ _ _ takes c.see_bytes.ensures); refused = tt; place = tt }

@@ -4,14 +4,14 @@ use Rattle.wincode_base.specs.declared.error.ReadError.TheVariants as reading
 use Rattle.wincode_base.proofs.Views.{run_gives, run_refuses}
 use Rattle.wincode_read.proofs.schema.views.lend_run.Goals as goal
 
-pub returns-in_err-bytes-clause-err : goal.returns-in_err-bytes-clause-err
-returns-in_err-bytes-clause-err g c =
+pub returns-in_err-bytes : goal.returns-in_err-bytes
+returns-in_err-bytes g c =
     let refused = rw c.in-Some.ensures at c.in_err-bytes.ensures.err in
-    let h = run_refuses g.met.T.ZeroCopy.byte_form g.B.Borrowed.asks c.args.n _ _ (reading.Io c.in_err-bytes.field-0.0) refused in search (rules, h)
+    let h = run_refuses g.T.ZeroCopy.byte_form g.B.Borrowed.borrow c.args.n _ _ (reading.Io c.in_err-bytes.field-0.0) refused in search (rules, h, refused)
 
-pub returns-clause-ok : goal.returns-clause-ok
-returns-clause-ok g c =
+pub returns : goal.returns
+returns g c =
     let takes = rw c.in-Some.ensures at c.in_ok-bytes.ensures.ok.takes in
     let few : c.args.n ≤ byte_limit = search rules in
     let within : c.args.n * g.T.ZeroCopy.size ≤ byte_limit = search rules in
-    rw (c.over.ensures.forms, c.over.ensures.n) (run_gives g.met.T.ZeroCopy.byte_form c.args.n _ _ _ few within takes c.in_ok-bytes.ensures.bytes)
+    record { ok = rw (c.over.ensures.forms, c.over.ensures.n) (run_gives g.T.ZeroCopy.byte_form c.args.n _ _ _ few within takes c.in_ok-bytes.ensures.bytes); refused = tt; place = tt }

@@ -1,7 +1,10 @@
 use Rattle.std.proofs.Common.{rules}
-use Rattle.wincode_tests.proofs.Zeros.{block_unwritten}
+use Rattle.wincode_tests.proofs.Zeros.{block_unwritten, block_halted}
 use Rattle.wincode_tests.proofs.block.BlockSchemaWrite.write.Goals as goal
 
-pub returns-in_err-make_room-clause-err : goal.returns-in_err-make_room-clause-err
-returns-in_err-make_room-clause-err g c =
-    let h = block_unwritten g.met.W.Writer.writer_laws 4611686018427387904 _ _ c.args._src.now _ c.in_err-make_room.ensures.err in search (rules, h)
+pub returns-in_err-make_room : goal.returns-in_err-make_room
+returns-in_err-make_room g c =
+    let laws = g.met.W.Writer.writer_laws in
+    let d = c.in_err-make_room.ensures.err in
+    let u = block_unwritten laws 4611686018427387904 _ _ c.args._src.now _ d in
+    let p = block_halted laws 4611686018427387904 _ _ c.args._src.now _ d in search (rules, u, p)

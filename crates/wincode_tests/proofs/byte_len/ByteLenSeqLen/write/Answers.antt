@@ -1,19 +1,24 @@
 use Rattle.std.proofs.Common.{rules, ◌<◌, sym, ap, ◌∷◌, []}
-use Rattle.wincode_base.specs.Lengths.{length_write, text_len}
-use Rattle.wincode_base.specs.WriteSequences.{text_wrote, text_unwritten}
-use Rattle.wincode_tests.specs.ByteLengths.{byte_scheme, byte_text}
+use Rattle.wincode_base.specs.Lengths.{length_write, encoding_len}
+use Rattle.wincode_base.specs.WriteSequences.{encoding_wrote, encoding_unwritten}
+use Rattle.wincode_tests.specs.ByteLengths.{byte_scheme, byte_encoding}
+use Rattle.wincode_tests.proofs.ByteLengths.{byte_halted}
 use Rattle.wincode_tests.proofs.byte_len.ByteLenSeqLen.write.Goals as goal
 
-pub returns-in_err-write-clause-err : goal.returns-in_err-write-clause-err
-returns-in_err-write-clause-err g c =
+pub returns-in_err-write : goal.returns-in_err-write
+returns-in_err-write g c =
     let n = c.args.len in
     let small : n < 256 = search rules in
-    let is = byte_text n small in
-    let h = text_unwritten (length_write byte_scheme) n (n ∷ []) is (sym (ap text_len is)) g.met.W.Writer.writer_laws _ _ _ c.in_err-write.ensures.err in search (rules, h)
+    let is = byte_encoding n small in
+    let size = sym (ap encoding_len is) in
+    let laws = g.met.W.Writer.writer_laws in
+    let d = c.in_err-write.ensures.err in
+    let u = encoding_unwritten (length_write byte_scheme) n (n ∷ []) is size laws _ _ _ d in
+    let p = byte_halted laws n is size _ d in search (rules, u, p)
 
-pub returns-clause-ok : goal.returns-clause-ok
-returns-clause-ok g c =
+pub returns : goal.returns
+returns g c =
     let n = c.args.len in
     let small : n < 256 = search rules in
-    let is = byte_text n small in
-    text_wrote (length_write byte_scheme) n (n ∷ []) is (sym (ap text_len is)) _ _ (n ∷ [], is) c.in_ok-write.ensures.ok
+    let is = byte_encoding n small in
+    record { ok = encoding_wrote (length_write byte_scheme) n (n ∷ []) is (sym (ap encoding_len is)) _ _ (n ∷ [], is) c.in_ok-write.ensures.ok; value = tt; refused = tt; place = tt }

@@ -1,11 +1,11 @@
 use Rattle.std.proofs.Common.{rules, ◌<◌, sym, ap, ◌∷◌, []}
-use Rattle.wincode_base.specs.Lengths.{text_len}
-use Rattle.wincode_tests.specs.ByteLengths.{byte_text}
+use Rattle.wincode_base.specs.Lengths.{encoding_len}
+use Rattle.wincode_tests.specs.ByteLengths.{byte_encoding}
 use Rattle.wincode_tests.proofs.byte_len.ByteLenSeqLen.write_bytes_needed.Goals as goal
 
 pub returns-clause-ok : goal.returns-clause-ok
 returns-clause-ok c =
     let n = c.args.len in
     let small : n < 256 = search rules in
-    let is = byte_text n small in
-    ((n ∷ [], is), sym (ap text_len is))
+    let is = byte_encoding n small in
+    ((n ∷ [], is), sym (ap encoding_len is))

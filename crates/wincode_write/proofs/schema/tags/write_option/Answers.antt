@@ -1,20 +1,30 @@
-use Rattle.std.proofs.Common.{rules}
-use Rattle.std.proofs.lemmas.Result.{IfErr-weaker, on_ok_weaker}
-use Rattle.wincode_base.proofs.Tags.{some_wrote, some_tag_unwritten, some_unwritten}
+use Rattle.std.proofs.Common.{true, None}
+use Rattle.wincode_base.specs.Leaves.{number_write}
+use Rattle.wincode_base.specs.Tags.{option_write}
+use Rattle.wincode_base.proofs.WriteAnswers.{write_refused, write_map}
+use Rattle.wincode_base.proofs.Tags.{none_wrote, none_unwritten, none_halted, some_wrote, some_tag_unwritten, some_unwritten, some_tag_halted, some_halted}
 use Rattle.wincode_write.proofs.schema.tags.write_option.Goals as goal
 
-pub returns-in_err-write_tag-in-Some-clause-err : goal.returns-in_err-write_tag-in-Some-clause-err
-returns-in_err-write_tag-in-Some-clause-err g c =
-    let T = g.T.SchemaWrite in
-    let h = some_tag_unwritten g.met.W.Writer.writer_laws g.Tag.TagCode.size g.met.T.SchemaWrite.write_laws (T.seen c.in-Some.part) c.in_err-write_tag-in-Some.ensures.err in
-    rw c.in-Some.is (search (rules, h))
+pub returns-in_err-write_tag-in-Some : goal.returns-in_err-write_tag-in-Some
+returns-in_err-write_tag-in-Some g c =
+    let laws = g.met.W.Writer.writer_laws in
+    let k = g.Tag.TagCode.size in
+    let l = g.T.SchemaWrite.write_laws in
+    let v = g.T.SchemaWrite.model c.in-Some.part in
+    let o = c.in_err-write_tag-in-Some.ensures in
+    rw c.in-Some.is (write_refused _ _ _ _ _ c.from_residual.ensures (some_tag_unwritten laws k l v o.refused) (some_tag_halted laws k l v o.place))
 
-pub returns-in_ok-write_tag-in-Some-clause-ok : goal.returns-in_ok-write_tag-in-Some-clause-ok
-returns-in_ok-write_tag-in-Some-clause-ok g c =
-    let T = g.T.SchemaWrite in
-    rw c.in-Some.is (on_ok_weaker c.write.result (λ r. some_wrote g.met.W.Writer.writer_laws g.Tag.TagCode.size g.met.T.SchemaWrite.write_laws _ c.in_ok-write_tag-in-Some.ensures.ok r) c.write.ensures.ok)
+pub returns-in_ok-write_tag-in-Some : goal.returns-in_ok-write_tag-in-Some
+returns-in_ok-write_tag-in-Some g c =
+    let laws = g.met.W.Writer.writer_laws in
+    let k = g.Tag.TagCode.size in
+    let l = g.T.SchemaWrite.write_laws in
+    let o = c.in_ok-write_tag-in-Some.ensures in
+    rw c.in-Some.is (write_map _ _ _ _ _ _ _ (λ r. some_wrote laws k l _ o.ok r) (λ p. p) (λ e u. some_unwritten laws k l _ o.ok u) (λ e s. some_halted laws k l _ o.ok s) c.write.ensures)
 
-pub returns-in_ok-write_tag-in-Some-clause-err : goal.returns-in_ok-write_tag-in-Some-clause-err
-returns-in_ok-write_tag-in-Some-clause-err g c =
+pub returns-in-None : goal.returns-in-None
+returns-in-None g c =
     let T = g.T.SchemaWrite in
-    rw c.in-Some.is (IfErr-weaker c.write.result _ _ (λ e u. some_unwritten g.met.W.Writer.writer_laws g.Tag.TagCode.size g.met.T.SchemaWrite.write_laws _ c.in_ok-write_tag-in-Some.ensures.ok u) c.write.ensures.err)
+    let k = g.Tag.TagCode.size in
+    let laws = g.met.W.Writer.writer_laws in
+    rw c.in-None.is (write_map (number_write k true) 0 _ (option_write k T.writing) None _ _ (λ r. none_wrote laws k T.writing r) (λ p. p) (λ e u. none_unwritten laws k T.writing u) (λ e h. none_halted laws k T.writing h) c.write_tag.ensures)

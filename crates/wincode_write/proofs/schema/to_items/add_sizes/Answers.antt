@@ -5,15 +5,15 @@ use Rattle.wincode_io.specs.JoinLaws.{each_map_after, total_after}
 
 pub returns-in_err-size-clause-err : goal.returns-in_err-size-clause-err
 returns-in_err-size-clause-err g c =
-    let h = sum_item c.args.before g.T.SchemaWrite.writing g.T.SchemaWrite.seen c.args.items.now c.loop-item.item-index c.item-item.result c.loop-item-test.true c.item-item.is _ c.in_err-size.ensures.err in search (rules, h)
+    let h = sum_item c.args.before g.T.SchemaWrite.writing g.T.SchemaWrite.model c.args.items.now c.loop-item.item-index c.item-item.result c.loop-item-test.true c.item-item.is _ c.in_err-size.ensures.err in search (rules, h)
 
 pub returns-in-None-clause-err : goal.returns-in-None-clause-err
 returns-in-None-clause-err g c =
     let T = g.T.SchemaWrite in
     let none : c.loop-item.sum + c.in_ok-size.size < 2 ^ 64 → ⊥ = c.in-None.ensures in
-    let over : 2 ^ 64 ≤ c.loop-item.sum + T.writing.size (T.seen c.item-item.result) = omega (arith, none, c.in_ok-size.ensures.ok.1) in (
-      sum_over c.args.before T.writing T.seen c.args.items.now c.loop-item.item-index c.item-item.result c.loop-item-test.true c.item-item.is _ c.loop-item.invariant.1 over,
-      rw c.write_length_encoding_overflow.ensures (tt, λ own. tt),
+    let over : 2 ^ 64 ≤ c.loop-item.sum + T.writing.size (T.model c.item-item.result) = omega (arith, none, c.in_ok-size.ensures.ok.1) in (
+      sum_over c.args.before T.writing T.model c.args.items.now c.loop-item.item-index c.item-item.result c.loop-item-test.true c.item-item.is _ c.loop-item.invariant.1 over,
+      rw c.write_length_encoding_overflow.ensures (tt, λ builtin. tt),
     )
 
 pub loop-item-preserved : goal.loop-item-preserved
@@ -21,7 +21,7 @@ loop-item-preserved g c =
     let T = g.T.SchemaWrite in
     let sum = c.in-Some.ensures in
     let size = c.in_ok-size.ensures.ok in
-    let after = total_after c.args.items.now c.loop-item.item-index c.item-item.result c.loop-item-test.true c.item-item.is T.seen T.writing.size in (
-      each_map_after c.args.items.now c.loop-item.item-index c.item-item.result c.loop-item-test.true c.item-item.is T.seen T.writing.can c.loop-item.invariant.0 size.0,
+    let after = total_after c.args.items.now c.loop-item.item-index c.item-item.result c.loop-item-test.true c.item-item.is T.model T.writing.size in (
+      each_map_after c.args.items.now c.loop-item.item-index c.item-item.result c.loop-item-test.true c.item-item.is T.model T.writing.can c.loop-item.invariant.0 size.0,
       omega (arith, sum.1, size.1, after, c.loop-item.invariant.1),
     )

@@ -5,5 +5,5 @@ use Rattle.wincode_io.specs.Joins.{Each, total}
 -- so far the items can be written, and their sizes are added
 abbrev pub invariant-loop-item : goal.invariant-loop-item
 invariant-loop-item g l =
-    Each g.T.SchemaWrite.writing.can (map g.T.SchemaWrite.seen (take l.item-index l.items))
-    × (l.sum ≡ l.before + total g.T.SchemaWrite.writing.size (map g.T.SchemaWrite.seen (take l.item-index l.items)))
+    Each g.T.SchemaWrite.writing.can (map g.T.SchemaWrite.model (take l.item-index l.items))
+    × (l.sum ≡ l.before + total g.T.SchemaWrite.writing.size (map g.T.SchemaWrite.model (take l.item-index l.items)))

@@ -1,9 +1,12 @@
-use Rattle.std.proofs.Common.{rules, refl}
+use Rattle.std.proofs.Common.{refl, inl}
 use Rattle.wincode_base.specs.Sequences.{refuses_unspared}
+use Rattle.wincode_base.proofs.ReadAnswers.{read_refused}
 use Rattle.wincode_read.proofs.schema.boxes.BoxSchemaRead.read.Goals as goal
 
-pub returns-in_err-content-clause-err : goal.returns-in_err-content-clause-err
-returns-in_err-content-clause-err g c = let h = refuses_unspared c.in_err-content.ensures.err in search (rules, h)
+pub returns-in_err-content : goal.returns-in_err-content
+returns-in_err-content g c =
+    let o = c.in_err-content.ensures in
+    read_refused _ _ _ _ _ _ c.from_residual.ensures refl (refuses_unspared o.refused, inl (o.refused, o.place))
 
-pub returns-in-Ok-clause-ok : goal.returns-in-Ok-clause-ok
-returns-in-Ok-clause-ok g c = record { value = c.in-Ok.held; is = refl; gives = rw c.in-Ok.ensures.ok c.in_ok-content.ensures.ok }
+pub returns-in-Ok : goal.returns-in-Ok
+returns-in-Ok g c = record { ok = rw c.in-Ok.ensures.ok c.in_ok-content.ensures.ok; refused = tt; place = tt; same = tt }

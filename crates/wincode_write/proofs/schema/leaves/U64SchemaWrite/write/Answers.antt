@@ -1,18 +1,16 @@
 use Rattle.std.proofs.Common.{rules, true, w64}
-use Rattle.wincode_base.proofs.Integers.{number_wrote, number_unwritten, number_piece}
+use Rattle.wincode_base.proofs.Integers.{number_wrote, number_unwritten, number_halted}
 use Rattle.wincode_write.proofs.schema.leaves.U64SchemaWrite.write.Goals as goal
 
-pub returns-in_err-write-clause-err : goal.returns-in_err-write-clause-err
-returns-in_err-write-clause-err g c =
+pub returns-in_err-write : goal.returns-in_err-write
+returns-in_err-write g c =
     let is = c.to_le_bytes.ensures in
-    let h = number_unwritten w64 true c.args.src.now is g.met.W.Writer.writer_laws _ c.in_err-write.ensures.err in search (rules, h)
+    let laws = g.met.W.Writer.writer_laws in
+    let d = c.in_err-write.ensures.err in
+    let u = number_unwritten w64 true c.args.src.now is laws _ d in
+    let p = number_halted w64 true c.args.src.now is laws _ d in search (rules, u, p)
 
-pub returns-in_err-write-clause-piece : goal.returns-in_err-write-clause-piece
-returns-in_err-write-clause-piece g c =
+pub returns : goal.returns
+returns g c =
     let is = c.to_le_bytes.ensures in
-    let h = number_piece w64 true c.args.src.now is _ c.in_err-write.ensures.err in search (rules, h)
-
-pub returns-clause-ok : goal.returns-clause-ok
-returns-clause-ok g c =
-    let is = c.to_le_bytes.ensures in
-    number_wrote w64 true c.args.src.now is c.in_ok-write.ensures.ok
+    record { ok = number_wrote w64 true c.args.src.now is c.in_ok-write.ensures.ok; value = search rules; refused = tt; place = tt }

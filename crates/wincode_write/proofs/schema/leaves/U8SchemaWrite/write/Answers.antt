@@ -1,21 +1,18 @@
 use Rattle.std.proofs.Common.{rules, true, w8, ◌∙◌, ◌<◌}
-use Rattle.wincode_base.proofs.Integers.{number_wrote, number_unwritten, number_piece, byte_text}
+use Rattle.wincode_base.proofs.Integers.{number_wrote, number_unwritten, number_halted, byte_encoding}
 use Rattle.wincode_write.proofs.schema.leaves.U8SchemaWrite.write.Goals as goal
 
-pub returns-in_err-write-clause-err : goal.returns-in_err-write-clause-err
-returns-in_err-write-clause-err g c =
+pub returns-in_err-write : goal.returns-in_err-write
+returns-in_err-write g c =
     let small : c.args.src.now < 256 = search rules in
-    let is = c.to_le_bytes.ensures ∙ byte_text c.args.src.now small in
-    let h = number_unwritten w8 true c.args.src.now is g.met.W.Writer.writer_laws _ c.in_err-write.ensures.err in search (rules, h)
+    let is = c.to_le_bytes.ensures ∙ byte_encoding c.args.src.now small in
+    let laws = g.met.W.Writer.writer_laws in
+    let d = c.in_err-write.ensures.err in
+    let u = number_unwritten w8 true c.args.src.now is laws _ d in
+    let p = number_halted w8 true c.args.src.now is laws _ d in search (rules, u, p)
 
-pub returns-in_err-write-clause-piece : goal.returns-in_err-write-clause-piece
-returns-in_err-write-clause-piece g c =
+pub returns : goal.returns
+returns g c =
     let small : c.args.src.now < 256 = search rules in
-    let is = c.to_le_bytes.ensures ∙ byte_text c.args.src.now small in
-    let h = number_piece w8 true c.args.src.now is _ c.in_err-write.ensures.err in search (rules, h)
-
-pub returns-clause-ok : goal.returns-clause-ok
-returns-clause-ok g c =
-    let small : c.args.src.now < 256 = search rules in
-    let is = c.to_le_bytes.ensures ∙ byte_text c.args.src.now small in
-    number_wrote w8 true c.args.src.now is c.in_ok-write.ensures.ok
+    let is = c.to_le_bytes.ensures ∙ byte_encoding c.args.src.now small in
+    record { ok = number_wrote w8 true c.args.src.now is c.in_ok-write.ensures.ok; value = search rules; refused = tt; place = tt }

@@ -1,16 +1,19 @@
 use Rattle.std.proofs.Common.{rules, true}
-use Rattle.wincode_base.proofs.FormRuns.{pod_writes, forms_wrote, forms_unwritten, all_each}
+use Rattle.wincode_base.proofs.FormRuns.{pod_writes, forms_wrote, forms_unwritten, forms_halted, pods_refused, all_each}
 use Rattle.wincode_base.specs.Views.{form_prealloc}
 use Rattle.wincode_write.proofs.schema.pod.PodSchemaWrite.write_items.Goals as goal
 
-pub returns-in_err-write_forms-clause-err : goal.returns-in_err-write_forms-clause-err
-returns-in_err-write_forms-clause-err g c =
+pub returns-in_err-write_forms : goal.returns-in_err-write_forms
+returns-in_err-write_forms g c =
+    let T = g.T.ZeroCopy in
+    let laws = g.met.W.Writer.writer_laws in
     let e = c.in_err-write_forms.ensures in
-    let h = forms_unwritten (pod_writes g.met.T.ZeroCopy.byte_form true (form_prealloc g.T.ZeroCopy.size)) c.args.items.now _ _ g.met.W.Writer.writer_laws _ e.err (λ v. (search rules, (e.vast v).1)) in search (rules, h)
+    let w = pod_writes g.T.ZeroCopy.byte_form true (form_prealloc T.size) in
+    let u = forms_unwritten w c.args.items.now _ _ laws _ e.err (λ v. (search rules, (e.vast v).1)) in
+    let p = forms_halted w c.args.items.now _ _ laws _ e.err (λ v. (search rules, (e.vast v).1)) (λ a. pods_refused T.is_valid T.size T.form true (form_prealloc T.size) c.args.items.now _ _ a) in search (rules, u, p)
 
-pub returns-clause-ok : goal.returns-clause-ok
-returns-clause-ok g c =
-    forms_wrote (pod_writes g.met.T.ZeroCopy.byte_form true (form_prealloc g.T.ZeroCopy.size)) c.args.items.now _ _ g.met.T.ZeroCopy.byte_form c.in_ok-write_forms.ensures.proper c.in_ok-write_forms.ensures.ok
-
-pub returns-clause-value : goal.returns-clause-value
-returns-clause-value g c = all_each g.T.ZeroCopy.proper c.args.items.now c.in_ok-write_forms.ensures.proper
+pub returns : goal.returns
+returns g c =
+    let T = g.T.ZeroCopy in
+    let o = c.in_ok-write_forms.ensures in
+    record { ok = forms_wrote (pod_writes g.T.ZeroCopy.byte_form true (form_prealloc T.size)) c.args.items.now _ _ g.T.ZeroCopy.byte_form o.is_valid o.ok; value = all_each T.is_valid c.args.items.now o.is_valid; refused = tt; place = tt }

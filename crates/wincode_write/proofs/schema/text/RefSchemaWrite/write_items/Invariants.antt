@@ -2,11 +2,11 @@ use Rattle.std.proofs.Common.{take, map}
 use Rattle.wincode_io.specs.Joins.{Each}
 use Rattle.wincode_base.specs.Lists.{items_write}
 use Rattle.wincode_base.specs.Outcomes.{Wrote}
-use Rattle.wincode_base.specs.Text.{reference_write}
+use Rattle.wincode_base.specs.Strings.{reference_write}
 use Rattle.wincode_write.proofs.schema.text.RefSchemaWrite.write_items.Given as goal
 
 -- so far the items were written
 abbrev pub invariant-loop-item : goal.invariant-loop-item
 invariant-loop-item g l =
-    Wrote (items_write (reference_write g.T.SchemaWrite.writing)) (g.W.Writer.state l.fn.writer) (g.W.Writer.state l.writer) (map (λ r. g.T.SchemaWrite.seen r.now) (take l.item-index l.items))
-    × Each (λ r. g.T.SchemaWrite.proper r.now) (take l.item-index l.items)
+    Wrote (items_write (reference_write g.T.SchemaWrite.writing)) (g.W.Writer.state l.fn.writer) (g.W.Writer.state l.writer) (map (λ r. g.T.SchemaWrite.model r.now) (take l.item-index l.items))
+    × Each (λ r. g.T.SchemaWrite.is_valid r.now) (take l.item-index l.items)

@@ -5,17 +5,17 @@ use Rattle.wincode_write.proofs.schema.to_items.HashSetToItems.add_sizes.Goals a
 pub returns-in_err-size-clause-err : goal.returns-in_err-size-clause-err
 returns-in_err-size-clause-err g c =
     let K = g.K.SchemaWrite in
-    let h = sum_refused K.writing K.seen c.args.before _ _ _ _ c.in-Some.key.now _ c.loop-key.invariant c.in-Some.ensures.steps c.in_err-size.ensures.err in search (rules, h)
+    let h = sum_refused K.writing K.model c.args.before _ _ _ _ c.in-Some.key.now _ c.loop-key.invariant c.in-Some.ensures.steps c.in_err-size.ensures.err in search (rules, h)
 
 pub returns-in-None-checked_add-clause-err : goal.returns-in-None-checked_add-clause-err
 returns-in-None-checked_add-clause-err g c =
     let K = g.K.SchemaWrite in (
-      sum_past K.writing K.seen c.args.before _ _ _ _ c.in-Some.key.now c.loop-key.invariant c.in-Some.ensures.steps (rw c.in_ok-size.ensures.ok.1 at c.in-None-checked_add.ensures),
-      rw c.write_length_encoding_overflow.ensures (tt, λ own. tt),
+      sum_past K.writing K.model c.args.before _ _ _ _ c.in-Some.key.now c.loop-key.invariant c.in-Some.ensures.steps (rw c.in_ok-size.ensures.ok.1 at c.in-None-checked_add.ensures),
+      rw c.write_length_encoding_overflow.ensures (tt, λ builtin. tt),
     )
 
 pub loop-key-preserved : goal.loop-key-preserved
 loop-key-preserved g c =
     let K = g.K.SchemaWrite in
     let e = c.in-Some-checked_add.ensures in
-    sum_more K.writing K.seen c.args.before _ _ _ _ _ c.in-Some.key.now c.loop-key.invariant c.in-Some.ensures.steps c.in_ok-size.ensures.ok.0 (e.1 ∙ ap (λ n. c.loop-key.sum + n) c.in_ok-size.ensures.ok.1)
+    sum_more K.writing K.model c.args.before _ _ _ _ _ c.in-Some.key.now c.loop-key.invariant c.in-Some.ensures.steps c.in_ok-size.ensures.ok.0 (e.1 ∙ ap (λ n. c.loop-key.sum + n) c.in_ok-size.ensures.ok.1)

@@ -3,4 +3,4 @@ use Rattle.wincode_write.proofs.schema.to_items.HashSetToItems.add_sizes.Given a
 
 -- the sizes of the items before those that are left were added
 abbrev pub invariant-loop-key : goal.invariant-loop-key
-invariant-loop-key g l = SumsSoFar g.K.SchemaWrite.writing g.K.SchemaWrite.seen l.before l.sum l.self.keys l.key-iterator
+invariant-loop-key g l = SumsSoFar g.K.SchemaWrite.writing g.K.SchemaWrite.model l.before l.sum l.self.keys l.key-iterator

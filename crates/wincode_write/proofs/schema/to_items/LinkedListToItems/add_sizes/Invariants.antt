@@ -3,4 +3,4 @@ use Rattle.wincode_write.proofs.schema.to_items.LinkedListToItems.add_sizes.Give
 
 -- the sizes of the items before those that are left were added
 abbrev pub invariant-loop-item : goal.invariant-loop-item
-invariant-loop-item g l = SumsSoFar g.T.SchemaWrite.writing g.T.SchemaWrite.seen l.before l.sum l.self l.item-iterator
+invariant-loop-item g l = SumsSoFar g.T.SchemaWrite.writing g.T.SchemaWrite.model l.before l.sum l.self l.item-iterator

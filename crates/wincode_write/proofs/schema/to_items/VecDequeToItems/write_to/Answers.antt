@@ -1,16 +1,18 @@
-use Rattle.std.proofs.Common.{rules}
-use Rattle.std.proofs.lemmas.Result.{IfErr-weaker, on_ok_weaker}
-use Rattle.wincode_base.proofs.Walks.{runs_wrote, runs_refused_first, runs_refused_second}
+use Rattle.wincode_base.proofs.Walks.{runs_wrote, runs_each, runs_refused_first, runs_refused_second, runs_halted_first, runs_halted_second}
+use Rattle.wincode_base.proofs.WriteAnswers.{write_refused, write_map}
 use Rattle.wincode_write.proofs.schema.to_items.VecDequeToItems.write_to.Goals as goal
 
-pub returns-in_err-write_items-clause-err : goal.returns-in_err-write_items-clause-err
-returns-in_err-write_items-clause-err g c =
-    let h = runs_refused_first g.met.W.Writer.writer_laws g.met.T.SchemaWrite.write_laws _ _ _ c.as_slices.ensures.items c.in_err-write_items.ensures.err in search (rules, h)
+pub returns-in_err-write_items : goal.returns-in_err-write_items
+returns-in_err-write_items g c =
+    let laws = g.met.W.Writer.writer_laws in
+    let l = g.T.SchemaWrite.write_laws in
+    let o = c.in_err-write_items.ensures in
+    write_refused _ _ _ _ _ c.from_residual.ensures (runs_refused_first laws l _ _ _ c.as_slices.ensures.items o.refused) (runs_halted_first laws l _ _ _ c.as_slices.ensures.items o.place)
 
-pub returns-clause-ok : goal.returns-clause-ok
-returns-clause-ok g c =
-    on_ok_weaker c.write_items-2.result (λ r. runs_wrote g.met.W.Writer.writer_laws g.met.T.SchemaWrite.write_laws _ _ _ c.as_slices.ensures.items c.in_ok-write_items.ensures.ok r) c.write_items-2.ensures.ok
-
-pub returns-clause-err : goal.returns-clause-err
-returns-clause-err g c =
-    IfErr-weaker c.write_items-2.result _ _ (λ e u. runs_refused_second g.met.W.Writer.writer_laws g.met.T.SchemaWrite.write_laws _ _ _ c.as_slices.ensures.items c.in_ok-write_items.ensures.ok u) c.write_items-2.ensures.err
+pub returns : goal.returns
+returns g c =
+    let laws = g.met.W.Writer.writer_laws in
+    let l = g.T.SchemaWrite.write_laws in
+    let o = c.in_ok-write_items.ensures in
+    write_map _ _ _ _ _ _ _ (λ r. runs_wrote laws l _ _ _ c.as_slices.ensures.items o.ok r) (λ p. runs_each _ _ _ _ c.as_slices.ensures.items o.value p)
+    (λ e u. runs_refused_second laws l _ _ _ c.as_slices.ensures.items o.ok u) (λ e h. runs_halted_second laws l _ _ _ c.as_slices.ensures.items o.ok h) c.write_items-2.ensures

@@ -7,5 +7,5 @@ use Rattle.wincode_write.proofs.schema.tuples.RefMemberSchemaWrite.write_items.G
 -- so far the items were written
 abbrev pub invariant-loop-item : goal.invariant-loop-item
 invariant-loop-item g l =
-    Wrote (items_write g.T.SchemaWrite.writing) (g.W.Writer.state l.fn.writer) (g.W.Writer.state l.writer) (map (λ r. g.T.SchemaWrite.seen r.now) (take l.item-index l.items))
-    × Each (λ r. g.T.SchemaWrite.proper r.now) (take l.item-index l.items)
+    Wrote (items_write g.T.SchemaWrite.writing) (g.W.Writer.state l.fn.writer) (g.W.Writer.state l.writer) (map (λ r. g.T.SchemaWrite.model r.now) (take l.item-index l.items))
+    × Each (λ r. g.T.SchemaWrite.is_valid r.now) (take l.item-index l.items)

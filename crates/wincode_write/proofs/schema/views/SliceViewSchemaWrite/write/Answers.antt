@@ -1,17 +1,13 @@
 use Rattle.std.proofs.Common.{max, true}
-use Rattle.std.proofs.lemmas.Result.{IfErr-weaker}
-use Rattle.wincode_base.proofs.Views.{listed_unwritten, listed_piece}
-use Rattle.wincode_base.specs.InWindow.{is_static}
-use Rattle.wincode_base.specs.Views.{form_meta, form_prealloc}
+use Rattle.wincode_base.proofs.Views.{listed_wrote, listed_unwritten, listed_halted}
+use Rattle.wincode_base.proofs.WriteAnswers.{write_map}
+use Rattle.wincode_base.specs.Views.{form_prealloc}
 use Rattle.wincode_write.proofs.schema.views.SliceViewSchemaWrite.write.Goals as goal
 
-pub returns-clause-err : goal.returns-clause-err
-returns-clause-err g c =
+pub returns : goal.returns
+returns g c =
     let T = g.T.ZeroCopy in
-    IfErr-weaker c.write_list.result _ _ (λ e u. listed_unwritten T.proper T.size T.form true (form_prealloc T.size) (max T.size 1) _ e u) c.write_list.ensures.err
-
-pub returns-clause-piece : goal.returns-clause-piece
-returns-clause-piece g c =
-    let T = g.T.ZeroCopy in
-    let whole = is_static (form_meta T.size true) in
-    IfErr-weaker c.write_list.result _ _ (λ e d. listed_piece T.proper T.size T.form true (form_prealloc T.size) (max T.size 1) _ _ whole _ e d) c.write_list.ensures.piece
+    let p = form_prealloc T.size in
+    let q = max T.size 1 in
+    write_map _ _ _ _ _ _ _ (λ r. listed_wrote T.is_valid T.size T.form true p q _ r) (λ p. p)
+    (λ e u. listed_unwritten T.is_valid T.size T.form true p q _ e u) (λ e h. listed_halted T.is_valid T.size T.form true p q _ e h) c.write_list.ensures.outcome

@@ -1,0 +1,8 @@
+use Rattle.wincode_base.specs.ScatteredLaws.{scattered_outcome}
+use Rattle.wincode_base.specs.ItemSizes.{item_size}
+use Rattle.wincode.proofs.containers.BinaryHeapSchemaWrite.write.Goals as goal
+
+pub returns : goal.returns
+returns g c =
+    let T = g.T.SchemaWrite in
+    scattered_outcome g.Len.SeqLen.scheme (item_size T.writing.meta) T.writing _ _ c.write_list.ensures.outcome

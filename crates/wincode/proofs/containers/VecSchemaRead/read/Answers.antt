@@ -1,5 +1,0 @@
-use Rattle.std.proofs.Common.{refl}
-use Rattle.wincode.proofs.containers.VecSchemaRead.read.Goals as goal
-
-pub returns-clause-ok : goal.returns-clause-ok
-returns-clause-ok g c = let h = c.in_ok-get_list.ensures.ok in record { value = _; is = refl; gives = rw h.2 h.1 }

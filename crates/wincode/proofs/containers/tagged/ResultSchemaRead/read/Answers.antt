@@ -1,5 +1,0 @@
-use Rattle.std.proofs.Common.{refl}
-use Rattle.wincode.proofs.containers.tagged.ResultSchemaRead.read.Goals as goal
-
-pub returns-clause-ok : goal.returns-clause-ok
-returns-clause-ok g c = record { value = c.in_ok-get_result.field-0; is = refl; gives = c.in_ok-get_result.ensures.ok }

@@ -1,0 +1,61 @@
+-- Reading encodings that all have one size.
+use Rattle.std.proofs.Common.{◌≡◌, ◌∙◌, sym, ap, subst, ℕ, ◌≤◌, Bool, List, [], ◌++◌, length, take, arith, length-append, IsTrue, Some}
+use Rattle.wincode_io.specs.Places.{onward}
+use Rattle.wincode_io.specs.Readers.{ReaderState, Loses, Takes, IsShort, ReadRefusedFor, Arrays}
+use Rattle.wincode_io.specs.PlaceLaws.{kept_trans, known_kept, stays_onward, loses_onward}
+use Rattle.wincode_base.specs.Outcomes.{Gives, Puts, Accepts, ReadRefused, ReaderDue, PieceReadRefused}
+use Rattle.wincode_base.specs.declared.error.ReadError.{ReadError}
+use Rattle.wincode_base.specs.declared.error.ReadError.TheVariants as reading
+use Rattle.wincode_io.specs.declared.error.ReadError.{ReadError as IoReadError}
+use Rattle.wincode_io.specs.declared.error.ReadError.TheVariants as reader
+
+module _ {V : Type 0} (reads : List ℕ → V → Type 0) (n : ℕ) (sized : (b : List ℕ) (v : V) → reads b v → length b ≡ n) where
+  too_short : (old : ReaderState) → IsShort n old → Accepts reads old → ⊥
+  too_short old short a =
+      let f = a.front.found in
+      absurd (omega (arith, short a.is_known, sized f.encoding a.front.value f.is_read, ap length f.joins, length-append f.encoding a.front.rest))
+
+  denied_due : (borrow : ℕ) (old new : ReaderState) (e : IoReadError) → ReadRefusedFor (IsShort n old) ⊥ n new e → ReaderDue (Accepts reads old) borrow new e
+  denied_due borrow old new (reader.ReadSizeLimit m) d = λ a. too_short old d.0 a
+  denied_due borrow old new reader.UnsupportedZeroCopy d = absurd d
+  denied_due borrow old new reader.OutOfMemory d = d
+  denied_due borrow old new (reader.Io e) d = d
+
+  -- the reader refused n bytes
+  pub denied_refuses : (borrow : ℕ) (takes_no_memory : Bool) (old new : ReaderState) (e : ReadError) → PieceReadRefused n old new e → ReadRefused reads borrow takes_no_memory old new e
+  denied_refuses borrow takes_no_memory old new (reading.Io e) d = record {
+    kept = d.0.kept;
+    left = λ t. record { front = []; joins = sym (d.0.rest t) };
+    place = stays_onward old new d.0;
+    due = denied_due borrow old new e d.1;
+  }
+  denied_refuses borrow takes_no_memory old new _ d = absurd d
+
+-- bytes that were shown as an array, and then consumed
+pub arrays_takes : (n : ℕ) (old mid new : ReaderState) (a : List ℕ) → Arrays n old mid a → Loses n mid new → Takes n old new a
+arrays_takes n old mid new a s l = record {
+  loses = record {
+    kept = kept_trans s.stays.kept l.kept;
+    rest = λ t. subst (λ b. (n ≤ length b) × (b ≡ take n b ++ new.rest)) (s.stays.rest t) (l.rest (known_kept s.stays.kept t));
+    ready = let a = s.stays.ready in let b = l.ready in omega arith;
+    place = l.place ∙ ap (onward n) s.stays.place;
+  };
+  size = s.size;
+  front = λ t. (s.front t).1;
+}
+
+-- what was taken stood before what is left
+pub takes_joins : {n : ℕ} {old new : ReaderState} {bytes : List ℕ} → Takes n old new bytes → IsTrue old.is_known → old.rest ≡ bytes ++ new.rest
+takes_joins {n} {old} {new} {bytes} t told = (t.loses.rest told).1 ∙ ap (λ b. b ++ new.rest) (sym (t.front told))
+
+-- the bytes that were taken read as v
+pub takes_gives : {V : Type 0} (reads : List ℕ → V → Type 0) (n : ℕ) (old new : ReaderState) (bytes : List ℕ) (v : V) → Takes n old new bytes → reads bytes v → Gives reads old new v
+takes_gives reads n old new bytes v t r = record {
+  kept = t.loses.kept;
+  found = λ told. record { encoding = bytes; is_read = r; joins = takes_joins t told };
+  place = loses_onward n old new t.loses;
+}
+
+-- the destination has a value that reading gave
+pub puts : {D V : Type 0} (reads : List ℕ → V → Type 0) (model : D → V) (old new : ReaderState) (v : D) → Gives reads old new (model v) → Puts reads model old new (Some v)
+puts reads model old new v g = g

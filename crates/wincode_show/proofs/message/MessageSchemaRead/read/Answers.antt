@@ -1,5 +1,0 @@
-use Rattle.std.proofs.Common.{refl}
-use Rattle.wincode_show.proofs.message.MessageSchemaRead.read.Goals as goal
-
-pub returns-clause-ok : goal.returns-clause-ok
-returns-clause-ok g c = record { value = _; is = refl; gives = c.in_ok-id.ensures.ok }
