@@ -94,7 +94,9 @@ fn run(rt: &(impl Files + Print + AllocGlobal)) -> Result<(), Fault> {
         order.buyer
     )?;
 
-    bytes[8] = 2;
+    if let Some(flag) = bytes.as_mut_slice().get_mut(8) {
+        *flag = 2;
+    }
     let mut cursor = Cursor::new(bytes.as_slice());
     if let Err(error) = <By<Order> as SchemaGet<Lifetime>>::get(alloc, &mut cursor) {
         println!(rt; "refused in front of byte {}: {error}", cursor.position())?;
