@@ -52,7 +52,8 @@ pub fn numbered_list(alloc: Global, n: usize, digits: &str) -> Result<Vec<u8>, F
     let mut bytes = Vec::from_slice(alloc, (n as u64).to_le_bytes().as_slice())?;
     for place in 0..n {
         bytes.extend_from_slice(head.as_slice())?;
-        bytes.extend_from_slice((place as u32).to_le_bytes().as_slice())?;
+        let place = (place as u64).to_le_bytes();
+        bytes.extend_from_slice(&place[..4])?;
         bytes.extend_from_slice(tail.as_slice())?;
     }
     Ok(bytes)
