@@ -4,7 +4,6 @@
 #[derive(Clone, Copy)]
 pub enum Asked {
     Read,
-    Furthest,
     Room(usize),
     Size,
     Meta,
@@ -16,7 +15,6 @@ pub enum Asked {
 #[derive(Clone, Copy)]
 pub enum Call {
     Schema(Asked),
-    Many(usize),
     Calls,
     Shown,
     Tag(Option<usize>),
@@ -30,7 +28,6 @@ impl Call {
     fn of_word(text: &str) -> Option<Call> {
         match text {
             "read" => Some(Call::Schema(Asked::Read)),
-            "furthest" => Some(Call::Schema(Asked::Furthest)),
             "size" => Some(Call::Schema(Asked::Size)),
             "meta" => Some(Call::Schema(Asked::Meta)),
             "calls" => Some(Call::Calls),
@@ -48,7 +45,6 @@ impl Call {
             "room" => Some(Call::Schema(Asked::Room(number))),
             "items" => Some(Call::Schema(Asked::Items(number))),
             "at once" => Some(Call::Schema(Asked::AtOnce(number))),
-            "many" => Some(Call::Many(number)),
             "tag room" => Some(Call::Tag(Some(number))),
             "length of" => Some(Call::LengthOf(number)),
             _ => None,

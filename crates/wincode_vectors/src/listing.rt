@@ -4,7 +4,7 @@ use std::alloc::Global;
 use std::test::Fail;
 use wincode::io::Lifetime;
 use wincode::{RoundTrip, SchemaGet, SchemaRead, SchemaWrite};
-use wincode_tests::rows::{bytes_of, digits_of};
+use wincode_tests::rows::digits_of;
 use wincode_tests::single::Single;
 
 /// A list of the first value of the bytes, to which so many are added, and what then is left.
@@ -42,21 +42,6 @@ pub fn spread_list(alloc: Global, n: usize, size: &[u8]) -> Result<Vec<u8>, Fail
         text.push((seed >> 56) as u8)?;
     }
     Ok(text)
-}
-
-/// A list of so many items, each of which is the first part of the digits, its place as four bytes, and the second
-/// part: the parts stand with a `-` between them.
-pub fn numbered_list(alloc: Global, n: usize, digits: &str) -> Result<Vec<u8>, Fail> {
-    let (head, tail) = digits.split_once('-').ok_or("two parts")?;
-    let (head, tail) = (bytes_of(alloc, head)?, bytes_of(alloc, tail)?);
-    let mut bytes = Vec::from_slice(alloc, (n as u64).to_le_bytes().as_slice())?;
-    for place in 0..n {
-        bytes.extend_from_slice(head.as_slice())?;
-        let place = (place as u64).to_le_bytes();
-        bytes.extend_from_slice(&place[..4])?;
-        bytes.extend_from_slice(tail.as_slice())?;
-    }
-    Ok(bytes)
 }
 
 /// The text of a list by a schema.

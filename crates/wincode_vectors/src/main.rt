@@ -7,8 +7,6 @@
 //!
 //! - `read`: `ok LEFT TEXT`, the value written again; or `err ERROR LEFT`. Of what may be written in any order
 //!   the text is `sorted:`, and then its items in order.
-//! - `furthest`: whether the value is read, LEFT, and how many bytes from the beginning the reader was asked for at
-//!   the most: no more than the value needs.
 //! - `room N`: the value is written into a slice of N bytes: `ok TEXT`, or `err ERROR TEXT`.
 //! - `size`: `size_of` of the value: `ok SIZE`.
 //! - `meta`: what the schema announces in reading, in writing, and `prealloc_size`.
@@ -16,8 +14,6 @@
 //!   where the text is that of the whole list by `write_items`.
 //! - `at once N`: a list of N values of bytes that change from one to the next, each of the size that the one digit
 //!   pair says, read and written at once and item by item: `ok SIZE`, where all agree.
-//! - `many N`: a collection of N items, each the digits before the `-`, its place as four bytes, and those behind the
-//!   `-`, read and written again: `ok SIZE`, where all items are there again.
 //! - `calls`: `deserialize`, `serialize`, `serialize_into` behind a byte, `serialized_size`: `ok SIZE TEXT`.
 //! - `shown`: the value's `Debug` text, or the error's, and LEFT, through each reader and a window of it; where
 //!   readers differ, each by its name.
@@ -35,7 +31,7 @@ mod showing;
 mod tagging;
 
 use asking::{Asked, Call, Row};
-use listing::{numbered_list, spread_list};
+use listing::spread_list;
 use std::alloc::Global;
 use std::io::{BufRead, BufReader};
 use std::test::Fail;
@@ -43,19 +39,14 @@ use wincode_tests::rows::bytes_of;
 
 /// What a row answers.
 fn answer(alloc: Global, row: &Row<'_>) -> Result<String, Fail> {
+    let digits = bytes_of(alloc, row.digits)?;
     let bytes = match row.call {
-        Call::Schema(Asked::AtOnce(n)) => spread_list(
-            alloc,
-            n,
-            bytes_of(alloc, row.digits)?.as_slice(),
-        )?,
-        Call::Many(n) => numbered_list(alloc, n, row.digits)?,
-        _ => bytes_of(alloc, row.digits)?,
+        Call::Schema(Asked::AtOnce(n)) => spread_list(alloc, n, digits.as_slice())?,
+        _ => digits,
     };
     let input = bytes.as_slice();
     match row.call {
         Call::Schema(asked) => schemas::answer(alloc, asked, row.name, input),
-        Call::Many(_) => schemas::many::answer(alloc, row.name, input),
         Call::Calls => schemas::calls::answer(alloc, row.name, input),
         Call::Shown => showing::shown(alloc, row.name, input),
         Call::Tag(room) => tagging::tag(alloc, row.name, input, room),

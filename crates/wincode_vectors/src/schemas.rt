@@ -2,7 +2,6 @@
 pub mod calls;
 mod lengths;
 mod lists;
-pub mod many;
 mod maps;
 mod numbers;
 mod parts;
