@@ -1,15 +1,16 @@
 -- Edits of forms behind their number, in the bytes where they stand.
-use Rattle.std.proofs.Common.{◌≡◌, ◌∙◌, sym, ap, subst, ℕ, ◌-◌, ◌*◌, ◌<◌, ◌≤◌, ◌^◌, List, ◌++◌, length, take, drop, arith, length-take, length-drop, take-append-drop}
+use Rattle.std.proofs.Common.{◌≡◌, ◌∙◌, sym, ap, subst, ℕ, ◌-◌, ◌*◌, ◌<◌, ◌≤◌, ◌^◌, List, [], ◌∷◌, ◌++◌, length, refl, take, drop, arith, length-take, length-drop, take-append-drop}
 use Rattle.std.specs.List.{All}
+use Rattle.std.proofs.lemmas.List.Elements.{All-head, All-tail}
 use borrow.Rule.Slice.PartMut.{put_mid}
 use Rattle.wincode_io.specs.Bytes.{IsBytes}
-use Rattle.wincode_io.specs.Edits.{all_edited, in_places}
-use Rattle.wincode_io.specs.Forms.{IsByteForm}
+use Rattle.wincode_io.specs.Edits.{all_edited, in_places, in_first}
+use Rattle.wincode_io.specs.Forms.{IsByteForm, edited}
 use Rattle.wincode_io.specs.JoinedForms.{IsBytes-take}
 use Rattle.wincode_io.specs.NumberLaws.{worth_within, le-worth_within}
 use Rattle.wincode_io.specs.Numbers.{le, worth}
-use Rattle.wincode_io.proofs.EditSteps.{values_all_edited}
-use Rattle.wincode.specs.Edits.{HasForms, HasCount, EditedInPlace}
+use Rattle.wincode_io.proofs.EditSteps.{values_all_edited, edited_whole}
+use Rattle.wincode.specs.Edits.{HasForms, HasCount, EditedInPlace, last_of}
 
 module _ (b : List ℕ) (all : IsBytes b) (long : 8 ≤ length b) (n : ℕ) (is : n ≡ worth (take 8 b)) where
   pub number_size : length (take 8 b) ≡ 8
@@ -52,3 +53,13 @@ module _ (b : List ℕ) (all : IsBytes b) (long : 8 ≤ length b) (n : ℕ) (is 
           ∙ ap (λ m. le 8 n ++ (all_edited s (take m (drop 8 b)) (in_places form es) ++ drop m (drop 8 b))) same;
       values_are = values_all_edited law n (take t (drop 8 b)) es within is_valid has_forms.size;
     }
+
+-- a form reads as the last of the values that were put over it
+pub last_is : {X : Type 0} {is_valid : X → Type 0} {s : ℕ} {form : X → List ℕ} {value : List ℕ → X} → IsByteForm is_valid s form value → (first : List ℕ) → length first ≡ s → (news : List X) → All is_valid news
+    → value (all_edited s first (in_first form news)) ≡ last_of (value first) news
+unfolding all_edited
+last_is law first size [] all = refl
+last_is {is_valid = is_valid} {s = s} {form = form} {value = value} law first size (v ∷ vs) all =
+    let here : is_valid v = All-head is_valid v vs all in
+    let whole : form v ≡ edited s first 0 (form v) = edited_whole s first (form v) size in
+    ap (λ b. value (all_edited s b (in_first form vs))) (sym whole) ∙ last_is law (form v) (law.long v here) vs (All-tail is_valid v vs all) ∙ ap (λ x. last_of x vs) (law.value_form v here)

@@ -1,5 +1,5 @@
 -- Edits of forms where they stand, behind their number or alone.
-use Rattle.std.specs.Prelude.{◌≡◌, ◌⊎◌, ℕ, ◌*◌, ◌<◌, ◌≤◌, ◌^◌, List, ◌++◌, length, min, codes}
+use Rattle.std.specs.Prelude.{◌≡◌, ◌⊎◌, ℕ, ◌*◌, ◌<◌, ◌≤◌, ◌^◌, List, [], ◌∷◌, ◌++◌, length, min, codes}
 use Rattle.std.specs.List.{All}
 use Rattle.wincode_io.specs.Edits.{all_edited, in_places, in_first, all_set}
 use Rattle.wincode_io.specs.Forms.{values}
@@ -42,13 +42,19 @@ EditRefused s old edits (reading.LengthEncodingOverflow t) = (has : HasCount old
 EditRefused s old edits (reading.Custom t) = (has : HasForms s old) × (All (λ e. e.0 < has.count) edits → ⊥) × (t.now ≡ codes "index")
 EditRefused s old edits _ = ⊥
 
--- Each value's form was put over the first s bytes in turn; those behind them are as they were.
-pub record EditedFirst {X : Type 0} (s : ℕ) (form : X → List ℕ) (old : List ℕ) (news : List X) (new : List ℕ) : Type 0 where
+-- the last of some values, or x where there are none
+abbrev pub last_of : {X : Type 0} → X → List X → X
+last_of x [] = x
+last_of x (y ∷ ys) = last_of y ys
+
+-- Each value's form was put over the first s bytes in turn, which read as the last of them; those behind are as they were.
+pub record EditedFirst {X : Type 0} (s : ℕ) (form : X → List ℕ) (value : List ℕ → X) (old : List ℕ) (news : List X) (new : List ℕ) : Type 0 where
   pub first : List ℕ
   pub more : List ℕ
   pub size : length first ≡ s
   pub joins : old ≡ first ++ more
   pub is : new ≡ all_edited s first (in_first form news) ++ more
+  pub value_is : value (all_edited s first (in_first form news)) ≡ last_of (value first) news
 
 -- there are fewer than s bytes, named as at most `usize::MAX`
 abbrev pub FirstEditRefused : ℕ → List ℕ → ReadError → Type 0

@@ -32,7 +32,8 @@ fn edit_forms<T: ZeroCopy>(forms: &mut [u8], n: usize, edits: &[(usize, T)])
 /// Puts each value's form over the form, one after another.
 fn edit_form<T: ZeroCopy>(form: &mut [u8], values: &[T])
     requires { length form.old ≡ T.size }
-    ensures { form.new ≡ all_edited T.size form.old (in_first T.form values.now) }
+    ensures form { form.new ≡ all_edited T.size form.old (in_first T.form values.now) }
+    ensures is_valid { All T.is_valid values.now }
 {
     let mut view = RefMut::<'_, T>::new(form);
     for value in values {
@@ -67,10 +68,10 @@ pub fn edit_in_place<T: ZeroCopy>(bytes: &mut [u8], edits: &[(usize, T)]) -> Rea
 }
 
 /// Puts each value's form over the bytes that the buffer begins with, one after another, as a view of
-/// `from_bytes_mut` sets it. Where there are fewer bytes it is `ReadSizeLimit` of the form's size in
+/// `from_bytes_mut` sets it; they read as the last of the values then. Where there are fewer bytes it is `ReadSizeLimit` of the form's size in
 /// bytes, or of `usize::MAX` where the size is more.
 pub fn edit_one<T: ZeroCopy>(bytes: &mut [u8], values: &[T]) -> ReadResult<()>
-    ensures ok { OnOk result (EditedFirst T.size T.form bytes.old values.now bytes.new) }
+    ensures ok { OnOk result (EditedFirst T.size T.form T.value bytes.old values.now bytes.new) }
     ensures err { IfErr result (FirstEditRefused T.size bytes.old) }
     ensures same { OnErr result (bytes.new ≡ bytes.old) }
 {

@@ -22,6 +22,9 @@ pub trait Shape: Drop {
     // Its parts.
     ghost parts: { Self → Self.Parts };
 
+    // They are all that there is of it: values with the same parts are the same.
+    ghost parts_tell: { (x y : Self) → parts x ≡ parts y → x ≡ y };
+
     /// The value that these are the parts of.
     fn make(made_of: Self::Parts) -> Self
         ensures { parts result ≡ made_of };

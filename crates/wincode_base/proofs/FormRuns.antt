@@ -1,10 +1,11 @@
 -- Many forms read or written at once.
-use Rattle.std.proofs.Common.{◌≡◌, ◌⊎◌, ◌∙◌, sym, ap, subst, ℕ, ◌*◌, ◌-◌, ◌<◌, ◌≤◌, Bool, false, List, [], ◌∷◌, ◌++◌, length, map, refl, inl, inr, arith, append-nil, length-append}
+use Rattle.std.proofs.Common.{◌≡◌, ◌⊎◌, ◌∙◌, sym, ap, subst, ℕ, ◌*◌, ◌-◌, ◌<◌, ◌≤◌, Bool, false, List, [], ◌∷◌, ◌++◌, length, map, min, refl, inl, inr, arith, append-nil, length-append}
 use Rattle.std.proofs.lemmas.Bool.{cases_lt}
 use Rattle.std.proofs.lemmas.List.Elements.{All-head, All-tail}
 use Rattle.std.specs.List.{All, flat_map}
 use Rattle.wincode_io.specs.Bytes.{IsBytes}
 use Rattle.wincode_io.specs.Forms.{IsByteForm, values}
+use Rattle.wincode_io.specs.FormCalls.{FormWriteRefused}
 use Rattle.wincode_io.specs.JoinedForms.{length-joined, length-values, All-values, joined-values}
 use Rattle.wincode_io.specs.Joins.{Joined, Each, total, AreItems}
 use Rattle.wincode_io.specs.PlaceLaws.{still}
@@ -175,22 +176,12 @@ module _ {X V : Type 0} {is_valid : X → Type 0} {s : ℕ} {form : X → List �
       | inr within ↦ let r = refused within in nothing_stopped laws old new (writing.Io e) r.0.content (so (inl (within, piece_denied (length vs * s) old new e r)))
     ]
 
--- of many forms at once that are announced as no size the first was refused, or there are none
-pub pods_refused : {X : Type 0} (is_valid : X → Type 0) (s : ℕ) (form : X → List ℕ) (any : Bool) (prealloc : ℕ) (vs : List X) (room : ℕ) (e : IoWriteError) → AtOnce (length vs * s) room e
+-- of many forms at once that are announced as no size the first was refused
+pub pods_refused : {X : Type 0} (is_valid : X → Type 0) (s : ℕ) (form : X → List ℕ) (any : Bool) (prealloc : ℕ) (vs : List X) (room : ℕ) (e : IoWriteError) → 0 < length vs → AtOnce (length vs * s) room e
     → ItemsWriteRefused (form_write is_valid s form any prealloc) (map (λ v. v) vs) room [] (writing.Io e)
-pods_refused {X} is_valid s form any prealloc [] room e (inl d) =
-    let none : 0 * s ≡ 0 = omega arith in
-    let same : room ≡ room - 0 = omega arith in
-    λ dynamic. inr (record {
-      before = [];
-      after = [];
-      is = refl;
-      written = refl;
-      refused = subst (λ k. PieceWriteRefused k (room - 0) [] (writing.Io e)) none (subst (λ r. PieceWriteRefused (length {A = X} [] * s) r [] (writing.Io e)) same d.1);
-    })
-pods_refused is_valid s form any prealloc [] room e (inr d) = absurd (omega (arith, d.0))
-pods_refused is_valid s form any prealloc (v ∷ vs) room e (inl d) = λ dynamic. let over = vast_form s any dynamic in absurd (omega (arith, over, d.0))
-pods_refused is_valid s form any prealloc (v ∷ vs) room e (inr d) = λ dynamic. inl (record {
+pods_refused is_valid s form any prealloc [] room e some d = absurd (omega (arith, some))
+pods_refused is_valid s form any prealloc (v ∷ vs) room e some (inl d) = λ dynamic. let over = vast_form s any dynamic in absurd (omega (arith, over, d.0))
+pods_refused is_valid s form any prealloc (v ∷ vs) room e some (inr d) = λ dynamic. record {
   before = [];
   item = v;
   after = map (λ w. w) vs;
@@ -200,4 +191,23 @@ pods_refused is_valid s form any prealloc (v ∷ vs) room e (inr d) = λ dynamic
   written = refl;
   joins = refl;
   refused = inr (vast_form s any dynamic, refl, ap writing.Io d.1);
-})
+}
+
+-- of so many bytes at once the writer refused all, and holds what it held
+pub at_once : {S K : Type 0} {put : S → List ℕ → S} {room : S → ℕ} (n : ℕ) (old new : WriterState put room K) (e : IoWriteError) → (n ≤ byte_limit → BytesWriteRefused n old new e)
+    → (byte_limit < n → (e ≡ writer.WriteSizeLimit byte_limit) × IsUnmoved old new) → FormWriteRefused n old new e
+at_once {S} {K} {put = put} {room = room} n old new e refused vast = elim (cases_lt byte_limit n) [
+  | inl over ↦
+      let v = vast over in
+      let most : byte_limit ≡ min n byte_limit = omega arith in
+      let Q : IoWriteError → Type 0 = λ x. WriteRefusedFor (room old.content ≤ byte_limit → room old.content < n) (min n byte_limit) new x in
+      (v.1, subst Q (sym v.0) ((λ few. omega (arith, few, over)), most))
+  | inr within ↦
+      let r = refused within in
+      let least : n ≡ min n byte_limit = omega arith in
+      (r.0, by new e least r.1)
+] where
+  by : (new : WriterState put room K) (e : IoWriteError) → n ≡ min n byte_limit → WriteRefusedFor (room old.content < n) n new e → WriteRefusedFor (room old.content ≤ byte_limit → room old.content < n) (min n byte_limit) new e
+  by new (writer.WriteSizeLimit m) least d = ((λ few. d.0), d.1 ∙ least)
+  by new (writer.Io x) least d = d
+  by new writer.OutOfMemory least d = d

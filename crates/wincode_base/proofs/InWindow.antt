@@ -138,20 +138,17 @@ static_inside g v m room added e is cannot inside r = rw is (inr (cannot, (insid
 
 -- items of no one size go through no window
 items_alike : {V : Type 0} (g : WriteGrammar V) (vs : List V) (room : ℕ) (added : List ℕ) (e : WriteError) → ItemsWriteRefused g vs room added e → ItemsWriteRefused (windowed_write g) vs room added e
-items_alike g vs room added e d = λ dynamic. elim (d dynamic) [
-  | inl i ↦ inl (record {
-    before = i.before;
-    item = i.item;
-    after = i.after;
-    encoding = i.encoding;
-    rest = i.rest;
-    is = i.is;
-    written = i.written;
-    joins = i.joins;
-    refused = dynamic_is g i.item g.meta (room - length i.encoding) i.rest e dynamic i.refused;
-  })
-  | inr n ↦ inr (record { before = n.before; after = n.after; is = n.is; written = n.written; refused = n.refused })
-]
+items_alike g vs room added e d = λ dynamic. let i = d dynamic in record {
+  before = i.before;
+  item = i.item;
+  after = i.after;
+  encoding = i.encoding;
+  rest = i.rest;
+  is = i.is;
+  written = i.written;
+  joins = i.joins;
+  refused = dynamic_is g i.item g.meta (room - length i.encoding) i.rest e dynamic i.refused;
+}
 
 module _ {S K V : Type 0} {put : S → List ℕ → S} {room : S → ℕ} (g : WriteGrammar V) (vs : List V) {old new : WriterState put room K} where
   pub windowed_items_wrote : Wrote (items_write g) old new vs → Wrote (items_write (windowed_write g)) old new vs

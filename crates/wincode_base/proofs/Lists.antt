@@ -4,10 +4,10 @@ use Rattle.std.proofs.lemmas.List.{length-map}
 use Rattle.wincode_io.specs.Writers.{WriterState, WriterLaws}
 use Rattle.wincode_base.specs.Grammar.{WriteGrammar, WriteLaws}
 use Rattle.wincode_base.specs.Lengths.{Scheme, HasEncoding, encoding_len, length_write, LengthSizeRefused}
-use Rattle.wincode_base.specs.Lists.{items_write, parts_write, list_write, SizesRefused}
+use Rattle.wincode_base.specs.Lists.{items_write, each_write, parts_write, list_write, SizesRefused}
 use Rattle.wincode_base.specs.Outcomes.{Wrote, WriteRefused, Stopped, SizeRefused}
 use Rattle.wincode_base.specs.PairSizeLaws.{unfit_first, unfit_second}
-use Rattle.wincode_base.specs.WriteSequences.{items_wrote_none, items_wrote_more, items_unwritten, items_halted, list_halted_first, list_halted_second, list_wrote, list_unwritten_first, list_unwritten_second}
+use Rattle.wincode_base.specs.WriteSequences.{items_wrote_none, items_wrote_more, items_unwritten, each_halted, items_halted, list_halted_first, list_halted_second, list_wrote, list_unwritten_first, list_unwritten_second}
 use Rattle.wincode_base.specs.declared.error.WriteError.{WriteError}
 use Rattle.wincode_io.specs.Joins.{Each, total}
 use Rattle.wincode_io.specs.JoinLaws.{map_more, map_parted, each_map_at, total_within}
@@ -28,6 +28,9 @@ module _ {A V S K : Type 0} (xs : List A) (i : ℕ) (x : A) (h : i < length xs) 
   items_stopped {r} w u =
       let P : List V → Type 0 = λ vs. WriteRefused (items_write g) old new vs r in
       subst P (sym (map_parted xs i x h e f)) (items_unwritten laws l (map f (take i xs)) (f x) (map f (drop (suc i) xs)) w u)
+
+  pub each_place : {r : WriteError} → Wrote (items_write g) old mid (map f (take i xs)) → Stopped g mid new (f x) r → Stopped (each_write g) old new (map f xs) r
+  each_place {r} w s = each_halted laws l (map f (take i xs)) (f x) (map f (drop (suc i) xs)) (map f xs) (map_parted xs i x h e f) w s
 
   pub items_place : {r : WriteError} → Wrote (items_write g) old mid (map f (take i xs)) → Stopped g mid new (f x) r → Stopped (items_write g) old new (map f xs) r
   items_place {r} w s = items_halted laws l (map f (take i xs)) (f x) (map f (drop (suc i) xs)) (map f xs) (map_parted xs i x h e f) w s

@@ -1,5 +1,5 @@
 -- Items of one size together: reading and writing them through one window.
-use Rattle.std.proofs.Common.{◌≡◌, ◌∙◌, sym, ap, subst, ℕ, ◌+◌, ◌*◌, ◌<◌, ◌≤◌, ◌^◌, Bool, true, false, List, [], ◌∷◌, ◌++◌, length, zero, suc, refl, arith, Some, None, IsTrue, append-nil, length-append, true≢false, cond, nat_lt, inl, inr, ◌⊎◌}
+use Rattle.std.proofs.Common.{◌≡◌, ◌∙◌, sym, ap, subst, ℕ, ◌+◌, ◌*◌, ◌<◌, ◌≤◌, ◌^◌, Bool, true, false, List, [], ◌∷◌, ◌++◌, length, zero, suc, refl, arith, Some, None, IsTrue, append-nil, length-append, true≢false, cond, nat_lt, inl, inr, ◌⊎◌, Bor}
 use Rattle.std.specs.Prelude.{Option}
 use Rattle.std.specs.Option.{is_some}
 use Rattle.std.specs.Borrow.{GName}
@@ -15,7 +15,7 @@ use Rattle.wincode_base.specs.InWindow.{WindowReadRefused}
 use Rattle.wincode_base.specs.LeafLaws.{same_front}
 use Rattle.wincode_base.specs.Lengths.{Scheme, HasEncoding, LengthSizeRefused, encoding_len}
 use Rattle.wincode_base.specs.Lists.{parts_write, list_write_of, list_bytes, PartsWriteRefused, ListWriteRefused, WholeWriteRefused, InnerWriteRefused, SpanWriteRefused, ItemsReadRefused, RunReadRefused}
-use Rattle.wincode_base.specs.Outcomes.{Gives, ReadRefused, Wrote, WriteRefused, Stopped, WriteDue, IsAble, IsOfValueAlone}
+use Rattle.wincode_base.specs.Outcomes.{Gives, ReadRefused, Wrote, WriteRefused, Stopped, WriteDue, IsAble, IsOfValueAlone, past_usize}
 use Rattle.wincode_base.specs.ItemSizes.{item_size, is_known, run_size, behind_size, IsReadItemSize, IsWriteItemSize}
 use Rattle.wincode_base.specs.WriteSequences.{same_trans, wrote_map, unwritten_map, stopped_map, nothing_stopped, piece_denied}
 use Rattle.wincode_base.specs.declared.error.ReadError.{ReadError}
@@ -110,10 +110,10 @@ module _ {V : Type 0} (g : ReadGrammar V) (n : ℕ) where
   stays_here s = record { kept = record { lends = refl; never_fails = refl; is_known = refl }; rest = λ t. refl; ready = omega arith; place = refl }
 
   -- they are past `usize::MAX` together
-  pub run_long : (size : ItemSize) → IsTrue (is_known size) → run_size n size ≡ None → (s : ReaderState) (e : ReadError) (x : _) → e ≡ reading.LengthEncodingOverflow x → RunReadRefused n size g s s e
-  run_long (Bytes k) known h s e x is = rw h (rw is (stays_here s))
-  run_long Vast known h s e x is = rw h (rw is (stays_here s))
-  run_long Unknown known h s e x is = absurd (true≢false (sym known))
+  pub run_long : (size : ItemSize) → IsTrue (is_known size) → run_size n size ≡ None → (s : ReaderState) (e : ReadError) (x : Bor (List ℕ)) → x.now ≡ past_usize → e ≡ reading.LengthEncodingOverflow x → RunReadRefused n size g s s e
+  run_long (Bytes k) known h s e x text is = rw h (rw is (stays_here s, text))
+  run_long Vast known h s e x text is = rw h (rw is (stays_here s, text))
+  run_long Unknown known h s e x text is = absurd (true≢false (sym known))
 
   pub too_long : (size : ItemSize) → IsTrue (is_known size) → IsReadItemSize g size → run_size n size ≡ None → (borrow : ℕ) (s : ReaderState) (e : ReadError) (x : _) → e ≡ reading.LengthEncodingOverflow x → ReadRefused (AreItems n g.reads) borrow false s s e
   too_long size known h none borrow s e x is = rw is (record {

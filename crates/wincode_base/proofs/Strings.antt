@@ -15,7 +15,7 @@ use Rattle.wincode_base.specs.LeafLaws.{same_front}
 use Rattle.wincode_io.specs.Numbers.{le}
 use Rattle.wincode_io.specs.NumberLaws.{length-le}
 use Rattle.wincode_base.specs.Pairs.{pair_write}
-use Rattle.wincode_base.specs.Strings.{char_read, announced, CharReadRefusedFor, CharReadRefused, str_read, str_write, TextWriteRefused, IsStrBytes, StrBytesReadRefused, char_write}
+use Rattle.wincode_base.specs.Strings.{char_read, announced, CharReadRefusedFor, CharReadRefused, str_read, str_write, StrWriteRefused, IsStrBytes, StrBytesReadRefused, char_write}
 use Rattle.wincode_base.specs.StringLaws.{str_then, then_encoding}
 use Rattle.wincode_base.specs.Sequences.{Then, refuses_map, then_first, then_second, gives_map, then_gives}
 use Rattle.wincode_base.specs.WriteSequences as sequence
@@ -317,7 +317,7 @@ two_size : (prealloc : ℕ) (v : List ℕ) → length v < 2 ^ 64 → (str_write 
 two_size prealloc v small = ap (λ n. n + length v) (length_size (length v) small)
 
 -- the eight bytes of the length were refused
-eight_refused : (n : ℕ) → n < 2 ^ 64 → (v : List ℕ) (room : ℕ) (added : List ℕ) (e : WriteError) → LengthWriteRefused (bincode preallocation_limit) n room added e → TextWriteRefused v room added e
+eight_refused : (n : ℕ) → n < 2 ^ 64 → (v : List ℕ) (room : ℕ) (added : List ℕ) (e : WriteError) → LengthWriteRefused (bincode preallocation_limit) n room added e → StrWriteRefused v room added e
 eight_refused n small v room added e (inl d) = inl (subst (λ k. PieceWriteRefused k room added e) (sym (length_size n small)) d.1)
 eight_refused n small v room added e (inr d) = absurd (d.1.0 (le 8 n, bincode_encoding preallocation_limit n small))
 
@@ -334,7 +334,7 @@ piece_nothing n room added (writing.Io writer.OutOfMemory) d = d
 piece_nothing n room added _ d = absurd d
 
 -- behind the length, the bytes were refused
-behind_length : (v : List ℕ) (n : ℕ) → n ≡ length v → (encoding : List ℕ) → encoding ≡ le 8 n → (room : ℕ) (added : List ℕ) (e : WriteError) → PieceWriteRefused (length v) (room - length encoding) added e → TextWriteRefused v room (encoding ++ added) e
+behind_length : (v : List ℕ) (n : ℕ) → n ≡ length v → (encoding : List ℕ) → encoding ≡ le 8 n → (room : ℕ) (added : List ℕ) (e : WriteError) → PieceWriteRefused (length v) (room - length encoding) added e → StrWriteRefused v room (encoding ++ added) e
 behind_length v n is encoding t room added e d =
     let none = piece_nothing (length v) (room - length encoding) added e d in
     let eight : length encoding ≡ 8 = ap length t ∙ length-le 8 n in

@@ -269,20 +269,10 @@ module _ {X : Type 0} {is_valid : X → Type 0} {s : ℕ} {form : X → List ℕ
     pub forms_unwritten : WriterLaws put room → (x : IoWriteError) → BytesWriteRefused (length b) old new x → WriteRefused Forms old new (map (λ v. v) (values value s n b)) (writing.Io x)
     forms_unwritten laws x d = encoding_unwritten Forms (map (λ v. v) (values value s n b)) b (joined n b all e) (e ∙ sym (forms_size n b)) laws old new x d
 
-    -- forms of more bytes than there can be are none
-    pub forms_halted : length b < 2 ^ 64 → WriterLaws put room → (x : IoWriteError) → BytesWriteRefused (length b) old new x → Stopped Forms old new (map (λ v. v) (values value s n b)) (writing.Io x)
-    forms_halted fits laws x d = nothing_stopped laws old new (writing.Io x) d.0.content
-        (λ dynamic.
-        let none = few_vast n s (vast_form s any dynamic) (omega (arith, e, fits)) in
-        let empty : length b ≡ 0 = omega (arith, e ∙ ap (λ m. m * s) none) in
-        let same : room old.content ≡ room old.content - 0 = omega arith in
-        inr (record {
-          before = [];
-          after = [];
-          is = same_items (values value s n b) ∙ no_items (values value s n b) (length-values value s n b ∙ none);
-          written = refl;
-          refused = subst (λ k. PieceWriteRefused k (room old.content - 0) [] (writing.Io x)) empty (subst (λ r. PieceWriteRefused (length b) r [] (writing.Io x)) same (piece_denied (length b) old new x d));
-        }))
+    -- there are some, so that one has no more bytes than there can be
+    pub forms_halted : 0 < n → length b < 2 ^ 64 → WriterLaws put room → (x : IoWriteError) → BytesWriteRefused (length b) old new x → Stopped Forms old new (map (λ v. v) (values value s n b)) (writing.Io x)
+    forms_halted some fits laws x d = nothing_stopped laws old new (writing.Io x) d.0.content
+        (λ dynamic. let none = few_vast n s (vast_form s any dynamic) (omega (arith, e, fits)) in absurd (omega (arith, none, some)))
 
 module _ {X : Type 0} (is_valid : X → Type 0) (s : ℕ) (form : X → List ℕ) (any : Bool) (p q : ℕ) where
   abbrev Listed : ℕ → WriteGrammar (List X)
@@ -296,10 +286,8 @@ module _ {X : Type 0} (is_valid : X → Type 0) (s : ℕ) (form : X → List ℕ
       unwritten_map (Listed p) (Listed q) vs vs (λ c. c) refl (λ b w. w) (subst P (same_items vs) u)
 
   items_alike : (vs : List X) (room : ℕ) (added : List ℕ) (e : WriteError) → ItemsWriteRefused (form_write is_valid s form any p) vs room added e → ItemsWriteRefused (form_write is_valid s form any q) vs room added e
-  items_alike vs room added e d = λ dynamic. elim (d dynamic) [
-    | inl i ↦ inl (record { before = i.before; item = i.item; after = i.after; encoding = i.encoding; rest = i.rest; is = i.is; written = i.written; joins = i.joins; refused = i.refused })
-    | inr n ↦ inr (record { before = n.before; after = n.after; is = n.is; written = n.written; refused = n.refused })
-  ]
+  items_alike vs room added e d = λ dynamic. let i = d dynamic in
+      record { before = i.before; item = i.item; after = i.after; encoding = i.encoding; rest = i.rest; is = i.is; written = i.written; joins = i.joins; refused = i.refused }
 
   abbrev Parts : ℕ → WriteGrammar (List X)
   Parts prealloc = parts_write (bincode byte_limit) 16 (form_write is_valid s form any prealloc)

@@ -43,47 +43,34 @@ both see xs ys all e Q q = subst Q (sym (map-append see xs ys) ∙ ap (map see) 
 module _ {V : Type 0} (g : WriteGrammar V) (us vs : List V) where
   -- the first run was refused
   refused_front : (room : ℕ) (added : List ℕ) (e : WriteError) → ItemsWriteRefused g us room added e → ItemsWriteRefused g (us ++ vs) room added e
-  refused_front room added e d = λ dynamic. elim (d dynamic) [
-    | inl i ↦ inl (record {
-      before = i.before;
-      item = i.item;
-      after = i.after ++ vs;
-      encoding = i.encoding;
-      rest = i.rest;
-      is = ap (λ t. t ++ vs) i.is ∙ append_assoc i.before (i.item ∷ i.after) vs;
-      written = i.written;
-      joins = i.joins;
-      refused = i.refused;
-    })
-    | inr n ↦ inr (record { before = n.before; after = n.after ++ vs; is = ap (λ t. t ++ vs) n.is ∙ append_assoc n.before n.after vs; written = n.written; refused = n.refused })
-  ]
+  refused_front room added e d = λ dynamic. let i = d dynamic in record {
+    before = i.before;
+    item = i.item;
+    after = i.after ++ vs;
+    encoding = i.encoding;
+    rest = i.rest;
+    is = ap (λ t. t ++ vs) i.is ∙ append_assoc i.before (i.item ∷ i.after) vs;
+    written = i.written;
+    joins = i.joins;
+    refused = i.refused;
+  }
 
   -- behind the encoding of the first, the second was refused
   refused_behind : (encoding : List ℕ) → Joined g.writes us encoding → (room : ℕ) (added : List ℕ) (e : WriteError) → ItemsWriteRefused g vs (room - length encoding) added e → ItemsWriteRefused g (us ++ vs) room (encoding ++ added) e
-  refused_behind encoding j room added e d = λ dynamic. elim (d dynamic) [
-    | inl i ↦
-        let less : room - length encoding - length i.encoding ≡ room - length (encoding ++ i.encoding) = omega (arith, length-append encoding i.encoding) in
-        inl (record {
-          before = us ++ i.before;
-          item = i.item;
-          after = i.after;
-          encoding = encoding ++ i.encoding;
-          rest = i.rest;
-          is = ap (λ t. us ++ t) i.is ∙ sym (append_assoc us i.before (i.item ∷ i.after));
-          written = joined_append g.writes us i.before encoding i.encoding j i.written;
-          joins = ap (λ t. encoding ++ t) i.joins ∙ sym (append_assoc encoding i.encoding i.rest);
-          refused = subst (λ k. g.refused i.item k i.rest e) less i.refused;
-        })
-    | inr n ↦
-        let less : room - length encoding - length added ≡ room - length (encoding ++ added) = omega (arith, length-append encoding added) in
-        inr (record {
-          before = us ++ n.before;
-          after = n.after;
-          is = ap (λ t. us ++ t) n.is ∙ sym (append_assoc us n.before n.after);
-          written = joined_append g.writes us n.before encoding added j n.written;
-          refused = subst (λ k. PieceWriteRefused 0 k [] e) less n.refused;
-        })
-  ]
+  refused_behind encoding j room added e d = λ dynamic.
+      let i = d dynamic in
+      let less : room - length encoding - length i.encoding ≡ room - length (encoding ++ i.encoding) = omega (arith, length-append encoding i.encoding) in
+      record {
+        before = us ++ i.before;
+        item = i.item;
+        after = i.after;
+        encoding = encoding ++ i.encoding;
+        rest = i.rest;
+        is = ap (λ t. us ++ t) i.is ∙ sym (append_assoc us i.before (i.item ∷ i.after));
+        written = joined_append g.writes us i.before encoding i.encoding j i.written;
+        joins = ap (λ t. encoding ++ t) i.joins ∙ sym (append_assoc encoding i.encoding i.rest);
+        refused = subst (λ k. g.refused i.item k i.rest e) less i.refused;
+      }
 
 module _ {S K V E : Type 0} {put : S → List ℕ → S} {room : S → ℕ} (laws : WriterLaws put room) {g : WriteGrammar V} {P : E → Type 0} {see : E → V} (l : WriteLaws P see g) where
   pub walk_more : {old cur new : WriterState put room K} {all rest left : List E} {e : E} → WritesSoFar g see P old cur all left → left ≡ e ∷ rest → Wrote g cur new (see e) → P e → WritesSoFar g see P old new all rest

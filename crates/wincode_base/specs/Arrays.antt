@@ -1,12 +1,12 @@
 -- Arrays: so many encodings joined, without a length.
 use Rattle.std.specs.Prelude.{◌≡◌, ℕ, ◌*◌, ◌^◌, List, length, min, max, nat_lt, if◌then◌else◌}
 use Rattle.wincode_io.specs.Writers.{byte_limit}
-use Rattle.wincode_base.specs.Grammar.{ReadGrammar, WriteGrammar}
-use Rattle.wincode_base.specs.Lists.{ItemsReadRefused}
+use Rattle.wincode_base.specs.Grammar.{ReadGrammar, WriteGrammar, WriteRefusal}
+use Rattle.wincode_base.specs.Lists.{ItemReadRefused}
 use Rattle.wincode_base.specs.declared.meta.TypeMeta.{TypeMeta}
 use Rattle.wincode_base.specs.declared.meta.TypeMeta.TheVariants.{Static, Dynamic}
 use Rattle.wincode_io.specs.Joins.{Joined, Each, total, AreItems}
-use Rattle.wincode_base.specs.Lists.{ItemsWriteRefused}
+use Rattle.wincode_base.specs.Lists.{ItemWriteRefused}
 
 -- n items of one size have n times it, where that is at most `usize::MAX`
 abbrev pub times_meta : ℕ → TypeMeta → TypeMeta
@@ -29,8 +29,12 @@ array_read n g = record {
   prealloc = times_prealloc n g.prealloc;
   borrow = g.borrow;
   takes_no_memory = g.takes_no_memory;
-  refused = ItemsReadRefused n g;
+  refused = ItemReadRefused n g;
 }
+
+-- an array of no one size was refused at an item
+abbrev pub ArrayWriteRefused : {V : Type 0} → ℕ → WriteGrammar V → WriteRefusal (List V)
+ArrayWriteRefused n g vs room added e = times_meta n g.meta ≡ Dynamic → ItemWriteRefused g vs room added e
 
 -- Writing an array: an encoding of each of n items, one after another, with no length before them.
 abbrev pub array_write : {V : Type 0} → ℕ → WriteGrammar V → WriteGrammar (List V)
@@ -42,5 +46,5 @@ array_write n g = record {
   meta = times_meta n g.meta;
   prealloc = times_prealloc n g.prealloc;
   builtin = g.builtin;
-  refused = ItemsWriteRefused g;
+  refused = ArrayWriteRefused n g;
 }

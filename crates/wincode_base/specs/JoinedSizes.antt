@@ -3,7 +3,7 @@ use Rattle.std.proofs.Common.{◌≡◌, ◌⊎◌, inl, inr, ℕ, ◌+◌, ◌^
 use Rattle.std.specs.Prelude.{IfOk, IfErr}
 use Rattle.wincode_base.specs.Grammar.{WriteGrammar}
 use Rattle.wincode_base.specs.Pairs.{pair_write}
-use Rattle.wincode_base.specs.Outcomes.{IsSized, SizeRefused, IsLengthOverflow}
+use Rattle.wincode_base.specs.Outcomes.{IsSized, SizeRefused, IsOverflow, past_usize}
 use Rattle.wincode_base.specs.PairSizeLaws.{size_first, size_second, size_both, size_over}
 use Rattle.wincode_base.specs.declared.error.WriteError.{WriteError}
 
@@ -14,7 +14,7 @@ JoinedSize first second n = (a : ℕ) × (b : ℕ) × (first ≡ Ok a) × (secon
 -- the first was refused, or it is there and the second was, or both are there and their sum is past `usize::MAX`
 abbrev pub JoinedSizeRefused : Result ℕ WriteError → Result ℕ WriteError → WriteError → Type 0
 JoinedSizeRefused first second e = (first ≡ Err e) ⊎ ((a : ℕ) × (first ≡ Ok a) × (second ≡ Err e))
-    ⊎ ((a : ℕ) × (b : ℕ) × (first ≡ Ok a) × (second ≡ Ok b) × (2 ^ 64 ≤ a + b) × IsLengthOverflow e)
+    ⊎ ((a : ℕ) × (b : ℕ) × (first ≡ Ok a) × (second ≡ Ok b) × (2 ^ 64 ≤ a + b) × IsOverflow past_usize e)
 
 module _ {V W : Type 0} (g : WriteGrammar V) (h : WriteGrammar W) (v : V) (w : W) where
   -- of two parts whose sizes are so, the sum is the size of both

@@ -1,10 +1,10 @@
 -- How the length of a list is written and read.
-use Rattle.std.specs.Prelude.{◌≡◌, ◌⊎◌, ℕ, ◌<◌, ◌≤◌, ◌^◌, ◌*◌, true, Bool, List, [], ◌++◌, length, min, Option, Some, None, nat_lt, if◌then◌else◌}
+use Rattle.std.specs.Prelude.{◌≡◌, ◌⊎◌, ℕ, ◌<◌, ◌≤◌, ◌^◌, ◌*◌, true, Bool, List, [], ◌++◌, length, min, Option, Some, None, nat_lt, if◌then◌else◌, IsTrue}
 use Rattle.wincode_io.specs.Numbers.{le}
 use Rattle.wincode_io.specs.Readers.{TakesNumber, IsShort, BytesReadRefused, nothing}
 use Rattle.wincode_io.specs.Writers.{byte_limit}
 use Rattle.wincode_base.specs.Grammar.{WriteGrammar, WriteRefusal, ReadGrammar, ReadRefusal}
-use Rattle.wincode_base.specs.Outcomes.{IsValueError, PieceWriteRefused}
+use Rattle.wincode_base.specs.Outcomes.{IsValueError, IsOverflow, past_usize, PieceWriteRefused}
 use Rattle.wincode_base.specs.declared.error.WriteError.{WriteError}
 use Rattle.wincode_base.specs.declared.error.ReadError.TheVariants as reading
 use Rattle.wincode_base.specs.declared.meta.TypeMeta.TheVariants.{Dynamic}
@@ -15,11 +15,12 @@ preallocation_limit = 4194304
 
 -- The encoding of a length, if it has one, and which lengths are read where an item counts so much. `builtin` says that a
 -- length without an encoding is refused as a length that overflows, and `refused` what is said of each refused read beyond
--- that it is due, where an item counts so much.
+-- that it is due, where an item counts so much. `overflow` is the text of that refusal, of a scheme of this crate.
 pub record Scheme : Type 1 where
   pub encoding : ℕ → Option (List ℕ)
   pub admits : ℕ → ℕ → Type 0
   pub builtin : Bool
+  pub overflow : List ℕ
   pub refused : ℕ → ReadRefusal
 
 -- the length n can be written
@@ -35,9 +36,9 @@ encoding_len (Some b) = length b
 abbrev pub IsLength : Scheme → ℕ → List ℕ → ℕ → Type 0
 IsLength s p b n = s.admits n p × (s.encoding n ≡ Some b)
 
--- the length n was refused, which has no encoding
+-- the length n was refused, which has no encoding; a scheme of this crate says so by its text
 abbrev pub LengthSizeRefused : Scheme → ℕ → WriteError → Type 0
-LengthSizeRefused s n e = (HasEncoding s n → ⊥) × IsValueError s.builtin e
+LengthSizeRefused s n e = (HasEncoding s n → ⊥) × IsValueError s.builtin e × (IsTrue s.builtin → IsOverflow s.overflow e)
 
 -- A length was refused: it has an encoding, which is written in one piece, and that was refused; or it has none, and nothing
 -- was added.
@@ -79,5 +80,6 @@ bincode limit = record {
   encoding = λ n. if nat_lt n (2 ^ 64) then Some (le 8 n) else None;
   admits = λ n p. (n < 2 ^ 64) × (n * p ≤ limit);
   builtin = true;
+  overflow = past_usize;
   refused = LengthReadRefused limit;
 }

@@ -4,7 +4,7 @@ use Rattle.wincode_io.specs.Readers.{ReaderState, Stays}
 use Rattle.wincode_io.specs.Joins.{Joined, Each, total, AreItems}
 use Rattle.wincode_base.specs.Grammar.{ReadGrammar, WriteGrammar, WriteRefusal, ReadRefusal}
 use Rattle.wincode_base.specs.Lengths.{Scheme, HasEncoding, LengthSizeRefused, encoding_len, IsLength, length_write, length_read}
-use Rattle.wincode_base.specs.Outcomes.{Gives, ReadRefused, SchemaReadRefused, IsValueError, IsLengthOverflow, PieceWriteRefused, Adds}
+use Rattle.wincode_base.specs.Outcomes.{Gives, ReadRefused, SchemaReadRefused, IsValueError, IsOverflow, past_usize, PieceWriteRefused, Adds}
 use Rattle.wincode_base.specs.InWindow.{WindowReadRefused}
 use Rattle.wincode_base.specs.Pairs.{PairWriteRefused}
 use Rattle.wincode_base.specs.ItemSizes.{item_size, run_size, behind_size}
@@ -27,17 +27,9 @@ pub record ItemWriteRefused {V : Type 0} (g : WriteGrammar V) (vs : List V) (roo
   pub joins : added ≡ encoding ++ rest
   pub refused : g.refused item (room - length encoding) rest e
 
--- Of items one after another some were written, and then no bytes were refused, for the writer's memory or by its device.
-pub record NoneWriteRefused {V : Type 0} (g : WriteGrammar V) (vs : List V) (room : ℕ) (added : List ℕ) (e : WriteError) : Type 0 where
-  pub before : List V
-  pub after : List V
-  pub is : vs ≡ before ++ after
-  pub written : Joined g.writes before added
-  pub refused : PieceWriteRefused 0 (room - length added) [] e
-
 -- So, of items that may differ in size. Items of one size may be written at once.
 abbrev pub ItemsWriteRefused : {V : Type 0} → WriteGrammar V → WriteRefusal (List V)
-ItemsWriteRefused g vs room added e = g.meta ≡ Dynamic → ItemWriteRefused g vs room added e ⊎ NoneWriteRefused g vs room added e
+ItemsWriteRefused g vs room added e = g.meta ≡ Dynamic → ItemWriteRefused g vs room added e
 
 -- items without their length, as something to write
 abbrev pub items_write : {V : Type 0} → WriteGrammar V → WriteGrammar (List V)
@@ -50,6 +42,19 @@ items_write g = record {
   prealloc = 1;
   builtin = g.builtin;
   refused = ItemsWriteRefused g;
+}
+
+-- the same, each item by itself, whatever is announced of their size
+abbrev pub each_write : {V : Type 0} → WriteGrammar V → WriteGrammar (List V)
+each_write g = record {
+  writes = λ vs b. Joined g.writes vs b;
+  can = λ vs. Each g.can vs;
+  size = λ vs. total g.size vs;
+  fits = λ vs. Each g.fits vs;
+  meta = Dynamic;
+  prealloc = 1;
+  builtin = g.builtin;
+  refused = ItemWriteRefused g;
 }
 
 -- b is the encoding of the length of vs, and then their encodings joined
@@ -84,7 +89,7 @@ list_bytes s size n = behind_size (encoding_len (s.encoding n)) (run_size n size
 -- What goes through one window of so many bytes was refused: the room for them was, or what is inside it; where they are
 -- past `usize::MAX`, nothing was added.
 abbrev pub SpanWriteRefused : Option ℕ → (List ℕ → WriteError → Type 0) → ℕ → List ℕ → WriteError → Type 0
-SpanWriteRefused None inside room added e = (added ≡ []) × IsLengthOverflow e
+SpanWriteRefused None inside room added e = (added ≡ []) × IsOverflow past_usize e
 SpanWriteRefused (Some n) inside room added e = PieceWriteRefused n room added e ⊎ inside added e
 
 -- Some item can't be written, and the list was refused in some room as one without a window.
@@ -138,9 +143,9 @@ pub record ItemReadRefused {V : Type 0} (n : ℕ) (g : ReadGrammar V) (old new :
 abbrev pub ItemsReadRefused : {V : Type 0} → ℕ → ReadGrammar V → ReadRefusal
 ItemsReadRefused n g old new e = g.meta ≡ Dynamic → ItemReadRefused n g old new e
 
--- the reader stays, and a length overflows
+-- the reader stays, and a size overflows
 abbrev pub TotalReadRefused : ReadRefusal
-TotalReadRefused old new (reading.LengthEncodingOverflow s) = Stays old new
+TotalReadRefused old new (reading.LengthEncodingOverflow t) = Stays old new × (t.now ≡ past_usize)
 TotalReadRefused old new _ = ⊥
 
 -- So many bytes go through one window of them; where they are past `usize::MAX`, none is taken.

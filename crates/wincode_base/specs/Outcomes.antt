@@ -1,5 +1,5 @@
 -- What reading and writing a value answer, said once for lengths, leaves and compounds.
-use Rattle.std.specs.Prelude.{⊤, ◌≡◌, ◌⊎◌, ℕ, ◌^◌, ◌<◌, ◌≤◌, min, Bool, false, ◌&&◌, List, [], ◌++◌, length, map, IsTrue, Option, Result, OnOk, IfErr, OnErr, IfOk}
+use Rattle.std.specs.Prelude.{⊤, ◌≡◌, ◌⊎◌, ℕ, ◌^◌, ◌<◌, ◌≤◌, min, Bool, false, ◌&&◌, List, [], ◌++◌, length, map, codes, IsTrue, Option, Result, OnOk, IfErr, OnErr, IfOk}
 use Rattle.std.specs.Option.{IsSomeAnd}
 use Rattle.wincode_io.specs.Joins.{AreItems}
 use Rattle.wincode_io.specs.Readers.{ReaderState, Kept, IsOnward, IsShort, BytesReadRefused}
@@ -192,10 +192,22 @@ abbrev pub SerializeIntoRefused : {S K V : Type 0} {put : S → List ℕ → S} 
 SerializeIntoRefused buffers g old new v e = (WriteRefused g old new v e × Stopped g old new v e)
     ⊎ (Wrote g old new v × IsTrue buffers × IsReason new e)
 
--- a length or a size that overflows
+-- the text of an overflow of a size past `usize::MAX`
+abbrev pub past_usize : List ℕ
+past_usize = codes "usize::MAX"
+
+-- the text of an overflow of a short length
+abbrev pub past_u16 : List ℕ
+past_u16 = codes "u16::MAX"
+
+-- an overflow with this text
+abbrev pub IsOverflow : List ℕ → WriteError → Type 0
+IsOverflow text (writing.LengthEncodingOverflow t) = t.now ≡ text
+IsOverflow text _ = ⊥
+
+-- a size or a length that overflows, of this crate's own schemas
 abbrev pub IsLengthOverflow : WriteError → Type 0
-IsLengthOverflow (writing.LengthEncodingOverflow s) = ⊤
-IsLengthOverflow _ = ⊥
+IsLengthOverflow e = IsOverflow past_usize e ⊎ IsOverflow past_u16 e
 
 -- the error of a value alone: neither want of memory nor a device is behind it
 abbrev pub IsOfValueAlone : WriteError → Type 0

@@ -1,8 +1,8 @@
 -- How the sizes of two parts, or their refusals, make that of both.
-use Rattle.std.proofs.Common.{◌≡◌, ◌∙◌, ap, ℕ, ◌+◌, ◌≤◌, ◌^◌, ◌&&◌, Bool, true, false, arith, refl, IsTrue}
+use Rattle.std.proofs.Common.{◌≡◌, ◌∙◌, ap, ℕ, ◌+◌, ◌≤◌, ◌^◌, ◌&&◌, Bool, true, false, arith, refl, inl, IsTrue}
 use Rattle.wincode_base.specs.Grammar.{WriteGrammar}
 use Rattle.wincode_base.specs.Pairs.{pair_write}
-use Rattle.wincode_base.specs.Outcomes.{IsSized, SizeRefused, IsValueError, IsLengthOverflow}
+use Rattle.wincode_base.specs.Outcomes.{IsSized, SizeRefused, IsValueError, IsOverflow, past_usize}
 use Rattle.wincode_base.specs.declared.error.WriteError.{WriteError}
 use Rattle.wincode_base.specs.declared.error.WriteError.TheVariants.{LengthEncodingOverflow}
 
@@ -22,8 +22,8 @@ pub unfit_second : (a b : Bool) (e : WriteError) → IsValueError b e → IsValu
 unfit_second a b e d = (d.0, λ builtin. d.1 (builtin_second a b builtin))
 
 -- an overflow is the error of a value alone
-pub overflow_unfit : (builtin : Bool) (e : WriteError) → IsLengthOverflow e → IsValueError builtin e
-overflow_unfit builtin (LengthEncodingOverflow s) o = (tt, λ x. tt)
+pub overflow_unfit : (builtin : Bool) (e : WriteError) → IsOverflow past_usize e → IsValueError builtin e
+overflow_unfit builtin (LengthEncodingOverflow s) o = (tt, λ x. inl o)
 overflow_unfit builtin _ o = absurd o
 
 module _ {V W : Type 0} (g : WriteGrammar V) (h : WriteGrammar W) (v : V) (w : W) (e : WriteError) where
@@ -41,5 +41,5 @@ module _ {V W : Type 0} (g : WriteGrammar V) (h : WriteGrammar W) (v : V) (w : W
   size_both k e = ((first.0, second.0), e ∙ ap (λ i. i + n) first.1 ∙ ap (λ i. g.size v + i) second.1)
 
   -- their sum is past `usize::MAX`
-  pub size_over : (e : WriteError) → (2 ^ 64 ≤ m + n) × IsLengthOverflow e → SizeRefused (pair_write g h) (v, w) e
+  pub size_over : (e : WriteError) → (2 ^ 64 ≤ m + n) × IsOverflow past_usize e → SizeRefused (pair_write g h) (v, w) e
   size_over e d = (λ c fits. absurd (omega (arith, d.0, fits, first.1, second.1)), overflow_unfit (g.builtin && h.builtin) e d.1)

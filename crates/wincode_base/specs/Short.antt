@@ -4,7 +4,7 @@ use Rattle.wincode_io.specs.Readers.{Stays, BytesReadRefused, nothing}
 use Rattle.wincode_io.specs.ShortNumbers.{short_encoding}
 use Rattle.wincode_base.specs.Grammar.{ReadGrammar, WriteGrammar, ReadRefusal}
 use Rattle.wincode_base.specs.Lengths.{Scheme}
-use Rattle.wincode_base.specs.Outcomes.{PieceWriteRefused}
+use Rattle.wincode_base.specs.Outcomes.{PieceWriteRefused, past_u16}
 use Rattle.wincode_base.specs.declared.meta.TypeMeta.TheVariants.{Dynamic}
 use Rattle.wincode_base.specs.declared.error.ReadError.TheVariants as reading
 
@@ -12,7 +12,7 @@ use Rattle.wincode_base.specs.declared.error.ReadError.TheVariants as reading
 -- three; or no short number stands in front.
 abbrev pub ShortReadRefused : ReadRefusal
 ShortReadRefused old new (reading.Io e) = BytesReadRefused ⊥ ⊥ 3 old new e
-ShortReadRefused old new (reading.LengthEncodingOverflow s) = Stays old new
+ShortReadRefused old new (reading.LengthEncodingOverflow t) = Stays old new × (t.now ≡ past_u16)
 ShortReadRefused old new _ = ⊥
 
 -- Reading a short number as a value.
@@ -45,5 +45,6 @@ short_scheme = record {
   encoding = λ n. if nat_lt n (2 ^ 16) then Some (short_encoding n) else None;
   admits = λ n p. n < 2 ^ 16;
   builtin = true;
+  overflow = past_u16;
   refused = λ p. ShortReadRefused;
 }

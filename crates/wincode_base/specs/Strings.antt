@@ -89,8 +89,8 @@ str_read prealloc borrow takes_no_memory = record {
 }
 
 -- the length of a text was refused, or, behind it, its bytes, each in one piece
-abbrev pub TextWriteRefused : WriteRefusal (List ℕ)
-TextWriteRefused v room added e = PieceWriteRefused 8 room added e
+abbrev pub StrWriteRefused : WriteRefusal (List ℕ)
+StrWriteRefused v room added e = PieceWriteRefused 8 room added e
     ⊎ ((added ≡ le 8 (length v)) × PieceWriteRefused (length v) (room - 8) [] e)
 
 -- The same, written: at any length, and within the limits of reading up to 4194304 bytes.
@@ -103,7 +103,7 @@ str_write prealloc = record {
   meta = Dynamic;
   prealloc = prealloc;
   builtin = true;
-  refused = TextWriteRefused;
+  refused = StrWriteRefused;
 }
 
 -- the n bytes of a text, without its length

@@ -7,7 +7,7 @@ use Rattle.wincode_io.specs.Writers.{byte_limit}
 use Rattle.wincode_base.specs.Grammar.{ReadGrammar, WriteGrammar, WriteRefusal, ReadRefusal}
 use Rattle.wincode_base.specs.Lengths.{bincode}
 use Rattle.wincode_base.specs.Lists.{reads_list, list_write}
-use Rattle.wincode_base.specs.Outcomes.{PieceReadRefused, PieceWriteRefused}
+use Rattle.wincode_base.specs.Outcomes.{PieceReadRefused, PieceWriteRefused, past_usize}
 use Rattle.wincode_base.specs.declared.meta.TypeMeta.{TypeMeta}
 use Rattle.wincode_base.specs.declared.meta.TypeMeta.TheVariants.{Static, Dynamic}
 use Rattle.wincode_base.specs.declared.error.ReadError.TheVariants as reading
@@ -27,7 +27,7 @@ ViewReadRefused borrow s old new _ = ⊥
 
 -- A form has more bytes than there can be, which many at once are refused for.
 abbrev pub VastReadRefused : ℕ → ReadRefusal
-VastReadRefused s old new (reading.LengthEncodingOverflow t) = Stays old new × (2 ^ 64 ≤ s)
+VastReadRefused s old new (reading.LengthEncodingOverflow t) = Stays old new × (2 ^ 64 ≤ s) × (t.now ≡ past_usize)
 VastReadRefused s old new _ = ⊥
 
 -- A form that no view is of was refused: by the reader, or as vast.
@@ -47,8 +47,8 @@ form_read is_valid s form any prealloc borrow refusal = record {
 }
 
 -- A form of s bytes was refused in one piece; or it has more bytes than there can be, and `usize::MAX` is named.
-abbrev pub FormWriteRefused : {X : Type 0} → ℕ → WriteRefusal X
-FormWriteRefused s v room added e = PieceWriteRefused s room added e
+abbrev pub PodWriteRefused : {X : Type 0} → ℕ → WriteRefusal X
+PodWriteRefused s v room added e = PieceWriteRefused s room added e
     ⊎ ((2 ^ 64 ≤ s) × (added ≡ []) × (e ≡ writing.Io (writer.WriteSizeLimit byte_limit)))
 
 -- s bytes, which are the form of each value of the type
@@ -61,7 +61,7 @@ form_write is_valid s form any prealloc = record {
   meta = form_meta s any;
   prealloc = prealloc;
   builtin = true;
-  refused = FormWriteRefused s;
+  refused = PodWriteRefused s;
 }
 
 -- what a form by itself counts against the limit of a list: its bytes, at least 1 and at most `usize::MAX`
@@ -82,7 +82,7 @@ view_read is_valid s form borrow = form_read is_valid s form false 8 borrow (Vie
 -- reader.
 abbrev pub LentRunReadRefused : ℕ → ℕ → ℕ → ReadRefusal
 LentRunReadRefused borrow s n old new (reading.Io e) = BytesReadRefused (IsShort (n * s) old) (old.lends < borrow) (n * s) old new e
-LentRunReadRefused borrow s n old new (reading.LengthEncodingOverflow t) = Stays old new × (2 ^ 64 ≤ n * s)
+LentRunReadRefused borrow s n old new (reading.LengthEncodingOverflow t) = Stays old new × (2 ^ 64 ≤ n * s) × (t.now ≡ past_usize)
 LentRunReadRefused borrow s n old new _ = ⊥
 
 -- A lent list of items of s bytes was refused: its number; or, once that is gone, its items.

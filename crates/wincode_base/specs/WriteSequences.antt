@@ -5,7 +5,7 @@ use Rattle.wincode_io.specs.Joins.{Joined, Each}
 use Rattle.wincode_io.specs.JoinLaws.{joined_append, each_split, each_append, total-append}
 use Rattle.wincode_base.specs.Grammar.{WriteGrammar, WriteLaws}
 use Rattle.wincode_base.specs.Lengths.{Scheme, length_write}
-use Rattle.wincode_base.specs.Lists.{items_write, parts_write}
+use Rattle.wincode_base.specs.Lists.{items_write, each_write, parts_write}
 use Rattle.wincode_base.specs.ListLaws.{items_write_laws}
 use Rattle.wincode_base.specs.LengthLaws.{length_write_laws}
 use Rattle.wincode_base.specs.Pairs.{pair_write}
@@ -182,9 +182,12 @@ module _ {S K V X : Type 0} {put : S → List ℕ → S} {room : S → ℕ} (law
       (pair_unwritten_first l (items_laws l) vs u)))
 
   -- an item was refused behind others
+  pub each_halted : {old mid new : WriterState put room K} (us : List V) (v : V) (more vs : List V) {e : WriteError} → vs ≡ us ++ (v ∷ more) → Wrote (items_write g) old mid us → Stopped g mid new v e → Stopped (each_write g) old new vs e
+  each_halted us v more vs is r s =
+      stopped_behind (items_laws l) laws g (each_write g) v vs r s (λ x. record { before = us; item = v; after = more; encoding = r.encoding; rest = s.added; is = is; written = r.is_encoding; joins = refl; refused = x })
+
   pub items_halted : {old mid new : WriterState put room K} (us : List V) (v : V) (more vs : List V) {e : WriteError} → vs ≡ us ++ (v ∷ more) → Wrote (items_write g) old mid us → Stopped g mid new v e → Stopped (items_write g) old new vs e
-  items_halted us v more vs is r s =
-      stopped_behind (items_laws l) laws g (items_write g) v vs r s (λ x dynamic. inl (record { before = us; item = v; after = more; encoding = r.encoding; rest = s.added; is = is; written = r.is_encoding; joins = refl; refused = x }))
+  items_halted us v more vs is r s = stopped_map (each_write g) (items_write g) vs vs (λ a x dynamic. x) (each_halted us v more vs is r s)
 
   module _ (s : Scheme) (count : ℕ) where
     pub list_halted_first : {old new : WriterState put room K} (vs : List V) {e : WriteError} → Stopped (length_write s) old new (length vs) e → Stopped (parts_write s count g) old new vs e

@@ -2,7 +2,7 @@
 ghost use Rattle.std.specs.Prelude.{◌≡◌, ◌+◌, ◌^◌, ◌≤◌, false, IfOk, IfErr, true, ◌<◌};
 ghost use Rattle.wincode_base.specs.Arrays.{times_meta};
 ghost use Rattle.wincode_base.specs.JoinedSizes.{JoinedSize, JoinedSizeRefused};
-ghost use Rattle.wincode_base.specs.Outcomes.{IsLengthOverflow};
+ghost use Rattle.wincode_base.specs.Outcomes.{IsOverflow, past_usize};
 ghost use Rattle.wincode_base.specs.Pairs.{pair_meta};
 ghost use Rattle.wincode_base.specs.ItemSizes.{item_size, pair_size, run_size, behind_size};
 ghost use Rattle.wincode_base.specs.Tags.{sides_meta};
@@ -119,7 +119,7 @@ pub fn joined_meta(first: TypeMeta, second: TypeMeta) -> TypeMeta
 /// The size of a part and what stands behind it.
 pub fn checked_sum(first: usize, second: usize) -> WriteResult<usize>
     ensures ok { IfOk result (λ n. n ≡ first + second) }
-    ensures err { IfErr result (λ e. (2 ^ 64 ≤ first + second) × IsLengthOverflow e) }
+    ensures err { IfErr result (λ e. (2 ^ 64 ≤ first + second) × IsOverflow past_usize e) }
 {
     match first.checked_add(second) {
         Some(size) => Ok(size),

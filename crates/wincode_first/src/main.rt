@@ -25,6 +25,8 @@ impl Shape for Order {
 
     ghost parts = { λ o. (o.id, o.paid, o.buyer, o.items) };
 
+    ghost parts_tell = { λ x y same. ap (λ p. record { id = p.0; paid = p.1; buyer = p.2; items = p.3 }) same };
+
     fn make(made_of: Self::Parts) -> Order {
         let (id, paid, buyer, items) = made_of;
         Order {

@@ -14,8 +14,8 @@ mod lists;
 mod maps;
 mod pod;
 mod short;
+mod strings;
 pub mod tags;
-mod text;
 mod tuples;
 mod views;
 

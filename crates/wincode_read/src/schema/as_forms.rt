@@ -18,7 +18,7 @@ pub(crate) fn read_all<L: Lending, R: Reader<L>, T: ZeroCopy>(
 ) -> ReadResult<()>
     ensures ok { OnOk result (Adds n (reads_form T.is_valid T.form) (λ v. v) (R.state reader.old) (R.state reader.new) into.old.items into.new.items) }
     ensures err { IfErr result (ReadRefused (AreItems n (reads_form T.is_valid T.form)) 0 false (R.state reader.old) (R.state reader.new)) }
-    ensures denied { IfErr result (BulkReadRefused (n * T.size) (R.state reader.old) (R.state reader.new)) }
+    ensures at_once { IfErr result (BulkReadRefused (n * T.size) (R.state reader.old) (R.state reader.new)) }
     ensures same { OnErr result (into.new.items ≡ into.old.items) }
 {
     let Some(total) = total_size::<T>(n) else {

@@ -2,6 +2,7 @@
 ghost use Rattle.std.proofs.Common.{lit≤};
 ghost use Rattle.std.specs.Int.{w8, w16, w32, w64, w128};
 ghost use Rattle.std.specs.Prelude.{ℕ, ℤ, ◌<◌, ◌≤◌, ◌^◌, FitsSigned, Bool, true, false, refl};
+ghost use Rattle.wincode_base.specs.AsForms.{ReadAtOnce};
 ghost use Rattle.wincode_base.specs.LeafLaws.{bool_read_laws, unit_read_laws, number_read_laws, signed_read_laws};
 ghost use Rattle.wincode_base.specs.Leaves.{number_read, signed_read, bool_read, unit_read};
 
@@ -49,7 +50,9 @@ impl<L: Lending> SchemaRead<L> for u8 {
         reader: &mut R,
         n: usize,
         into: &mut Vec<u8>,
-    ) -> ReadResult<()> {
+    ) -> ReadResult<()>
+        ensures { ReadAtOnce 1 n (number_read 1 true) (λ v. v) (R.state reader.old) (R.state reader.new) into.old.items into.new.items result }
+    {
         let bytes = reader.fill_exact(n)?;
         if add_bytes(bytes, into).is_err() {
             return Err(ReadError::OutOfMemory);
@@ -96,7 +99,9 @@ impl<L: Lending> SchemaRead<L> for u16 {
         reader: &mut R,
         n: usize,
         into: &mut Vec<u16>,
-    ) -> ReadResult<()> {
+    ) -> ReadResult<()>
+        ensures { ReadAtOnce 2 n (number_read 2 true) (λ v. v) (R.state reader.old) (R.state reader.new) into.old.items into.new.items result }
+    {
         read_all::<L, R, u16>(reader, n, into)
     }
 
@@ -138,7 +143,9 @@ impl<L: Lending> SchemaRead<L> for u32 {
         reader: &mut R,
         n: usize,
         into: &mut Vec<u32>,
-    ) -> ReadResult<()> {
+    ) -> ReadResult<()>
+        ensures { ReadAtOnce 4 n (number_read 4 true) (λ v. v) (R.state reader.old) (R.state reader.new) into.old.items into.new.items result }
+    {
         read_all::<L, R, u32>(reader, n, into)
     }
 
@@ -180,7 +187,9 @@ impl<L: Lending> SchemaRead<L> for u64 {
         reader: &mut R,
         n: usize,
         into: &mut Vec<u64>,
-    ) -> ReadResult<()> {
+    ) -> ReadResult<()>
+        ensures { ReadAtOnce 8 n (number_read 8 true) (λ v. v) (R.state reader.old) (R.state reader.new) into.old.items into.new.items result }
+    {
         read_all::<L, R, u64>(reader, n, into)
     }
 
@@ -226,7 +235,9 @@ impl<L: Lending> SchemaRead<L> for u128 {
         reader: &mut R,
         n: usize,
         into: &mut Vec<u128>,
-    ) -> ReadResult<()> {
+    ) -> ReadResult<()>
+        ensures { ReadAtOnce 16 n (number_read 16 true) (λ v. v) (R.state reader.old) (R.state reader.new) into.old.items into.new.items result }
+    {
         read_all::<L, R, u128>(reader, n, into)
     }
 
@@ -303,7 +314,9 @@ impl<L: Lending> SchemaRead<L> for i8 {
         reader: &mut R,
         n: usize,
         into: &mut Vec<i8>,
-    ) -> ReadResult<()> {
+    ) -> ReadResult<()>
+        ensures { ReadAtOnce 1 n (signed_read w8 true) (λ v. v) (R.state reader.old) (R.state reader.new) into.old.items into.new.items result }
+    {
         read_all::<L, R, i8>(reader, n, into)
     }
 
@@ -345,7 +358,9 @@ impl<L: Lending> SchemaRead<L> for i16 {
         reader: &mut R,
         n: usize,
         into: &mut Vec<i16>,
-    ) -> ReadResult<()> {
+    ) -> ReadResult<()>
+        ensures { ReadAtOnce 2 n (signed_read w16 true) (λ v. v) (R.state reader.old) (R.state reader.new) into.old.items into.new.items result }
+    {
         read_all::<L, R, i16>(reader, n, into)
     }
 
@@ -387,7 +402,9 @@ impl<L: Lending> SchemaRead<L> for i32 {
         reader: &mut R,
         n: usize,
         into: &mut Vec<i32>,
-    ) -> ReadResult<()> {
+    ) -> ReadResult<()>
+        ensures { ReadAtOnce 4 n (signed_read w32 true) (λ v. v) (R.state reader.old) (R.state reader.new) into.old.items into.new.items result }
+    {
         read_all::<L, R, i32>(reader, n, into)
     }
 
@@ -429,7 +446,9 @@ impl<L: Lending> SchemaRead<L> for i64 {
         reader: &mut R,
         n: usize,
         into: &mut Vec<i64>,
-    ) -> ReadResult<()> {
+    ) -> ReadResult<()>
+        ensures { ReadAtOnce 8 n (signed_read w64 true) (λ v. v) (R.state reader.old) (R.state reader.new) into.old.items into.new.items result }
+    {
         read_all::<L, R, i64>(reader, n, into)
     }
 
@@ -475,7 +494,9 @@ impl<L: Lending> SchemaRead<L> for i128 {
         reader: &mut R,
         n: usize,
         into: &mut Vec<i128>,
-    ) -> ReadResult<()> {
+    ) -> ReadResult<()>
+        ensures { ReadAtOnce 16 n (signed_read w128 true) (λ v. v) (R.state reader.old) (R.state reader.new) into.old.items into.new.items result }
+    {
         read_all::<L, R, i128>(reader, n, into)
     }
 

@@ -1,5 +1,6 @@
 //! The schema of a value that has a byte form.
 ghost use Rattle.std.specs.Prelude.{true};
+ghost use Rattle.wincode_base.specs.AsForms.{ReadAtOnce};
 ghost use Rattle.wincode_base.specs.Outcomes.{GetOutcome};
 ghost use Rattle.wincode_base.specs.ViewLaws.{form_prealloc_some, form_read_laws};
 ghost use Rattle.wincode_base.specs.Views.{form_prealloc, pod_read};
@@ -62,7 +63,9 @@ impl<L: Lending, T: ZeroCopy> SchemaRead<L> for Pod<T> {
         reader: &mut R,
         n: usize,
         into: &mut Vec<T>,
-    ) -> ReadResult<()> {
+    ) -> ReadResult<()>
+        ensures { ReadAtOnce T.size n (pod_read T.is_valid T.size T.form) (λ v. v) (R.state reader.old) (R.state reader.new) into.old.items into.new.items result }
+    {
         match T::form_size() {
             Some(_) => read_all::<L, R, T>(reader, n, into),
             None if n == 0 => Ok(()),

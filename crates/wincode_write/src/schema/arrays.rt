@@ -10,7 +10,7 @@ ghost use Rattle.wincode_base.specs.PairLaws.{windowed_write_laws};
 
 use crate::schema::SchemaWrite;
 use crate::schema::in_window::write_in_window;
-use crate::schema::to_items::add_sizes;
+use crate::schema::to_items::{add_sizes, write_each};
 use wincode_base::error::WriteResult;
 use wincode_base::meta::TypeMeta;
 use wincode_base::parts::Items;
@@ -37,7 +37,10 @@ impl<T: SchemaWrite, const N: usize> SchemaWrite for Items<T, N> {
     }
 
     fn write<W: Writer>(writer: &mut W, src: &[T::Src; N]) -> WriteResult<()> {
-        T::write_items::<W>(writer, src.as_slice())
+        match size_of_items(N, T::type_meta()) {
+            TypeMeta::Static { .. } => T::write_items::<W>(writer, src.as_slice()),
+            TypeMeta::Dynamic => write_each::<T, W>(writer, src.as_slice()),
+        }
     }
 
     ghost write_laws = { array_write_laws N T.is_valid T.model T.writing T.write_laws };

@@ -1,9 +1,7 @@
 //! Many values at once, as their byte forms.
-ghost use Rattle.std.specs.Prelude.{◌≡◌, map, OnErr};
+ghost use Rattle.std.specs.Prelude.{map};
 ghost use Rattle.wincode_io.specs.Joins.{Each};
-ghost use Rattle.wincode_base.specs.AsForms.{writes_form};
-ghost use Rattle.wincode_base.specs.Lists.{items_write};
-ghost use Rattle.wincode_base.specs.Outcomes.{WriteOutcome};
+ghost use Rattle.wincode_base.specs.AsForms.{writes_form, WrittenAtOnce};
 
 use wincode_base::error::WriteResult;
 use wincode_io::bulk::write_forms;
@@ -12,8 +10,7 @@ use wincode_io::{Writer, ZeroCopy};
 /// Writes the forms of the values, one after another, all or nothing. Where the room is less it is
 /// `WriteSizeLimit` of the size of all, in bytes.
 pub(crate) fn write_all<T: ZeroCopy, W: Writer>(writer: &mut W, items: &[T]) -> WriteResult<()>
-    ensures outcome { WriteOutcome (items_write (writes_form T.size T.form)) (W.state writer.old) (W.state writer.new) (map (λ v. v) items.now) (Each T.is_valid items.now) result }
-    ensures none { OnErr result ((W.state writer.new).content ≡ (W.state writer.old).content) }
+    ensures { WrittenAtOnce T.size (writes_form T.size T.form) (W.state writer.old) (W.state writer.new) (map (λ v. v) items.now) (Each T.is_valid items.now) result }
 {
     write_forms(writer, items)?;
     Ok(())

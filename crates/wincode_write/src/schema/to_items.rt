@@ -6,7 +6,7 @@ ghost use Rattle.std.specs.List.{IsDistinct};
 ghost use Rattle.std.specs.List.Sorted.{IsStrictlySortedBy};
 ghost use Rattle.std.specs.Prelude.{◌≡◌, ◌+◌, List, length, map, IfOk, IfErr};
 ghost use Rattle.wincode_io.specs.Joins.{Each, total};
-ghost use Rattle.wincode_base.specs.Lists.{items_write, parts_write, list_write_of, list_write, SizesRefused};
+ghost use Rattle.wincode_base.specs.Lists.{items_write, each_write, parts_write, list_write_of, list_write, SizesRefused};
 ghost use Rattle.wincode_base.specs.Outcomes.{IsSized, SizeRefused, WriteOutcome};
 ghost use Rattle.wincode_base.specs.Pairs.{pair_write};
 ghost use Rattle.wincode_base.specs.ItemSizes.{IsWriteItemSize};
@@ -58,6 +58,19 @@ pub(crate) fn add_sizes<T: SchemaWrite>(before: usize, items: &[T::Src]) -> Writ
         };
     }
     Ok(sum)
+}
+
+/// Writes items, each by itself.
+pub(crate) fn write_each<T: SchemaWrite, W: Writer>(
+    writer: &mut W,
+    items: &[T::Src],
+) -> WriteResult<()>
+    ensures { WriteOutcome (each_write T.writing) (W.state writer.old) (W.state writer.new) (map T.model items.now) (Each T.is_valid items.now) result }
+{
+    for item in items {
+        T::write(writer, item)?;
+    }
+    Ok(())
 }
 
 /// They are written by the schema's `write_items`.

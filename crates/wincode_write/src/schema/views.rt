@@ -64,6 +64,9 @@ impl<B: Held, T: ZeroCopy> ToItems<Pod<T>> for SliceView<B, T> {
     }
 
     fn write_to<W: Writer>(&self, writer: &mut W) -> WriteResult<()> {
+        if self.len() == 0 {
+            return Ok(());
+        }
         let bytes = self.as_bytes();
         see_bytes(bytes);
         writer.write(bytes)?;

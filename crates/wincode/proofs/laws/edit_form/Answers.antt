@@ -1,12 +1,12 @@
 use Rattle.std.proofs.Common.{◌≡◌, take, refl, sym, ap, ◌∙◌, get_or}
 use Rattle.wincode_io.specs.Forms.{edited}
 use Rattle.wincode_io.specs.Edits.{all_edited, in_first}
-use Rattle.wincode_io.proofs.EditSteps.{in_first_more, edited_whole}
+use Rattle.wincode_io.proofs.EditSteps.{in_first_more, edited_whole, all_none, all_more}
 use Rattle.wincode.proofs.laws.edit_form.Goals as goal
 
 pub loop-value-init : goal.loop-value-init
 unfolding all_edited
-loop-value-init g c = record { same = refl; so_far = c.new-view.ensures.bytes }
+loop-value-init g c = record { same = refl; so_far = c.new-view.ensures.bytes; is_valid = all_none g.T.ZeroCopy.is_valid }
 
 pub loop-value-preserved : goal.loop-value-preserved
 loop-value-preserved g c =
@@ -22,4 +22,5 @@ loop-value-preserved g c =
       so_far = c.set.ensures.form ∙ edited_whole s view.bytes.now (form v) view.is_form ∙ ap (λ b. edited s b 0 (form v)) c.loop-value.invariant.so_far
           ∙ ap (λ x. edited s (all_edited s c.args.form.now (in_first form (take i values))) 0 (form x)) at
           ∙ sym (in_first_more s form c.args.form.now values i v c.loop-value-test.true);
+      is_valid = all_more g.T.ZeroCopy.is_valid values i v c.loop-value-test.true at c.loop-value.invariant.is_valid c.set.ensures.is_valid;
     }

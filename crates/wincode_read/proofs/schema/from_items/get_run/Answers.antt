@@ -1,4 +1,4 @@
-use Rattle.std.proofs.Common.{rules, false, ◌∙◌, sym, inl, inr}
+use Rattle.std.proofs.Common.{rules, false, ◌∙◌, sym, refl, inl, inr}
 use Rattle.wincode_io.specs.Joins.{AreItems}
 use Rattle.wincode_base.specs.declared.error.ReadError.TheVariants as reading
 use Rattle.wincode_base.specs.FixedSizeLaws.{denied_refuses}
@@ -36,5 +36,5 @@ returns-in-None g c = let T = g.T.SchemaRead.reading in let S = g.T.SchemaRead.m
     record {
       ok = tt;
       refused = too_long T c.args.n c.args.size known c.requires.size is T.borrow _ _ _ c.read_length_encoding_overflow.ensures;
-      place = run_long T c.args.n c.args.size known is _ _ _ c.read_length_encoding_overflow.ensures;
+      place = run_long T c.args.n c.args.size known is _ _ _ refl c.read_length_encoding_overflow.ensures;
     }

@@ -1,5 +1,6 @@
-use Rattle.std.proofs.Common.{rules}
+use Rattle.std.proofs.Common.{rules, length, map, ◌*◌}
 use Rattle.wincode_base.proofs.Integers.{AreSmall}
+use Rattle.wincode_base.proofs.FormRuns.{at_once}
 use Rattle.wincode_base.proofs.Bulk.{bytes_wrote, bytes_unwritten, bytes_halted, each_small}
 use Rattle.wincode_write.proofs.schema.leaves.U8SchemaWrite.write_items.Goals as goal
 
@@ -9,9 +10,10 @@ returns-in_err-write g c =
     let laws = g.met.W.Writer.writer_laws in
     let d = c.in_err-write.ensures.err in
     let u = bytes_unwritten c.args.items.now small laws _ d in
-    let p = bytes_halted c.args.items.now small laws _ d in search (rules, u, p)
+    let p = bytes_halted c.args.items.now small laws _ d in
+    let b = at_once (length (map (λ v. v) c.args.items.now) * 1) _ _ _ (λ l. search (rules, d)) (λ l. search (rules, l)) in search (rules, u, p, b)
 
 pub returns : goal.returns
 returns g c =
     let small : AreSmall c.args.items.now = search rules in
-    record { ok = bytes_wrote c.args.items.now small c.in_ok-write.ensures.ok; value = each_small c.args.items.now small; refused = tt; place = tt }
+    record { each = record { ok = bytes_wrote c.args.items.now small c.in_ok-write.ensures.ok; value = each_small c.args.items.now small; refused = tt; place = tt }; at_once = tt }

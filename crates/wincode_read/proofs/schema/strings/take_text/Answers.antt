@@ -3,7 +3,7 @@ use Rattle.std.proofs.lemmas.Str.{IsUtf8-string_bytes}
 use Rattle.wincode_base.specs.FixedSizeLaws.{arrays_takes}
 use Rattle.wincode_base.proofs.Strings.{body_refuses, body_gives}
 use Rattle.wincode_base.specs.declared.error.ReadError.TheVariants as reading
-use Rattle.wincode_read.proofs.schema.text.take_text.Goals as goal
+use Rattle.wincode_read.proofs.schema.strings.take_text.Goals as goal
 
 pub returns-in_err-bytes : goal.returns-in_err-bytes
 returns-in_err-bytes g c =

@@ -2,7 +2,7 @@ use Rattle.std.proofs.Common.{rules, sym, subst, true}
 use Rattle.std.specs.Prelude.{IsUtf8}
 use Rattle.wincode_base.proofs.Strings.{body_refuses, body_gives, borrow_refuses}
 use Rattle.wincode_base.specs.declared.error.ReadError.TheVariants as reading
-use Rattle.wincode_read.proofs.schema.text.borrow_text.Goals as goal
+use Rattle.wincode_read.proofs.schema.strings.borrow_text.Goals as goal
 
 pub returns-in_err-bytes : goal.returns-in_err-bytes
 returns-in_err-bytes g c =

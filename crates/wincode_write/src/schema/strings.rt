@@ -1,9 +1,9 @@
-//! Schemas of characters, of texts and of references.
+//! Schemas of characters and of texts.
 ghost use Rattle.std.specs.Char.{IsScalar};
 ghost use Rattle.std.specs.Prelude.{◌≡◌, ℕ, ◌<◌, List, IsUtf8, string_bytes, IfOk, IfErr};
 ghost use Rattle.wincode_base.specs.Outcomes.{SizeRefused, WriteOutcome};
-ghost use Rattle.wincode_base.specs.Strings.{char_write, str_write, reference_write};
-ghost use Rattle.wincode_base.specs.StringLaws.{char_write_laws, str_write_laws, reference_write_laws};
+ghost use Rattle.wincode_base.specs.Strings.{char_write, str_write};
+ghost use Rattle.wincode_base.specs.StringLaws.{char_write_laws, str_write_laws};
 
 use crate::schema::SchemaWrite;
 use std::str;
@@ -118,44 +118,4 @@ impl<'a> SchemaWrite for &'a str {
     }
 
     ghost write_laws = { str_write_laws 16 (λ s. IsUtf8 s.now) (λ s. s.now) };
-}
-
-/// A reference is written as its value. It is no list of bytes, whatever its value is.
-impl<'a, U: 'a, T: SchemaWrite<Src = U>> SchemaWrite for &'a T {
-    type Src = &'a U;
-
-    ghost Value = { T.Value };
-
-    ghost model = { λ r. T.model r.now };
-
-    ghost is_valid = { λ r. T.is_valid r.now };
-
-    ghost writing = { reference_write T.writing };
-
-    fn type_meta() -> TypeMeta {
-        match T::type_meta() {
-            TypeMeta::Static { size, .. } => TypeMeta::Static {
-                size,
-                zero_copy: false,
-            },
-            TypeMeta::Dynamic => TypeMeta::Dynamic,
-        }
-    }
-
-    fn size_of(src: &&'a U) -> WriteResult<usize> {
-        T::size_of(*src)
-    }
-
-    fn write<W: Writer>(writer: &mut W, src: &&'a U) -> WriteResult<()> {
-        T::write::<W>(writer, *src)
-    }
-
-    fn write_items<W: Writer>(writer: &mut W, items: &[&'a U]) -> WriteResult<()> {
-        for item in items {
-            T::write::<W>(writer, *item)?;
-        }
-        Ok(())
-    }
-
-    ghost write_laws = { reference_write_laws T.is_valid T.model (λ r. r.now) T.writing T.write_laws };
 }

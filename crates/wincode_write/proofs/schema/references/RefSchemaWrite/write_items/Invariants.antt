@@ -3,7 +3,7 @@ use Rattle.wincode_io.specs.Joins.{Each}
 use Rattle.wincode_base.specs.Lists.{items_write}
 use Rattle.wincode_base.specs.Outcomes.{Wrote}
 use Rattle.wincode_base.specs.Strings.{reference_write}
-use Rattle.wincode_write.proofs.schema.text.RefSchemaWrite.write_items.Given as goal
+use Rattle.wincode_write.proofs.schema.references.RefSchemaWrite.write_items.Given as goal
 
 -- so far the items were written
 abbrev pub invariant-loop-item : goal.invariant-loop-item

@@ -1,7 +1,7 @@
 use Rattle.std.proofs.Common.{rules, ◌∙◌, sym}
 use Rattle.wincode_base.proofs.Strings.{char_refuses, char_denied, char_cut, char_not, char_gives}
 use Rattle.wincode_base.specs.declared.error.ReadError.TheVariants as reading
-use Rattle.wincode_read.proofs.schema.text.take_char.Goals as goal
+use Rattle.wincode_read.proofs.schema.strings.take_char.Goals as goal
 
 pub returns-in_err-lead : goal.returns-in_err-lead
 returns-in_err-lead g c =

@@ -5,7 +5,7 @@ use Rattle.wincode_base.specs.StringLaws.{reference_write_laws}
 use Rattle.wincode_base.specs.WriteSequences.{wrote_map, unwritten_map, stopped_map}
 use Rattle.wincode_base.proofs.WriteAnswers.{write_refused}
 use Rattle.wincode_base.proofs.Lists.{items_before, items_after, items_stopped, items_place}
-use Rattle.wincode_write.proofs.schema.text.RefSchemaWrite.write_items.Goals as goal
+use Rattle.wincode_write.proofs.schema.references.RefSchemaWrite.write_items.Goals as goal
 
 pub returns-in_err-write : goal.returns-in_err-write
 returns-in_err-write g c =

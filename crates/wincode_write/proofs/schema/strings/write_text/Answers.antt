@@ -1,7 +1,7 @@
 use Rattle.std.proofs.Common.{rules, ◌<◌, ◌^◌, length, refl}
 use Rattle.wincode_base.proofs.Strings.{encoding_wrote, text_unwritten_first, text_unwritten_second, text_halted_first, text_halted_second}
 use Rattle.wincode_base.proofs.WriteAnswers.{write_refused}
-use Rattle.wincode_write.proofs.schema.text.write_text.Goals as goal
+use Rattle.wincode_write.proofs.schema.strings.write_text.Goals as goal
 
 pub returns-in_err-write : goal.returns-in_err-write
 returns-in_err-write g c =

@@ -1,16 +1,16 @@
-use Rattle.std.proofs.Common.{rules, false, inl, inr}
+use Rattle.std.proofs.Common.{rules, true, inl, inr}
 use Rattle.wincode_base.specs.Strings.{str_read, body_read}
 use Rattle.wincode_base.proofs.ReadAnswers.{get_map}
 use Rattle.wincode_base.proofs.Strings.{text_gives, text_first, text_second}
-use Rattle.wincode_read.proofs.schema.text.get_text.Goals as goal
+use Rattle.wincode_read.proofs.schema.strings.lend_text.Goals as goal
 
 pub returns-in_err-n : goal.returns-in_err-n
 returns-in_err-n g c =
     let o = c.in_err-n.ensures in
-    let h = text_first 24 0 false _ _ _ o.refused in
+    let h = text_first 16 1 true _ _ _ o.refused in
     let p = o.place in search (rules, h, p)
 
 pub returns : goal.returns
 returns g c =
     let n = c.in_ok-n.ensures.ok in
-    get_map (body_read c.in_ok-n.n 0 false) _ (str_read 24 0 false) _ c.take_text.result (λ s p. text_gives 24 0 false _ _ _ _ _ n p) (λ e p. (text_second 24 0 false _ _ _ _ e n p.0, inr (_, _, n, p.1))) c.take_text.ensures
+    get_map (body_read c.in_ok-n.n 1 true) _ (str_read 16 1 true) _ c.borrow_text.result (λ s p. text_gives 16 1 true _ _ _ _ _ n p) (λ e p. (text_second 16 1 true _ _ _ _ e n p.0, inr (_, _, n, p.1))) c.borrow_text.ensures

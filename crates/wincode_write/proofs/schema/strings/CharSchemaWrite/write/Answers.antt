@@ -3,7 +3,7 @@ use Rattle.std.proofs.lemmas.Str.{length-encode}
 use Rattle.wincode_base.specs.Strings.{char_write}
 use Rattle.wincode_base.specs.WriteSequences.{encoding_wrote, encoding_unwritten}
 use Rattle.wincode_base.proofs.Strings.{char_halted}
-use Rattle.wincode_write.proofs.schema.text.CharSchemaWrite.write.Goals as goal
+use Rattle.wincode_write.proofs.schema.strings.CharSchemaWrite.write.Goals as goal
 
 pub returns-in_err-write : goal.returns-in_err-write
 returns-in_err-write g c =
