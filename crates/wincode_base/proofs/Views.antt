@@ -266,6 +266,13 @@ module _ {X : Type 0} {is_valid : X → Type 0} {s : ℕ} {form : X → List ℕ
     pub forms_wrote : Added b old new → Wrote Forms old new (map (λ v. v) (values value s n b))
     forms_wrote a = encoding_wrote Forms (map (λ v. v) (values value s n b)) b (joined n b all e) (e ∙ sym (forms_size n b)) old new (each_free (map (λ v. v) (values value s n b))) a
 
+    -- there are none
+    pub none_wrote : WriterLaws put room → n ≡ 0 → new ≡ old → Wrote Forms old new (map (λ v. v) (values value s n b))
+    none_wrote laws none same =
+        let empty : b ≡ [] = nothing_left b (e ∙ ap (λ m. m * s) none ∙ omega arith) in
+        encoding_wrote Forms (map (λ v. v) (values value s n b)) b (joined n b all e) (e ∙ sym (forms_size n b)) old new (each_free (map (λ v. v) (values value s n b)))
+        (record { fits = omega (arith, ap length empty); took = record { same = record { kept = ap (λ w. w.kept) same; never_fails = ap (λ w. w.never_fails) same }; content = ap (λ w. w.content) same ∙ sym (ap (put old.content) empty ∙ laws.nil old.content) } })
+
     pub forms_unwritten : WriterLaws put room → (x : IoWriteError) → BytesWriteRefused (length b) old new x → WriteRefused Forms old new (map (λ v. v) (values value s n b)) (writing.Io x)
     forms_unwritten laws x d = encoding_unwritten Forms (map (λ v. v) (values value s n b)) b (joined n b all e) (e ∙ sym (forms_size n b)) laws old new x d
 

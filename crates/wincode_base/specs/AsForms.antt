@@ -47,8 +47,8 @@ abbrev pub BulkWriteRefused : {S K : Type 0} {put : S → List ℕ → S} {room 
 BulkWriteRefused n old new (writing.Io e) = FormWriteRefused n old new e
 BulkWriteRefused n old new _ = ⊥
 
--- What a write of values at once, of s bytes each, answers: what writing them one after another does; refused, nothing was
+-- What a write of n values at once, in n * s bytes, answers: what writing them one after another does; refused, nothing was
 -- added.
-pub record WrittenAtOnce {A S K V : Type 0} {put : S → List ℕ → S} {room : S → ℕ} (s : ℕ) (g : WriteGrammar V) (old new : WriterState put room K) (vs : List V) (are_valid : Type 0) (r : Result A WriteError) : Type 0 where
+pub record WrittenAtOnce {A S K V : Type 0} {put : S → List ℕ → S} {room : S → ℕ} (s n : ℕ) (g : WriteGrammar V) (old new : WriterState put room K) (vs : List V) (are_valid : Type 0) (r : Result A WriteError) : Type 0 where
   pub each : WriteOutcome (items_write g) old new vs are_valid r
-  pub at_once : IfErr r (BulkWriteRefused (length vs * s) old new)
+  pub at_once : IfErr r (BulkWriteRefused (n * s) old new)

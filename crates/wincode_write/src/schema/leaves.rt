@@ -1,6 +1,6 @@
 //! Schemas without parts.
 ghost use Rattle.std.specs.Int.{w8, w16, w32, w64, w128};
-ghost use Rattle.std.specs.Prelude.{ℕ, ℤ, ◌<◌, ◌^◌, FitsSigned, Bool, true, false, map};
+ghost use Rattle.std.specs.Prelude.{ℕ, ℤ, ◌<◌, ◌^◌, FitsSigned, Bool, true, false, length, map};
 ghost use Rattle.wincode_io.specs.Joins.{Each};
 ghost use Rattle.wincode_base.specs.AsForms.{WrittenAtOnce};
 ghost use Rattle.wincode_base.specs.LeafLaws.{bool_write_laws, unit_write_laws, number_write_laws, signed_write_laws};
@@ -42,7 +42,7 @@ impl SchemaWrite for u8 {
 
     /// All at once: refused, nothing is written.
     fn write_items<W: Writer>(writer: &mut W, items: &[u8]) -> WriteResult<()>
-        ensures { WrittenAtOnce 1 (number_write 1 true) (W.state writer.old) (W.state writer.new) (map (λ v. v) items.now) (Each (λ v. v < 256 ^ 1) items.now) result }
+        ensures { WrittenAtOnce 1 (length items.now) (number_write 1 true) (W.state writer.old) (W.state writer.new) (map (λ v. v) items.now) (Each (λ v. v < 256 ^ 1) items.now) result }
     {
         writer.write(items)?;
         Ok(())
@@ -80,7 +80,7 @@ impl SchemaWrite for u16 {
 
     /// All at once: refused, nothing is written.
     fn write_items<W: Writer>(writer: &mut W, items: &[u16]) -> WriteResult<()>
-        ensures { WrittenAtOnce 2 (number_write 2 true) (W.state writer.old) (W.state writer.new) (map (λ v. v) items.now) (Each (λ v. v < 256 ^ 2) items.now) result }
+        ensures { WrittenAtOnce 2 (length items.now) (number_write 2 true) (W.state writer.old) (W.state writer.new) (map (λ v. v) items.now) (Each (λ v. v < 256 ^ 2) items.now) result }
     {
         write_all::<u16, W>(writer, items)
     }
@@ -117,7 +117,7 @@ impl SchemaWrite for u32 {
 
     /// All at once: refused, nothing is written.
     fn write_items<W: Writer>(writer: &mut W, items: &[u32]) -> WriteResult<()>
-        ensures { WrittenAtOnce 4 (number_write 4 true) (W.state writer.old) (W.state writer.new) (map (λ v. v) items.now) (Each (λ v. v < 256 ^ 4) items.now) result }
+        ensures { WrittenAtOnce 4 (length items.now) (number_write 4 true) (W.state writer.old) (W.state writer.new) (map (λ v. v) items.now) (Each (λ v. v < 256 ^ 4) items.now) result }
     {
         write_all::<u32, W>(writer, items)
     }
@@ -154,7 +154,7 @@ impl SchemaWrite for u64 {
 
     /// All at once: refused, nothing is written.
     fn write_items<W: Writer>(writer: &mut W, items: &[u64]) -> WriteResult<()>
-        ensures { WrittenAtOnce 8 (number_write 8 true) (W.state writer.old) (W.state writer.new) (map (λ v. v) items.now) (Each (λ v. v < 256 ^ 8) items.now) result }
+        ensures { WrittenAtOnce 8 (length items.now) (number_write 8 true) (W.state writer.old) (W.state writer.new) (map (λ v. v) items.now) (Each (λ v. v < 256 ^ 8) items.now) result }
     {
         write_all::<u64, W>(writer, items)
     }
@@ -191,7 +191,7 @@ impl SchemaWrite for u128 {
 
     /// All at once: refused, nothing is written.
     fn write_items<W: Writer>(writer: &mut W, items: &[u128]) -> WriteResult<()>
-        ensures { WrittenAtOnce 16 (number_write 16 true) (W.state writer.old) (W.state writer.new) (map (λ v. v) items.now) (Each (λ v. v < 256 ^ 16) items.now) result }
+        ensures { WrittenAtOnce 16 (length items.now) (number_write 16 true) (W.state writer.old) (W.state writer.new) (map (λ v. v) items.now) (Each (λ v. v < 256 ^ 16) items.now) result }
     {
         write_all::<u128, W>(writer, items)
     }
@@ -258,7 +258,7 @@ impl SchemaWrite for i8 {
 
     /// All at once: refused, nothing is written.
     fn write_items<W: Writer>(writer: &mut W, items: &[i8]) -> WriteResult<()>
-        ensures { WrittenAtOnce 1 (signed_write w8 true) (W.state writer.old) (W.state writer.new) (map (λ v. v) items.now) (Each (FitsSigned w8) items.now) result }
+        ensures { WrittenAtOnce 1 (length items.now) (signed_write w8 true) (W.state writer.old) (W.state writer.new) (map (λ v. v) items.now) (Each (FitsSigned w8) items.now) result }
     {
         write_all::<i8, W>(writer, items)
     }
@@ -295,7 +295,7 @@ impl SchemaWrite for i16 {
 
     /// All at once: refused, nothing is written.
     fn write_items<W: Writer>(writer: &mut W, items: &[i16]) -> WriteResult<()>
-        ensures { WrittenAtOnce 2 (signed_write w16 true) (W.state writer.old) (W.state writer.new) (map (λ v. v) items.now) (Each (FitsSigned w16) items.now) result }
+        ensures { WrittenAtOnce 2 (length items.now) (signed_write w16 true) (W.state writer.old) (W.state writer.new) (map (λ v. v) items.now) (Each (FitsSigned w16) items.now) result }
     {
         write_all::<i16, W>(writer, items)
     }
@@ -332,7 +332,7 @@ impl SchemaWrite for i32 {
 
     /// All at once: refused, nothing is written.
     fn write_items<W: Writer>(writer: &mut W, items: &[i32]) -> WriteResult<()>
-        ensures { WrittenAtOnce 4 (signed_write w32 true) (W.state writer.old) (W.state writer.new) (map (λ v. v) items.now) (Each (FitsSigned w32) items.now) result }
+        ensures { WrittenAtOnce 4 (length items.now) (signed_write w32 true) (W.state writer.old) (W.state writer.new) (map (λ v. v) items.now) (Each (FitsSigned w32) items.now) result }
     {
         write_all::<i32, W>(writer, items)
     }
@@ -369,7 +369,7 @@ impl SchemaWrite for i64 {
 
     /// All at once: refused, nothing is written.
     fn write_items<W: Writer>(writer: &mut W, items: &[i64]) -> WriteResult<()>
-        ensures { WrittenAtOnce 8 (signed_write w64 true) (W.state writer.old) (W.state writer.new) (map (λ v. v) items.now) (Each (FitsSigned w64) items.now) result }
+        ensures { WrittenAtOnce 8 (length items.now) (signed_write w64 true) (W.state writer.old) (W.state writer.new) (map (λ v. v) items.now) (Each (FitsSigned w64) items.now) result }
     {
         write_all::<i64, W>(writer, items)
     }
@@ -406,7 +406,7 @@ impl SchemaWrite for i128 {
 
     /// All at once: refused, nothing is written.
     fn write_items<W: Writer>(writer: &mut W, items: &[i128]) -> WriteResult<()>
-        ensures { WrittenAtOnce 16 (signed_write w128 true) (W.state writer.old) (W.state writer.new) (map (λ v. v) items.now) (Each (FitsSigned w128) items.now) result }
+        ensures { WrittenAtOnce 16 (length items.now) (signed_write w128 true) (W.state writer.old) (W.state writer.new) (map (λ v. v) items.now) (Each (FitsSigned w128) items.now) result }
     {
         write_all::<i128, W>(writer, items)
     }

@@ -1,5 +1,5 @@
 //! The schema of a value that has a byte form.
-ghost use Rattle.std.specs.Prelude.{true, map};
+ghost use Rattle.std.specs.Prelude.{true, length, map};
 ghost use Rattle.wincode_io.specs.Joins.{Each};
 ghost use Rattle.wincode_base.specs.AsForms.{WrittenAtOnce};
 ghost use Rattle.wincode_base.specs.ViewLaws.{form_write_laws};
@@ -47,7 +47,7 @@ impl<T: ZeroCopy> SchemaWrite for Pod<T> {
 
     /// All at once: refused, nothing is written.
     fn write_items<W: Writer>(writer: &mut W, items: &[T]) -> WriteResult<()>
-        ensures { WrittenAtOnce T.size (form_write T.is_valid T.size T.form true (form_prealloc T.size)) (W.state writer.old) (W.state writer.new) (map (λ v. v) items.now) (Each T.is_valid items.now) result }
+        ensures { WrittenAtOnce T.size (length items.now) (form_write T.is_valid T.size T.form true (form_prealloc T.size)) (W.state writer.old) (W.state writer.new) (map (λ v. v) items.now) (Each T.is_valid items.now) result }
     {
         if items.is_empty() {
             return Ok(());

@@ -64,11 +64,11 @@ impl<B: Held, T: ZeroCopy> ToItems<Pod<T>> for SliceView<B, T> {
     }
 
     fn write_to<W: Writer>(&self, writer: &mut W) -> WriteResult<()> {
+        let bytes = self.as_bytes();
+        see_bytes(bytes);
         if self.len() == 0 {
             return Ok(());
         }
-        let bytes = self.as_bytes();
-        see_bytes(bytes);
         writer.write(bytes)?;
         Ok(())
     }

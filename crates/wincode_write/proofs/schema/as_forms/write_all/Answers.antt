@@ -1,4 +1,4 @@
-use Rattle.std.proofs.Common.{rules, length, map, ◌*◌}
+use Rattle.std.proofs.Common.{rules, length, ◌*◌}
 use Rattle.wincode_base.proofs.FormRuns.{form_writes, forms_wrote, forms_unwritten, forms_halted, all_each, at_once}
 use Rattle.wincode_write.proofs.schema.as_forms.write_all.Goals as goal
 
@@ -9,7 +9,7 @@ returns-in_err-write_forms g c =
     let e = c.in_err-write_forms.ensures in
     let u = forms_unwritten (form_writes T.is_valid T.size T.form) c.args.items.now _ _ laws _ e.err (λ v. (search rules, (e.vast v).1)) in
     let p = forms_halted (form_writes T.is_valid T.size T.form) c.args.items.now _ _ laws _ e.err (λ v. (search rules, (e.vast v).1)) (λ a dynamic. absurd (cc dynamic)) in
-    let b = at_once (length (map (λ v. v) c.args.items.now) * T.size) _ _ _ (λ l. e.err l) (λ l. (search rules, (e.vast l).1)) in search (rules, u, p, b)
+    let b = at_once (length c.args.items.now * T.size) _ _ _ (λ l. e.err l) (λ l. (search rules, (e.vast l).1)) in search (rules, u, p, b)
 
 pub returns : goal.returns
 returns g c =

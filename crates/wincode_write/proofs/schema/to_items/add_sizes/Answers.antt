@@ -1,4 +1,4 @@
-use Rattle.std.proofs.Common.{rules, arith, ◌+◌, ◌<◌, ◌≤◌, ◌^◌}
+use Rattle.std.proofs.Common.{rules, arith, ◌+◌, ◌<◌, ◌≤◌, ◌^◌, inl, refl}
 use Rattle.wincode_base.proofs.Lists.{sum_item, sum_over}
 use Rattle.wincode_write.proofs.schema.to_items.add_sizes.Goals as goal
 use Rattle.wincode_io.specs.JoinLaws.{each_map_after, total_after}
@@ -13,7 +13,7 @@ returns-in-None-clause-err g c =
     let none : c.loop-item.sum + c.in_ok-size.size < 2 ^ 64 → ⊥ = c.in-None.ensures in
     let over : 2 ^ 64 ≤ c.loop-item.sum + T.writing.size (T.model c.item-item.result) = omega (arith, none, c.in_ok-size.ensures.ok.1) in (
       sum_over c.args.before T.writing T.model c.args.items.now c.loop-item.item-index c.item-item.result c.loop-item-test.true c.item-item.is _ c.loop-item.invariant.1 over,
-      rw c.write_length_encoding_overflow.ensures (tt, λ builtin. tt),
+      rw c.write_length_encoding_overflow.ensures (tt, λ builtin. inl refl),
     )
 
 pub loop-item-preserved : goal.loop-item-preserved

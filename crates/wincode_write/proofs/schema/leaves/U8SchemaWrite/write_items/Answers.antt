@@ -1,4 +1,5 @@
-use Rattle.std.proofs.Common.{rules, length, map, ◌*◌}
+use Rattle.std.proofs.Common.{rules, arith, ◌≡◌, ◌<◌, ◌^◌, ◌*◌, length, subst}
+use Rattle.wincode_io.specs.Writers.{BytesWriteRefused}
 use Rattle.wincode_base.proofs.Integers.{AreSmall}
 use Rattle.wincode_base.proofs.FormRuns.{at_once}
 use Rattle.wincode_base.proofs.Bulk.{bytes_wrote, bytes_unwritten, bytes_halted, each_small}
@@ -11,7 +12,9 @@ returns-in_err-write g c =
     let d = c.in_err-write.ensures.err in
     let u = bytes_unwritten c.args.items.now small laws _ d in
     let p = bytes_halted c.args.items.now small laws _ d in
-    let b = at_once (length (map (λ v. v) c.args.items.now) * 1) _ _ _ (λ l. search (rules, d)) (λ l. search (rules, l)) in search (rules, u, p, b)
+    let few : length c.args.items.now < 2 ^ 64 = search rules in
+    let one : length c.args.items.now ≡ length c.args.items.now * 1 = omega arith in
+    let b = at_once (length c.args.items.now * 1) _ _ _ (λ l. subst (λ k. BytesWriteRefused k _ _ _) one d) (λ l. absurd (omega (arith, few, l))) in search (rules, u, p, b)
 
 pub returns : goal.returns
 returns g c =

@@ -1,4 +1,4 @@
-use Rattle.std.proofs.Common.{rules, ◌∙◌, ap, ◌+◌}
+use Rattle.std.proofs.Common.{rules, ◌∙◌, ap, ◌+◌, inl, refl}
 use Rattle.wincode_collect.specs.Seen.{sees}
 use Rattle.wincode_base.specs.Pairs.{pair_write}
 use Rattle.wincode_base.proofs.Walks.{sum_more, sum_refused, sum_past}
@@ -15,7 +15,7 @@ returns-in-None-checked_add-clause-err g c =
     let K = g.K.SchemaWrite in
     let V = g.V.SchemaWrite in (
       sum_past (pair_write K.writing V.writing) (sees K.model V.model) c.args.before _ _ _ _ (c.in-Some.key.now, c.in-Some.value.now) c.loop-key.invariant c.in-Some.ensures.steps (rw c.in_ok-size.ensures.ok.1 at c.in-None-checked_add.ensures),
-      rw c.write_length_encoding_overflow.ensures (tt, λ builtin. tt),
+      rw c.write_length_encoding_overflow.ensures (tt, λ builtin. inl refl),
     )
 
 pub loop-key-preserved : goal.loop-key-preserved

@@ -1,4 +1,4 @@
-use Rattle.std.proofs.Common.{rules, ◌∙◌, ap, ◌+◌}
+use Rattle.std.proofs.Common.{rules, ◌∙◌, ap, ◌+◌, inl, refl}
 use Rattle.wincode_base.proofs.Walks.{sum_more, sum_refused, sum_past}
 use Rattle.wincode_write.proofs.schema.to_items.HashSetToItems.add_sizes.Goals as goal
 
@@ -11,7 +11,7 @@ pub returns-in-None-checked_add-clause-err : goal.returns-in-None-checked_add-cl
 returns-in-None-checked_add-clause-err g c =
     let K = g.K.SchemaWrite in (
       sum_past K.writing K.model c.args.before _ _ _ _ c.in-Some.key.now c.loop-key.invariant c.in-Some.ensures.steps (rw c.in_ok-size.ensures.ok.1 at c.in-None-checked_add.ensures),
-      rw c.write_length_encoding_overflow.ensures (tt, λ builtin. tt),
+      rw c.write_length_encoding_overflow.ensures (tt, λ builtin. inl refl),
     )
 
 pub loop-key-preserved : goal.loop-key-preserved

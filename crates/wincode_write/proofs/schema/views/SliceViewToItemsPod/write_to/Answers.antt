@@ -1,5 +1,5 @@
-use Rattle.std.proofs.Common.{rules, true, ◌<◌, ◌^◌, length}
-use Rattle.wincode_base.proofs.Views.{forms_wrote, forms_unwritten, forms_halted, each_value}
+use Rattle.std.proofs.Common.{rules, true, refl, ◌≡◌, ◌<◌, ◌^◌, length}
+use Rattle.wincode_base.proofs.Views.{forms_wrote, none_wrote, forms_unwritten, forms_halted, each_value}
 use Rattle.wincode_base.specs.Views.{form_prealloc}
 use Rattle.wincode_write.proofs.schema.views.SliceViewToItemsPod.write_to.Goals as goal
 
@@ -15,6 +15,18 @@ returns-in_err-write g c =
     let p = forms_halted law true (form_prealloc g.T.ZeroCopy.size) c.args.self.now.n b.result.now c.see_bytes.ensures b.ensures.size some fits laws c.in_err-write.field-0.0 d in
     let h = rw b.ensures.value at u in
     let k = rw b.ensures.value at p in search (rules, h, k)
+
+pub returns-then-len-eq0 : goal.returns-then-len-eq0
+returns-then-len-eq0 g c =
+    let b = c.as_bytes-bytes in
+    let law = g.T.ZeroCopy.byte_form in
+    let none : c.args.self.now.n ≡ 0 = search rules in
+    rw (← b.ensures.value) (record {
+      ok = none_wrote law true (form_prealloc g.T.ZeroCopy.size) c.args.self.now.n b.result.now c.see_bytes.ensures b.ensures.size g.met.W.Writer.writer_laws none refl;
+      value = each_value law true (form_prealloc g.T.ZeroCopy.size) c.args.self.now.n b.result.now c.see_bytes.ensures b.ensures.size;
+      refused = tt;
+      place = tt;
+    })
 
 pub returns : goal.returns
 returns g c =
