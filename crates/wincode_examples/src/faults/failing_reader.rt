@@ -1,6 +1,8 @@
 //! A reader whose device fails.
-ghost use Rattle.std.specs.Prelude.{◌≡◌};
-ghost use Rattle.wincode_examples.specs.Faults.{over_device};
+ghost use Rattle.std.specs.Prelude.{◌≡◌, OnOk, IfOk, IfErr};
+ghost use Rattle.wincode_io.specs.Readers.{Readies, Windowed, IsShort, BytesReadRefused};
+ghost use Rattle.wincode_io.specs.Windows.{window_state};
+ghost use Rattle.wincode_examples.specs.Faults.{HasServed, AskedReadRefused, over_device};
 
 use super::Device;
 use std::marker::Model;
@@ -44,9 +46,14 @@ impl<'a> FailingReader<'a> {
 
 /// Once the device fails, each call that asks it is `Io` of kind Other and changes nothing else.
 impl<'a> Reader<Lifetime<'a>> for FailingReader<'a> {
-    ghost state = { λ r. over_device r.rest r.device };
+    ghost state = { over_device };
 
-    fn fill(&mut self, _n: usize) -> ReadResult<()> {
+    fn fill(&mut self, n: usize) -> ReadResult<()>
+        ensures ok { OnOk result (Readies n (over_device self.old) (over_device self.new)) }
+        ensures err { IfErr result (BytesReadRefused ⊥ ⊥ n (over_device self.old) (over_device self.new)) }
+        ensures served { OnOk result (HasServed self.old.device self.new.device) }
+        ensures failed { IfErr result (AskedReadRefused self.old.device self.new.device) }
+    {
         self.device.ask().map_err(ReadError::Io)
     }
 
@@ -67,7 +74,12 @@ impl<'a> Reader<Lifetime<'a>> for FailingReader<'a> {
         Err(ReadError::UnsupportedZeroCopy)
     }
 
-    fn as_trusted_for(&mut self, n: usize) -> ReadResult<ReadWindow<Lifetime<'a>>> {
+    fn as_trusted_for(&mut self, n: usize) -> ReadResult<ReadWindow<Lifetime<'a>>>
+        ensures ok { IfOk result (λ w. Windowed n (over_device self.old) (over_device self.new) (window_state w)) }
+        ensures err { IfErr result (BytesReadRefused (IsShort n (over_device self.old)) ⊥ n (over_device self.old) (over_device self.new)) }
+        ensures served { OnOk result (HasServed self.old.device self.new.device) }
+        ensures failed { IfErr result (AskedReadRefused self.old.device self.new.device) }
+    {
         self.fill(n)?;
         let all = self.rest;
         if n <= all.len() {

@@ -1,10 +1,11 @@
 //! A writer whose device fails.
-ghost use Rattle.std.specs.Prelude.{◌≡◌, [], false};
+ghost use Rattle.std.specs.Prelude.{◌≡◌, [], false, length, OnOk, IfErr};
 ghost use Rattle.std.specs.Borrow.{GName};
 ghost use Rattle.wincode_io.specs.SliceWriters.{SliceState, slice_put, slice_room};
 ghost use Rattle.wincode_io.specs.SliceWriterLaws.{slice_laws};
 ghost use Rattle.wincode_io.specs.WriterLaws.{same_bound};
-ghost use Rattle.wincode_examples.specs.Faults.{slice_over};
+ghost use Rattle.wincode_io.specs.Writers.{HasRoom, BytesWriteRefused};
+ghost use Rattle.wincode_examples.specs.Faults.{HasServed, AskedWriteRefused, slice_over};
 
 use super::Device;
 use std::marker::Model;
@@ -66,7 +67,12 @@ impl<'a> Writer for FailingWriter<'a> {
 
     ghost buffers = { false };
 
-    fn make_room(&mut self, n: usize) -> WriteResult<()> {
+    fn make_room(&mut self, n: usize) -> WriteResult<()>
+        ensures ok { OnOk result (HasRoom n (slice_over self.old) (slice_over self.new)) }
+        ensures err { IfErr result (BytesWriteRefused n (slice_over self.old) (slice_over self.new)) }
+        ensures served { OnOk result (HasServed self.old.device self.new.device) }
+        ensures failed { IfErr result (AskedWriteRefused self.old.device self.new.device) }
+    {
         self.device.ask().map_err(WriteError::Io)?;
         self.slice.make_room(n)
     }
