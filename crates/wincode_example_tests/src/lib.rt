@@ -15,3 +15,5 @@ mod labels;
 mod messages;
 #[cfg(test)]
 mod own_schemas;
+#[cfg(test)]
+mod recipes;
