@@ -1,13 +1,16 @@
 //! A first program: an order goes to a file and comes back, and a file that was damaged is refused.
 #![tactic(auto)]
 
-use std::alloc::Global;
+use std::alloc::{AllocError, Global};
 use std::process::ExitCode;
 use std::rt::Files;
 use std::{fs, io};
 use thiserror::Error;
 use wincode::prelude::*;
 use wincode::schema::tuples::{size_of_members_4, write_members_4};
+
+/// Where the order is kept.
+const PATH: &str = "order.bin";
 
 #[derive(Debug, Drop, PartialEq)]
 struct Order {
@@ -57,61 +60,79 @@ impl Shape for Order {
     }
 }
 
-/// Why the program ends early.
+/// Why the program, or a part of it, ends early.
 #[derive(Debug, Drop, Error)]
 enum Fault {
     #[error(transparent)]
     File(#[from] io::Error),
     #[error(transparent)]
-    Value(#[from] wincode::Error),
+    Memory(#[from] AllocError),
+    #[error(transparent)]
+    Write(#[from] WriteError),
+    #[error("refused in front of byte {offset}: {error}")]
+    Read { offset: usize, error: ReadError },
 }
 
-/// An order's bytes. One `?` serves for this crate and for std's collections.
-fn encoded(alloc: Global) -> wincode::Result<Vec<u8>> {
-    let order = Order {
+fn first_order(alloc: Global) -> Result<Order, Fault> {
+    Ok(Order {
         id: 7,
         paid: true,
         buyer: String::from_str(alloc, "Ada")?,
-        items: vec![in alloc; 258u32, 5]?,
-    };
-    Ok(<By<Order> as Serialize>::serialize(alloc, &order)?)
+        items: Vec::from_slice(alloc, &[258, 5])?,
+    })
 }
 
-/// The order that the bytes begin with.
-fn decoded(alloc: Global, bytes: &[u8]) -> wincode::Result<Order> {
-    Ok(<By<Order> as Deserialize<Lifetime>>::deserialize(alloc, bytes)?)
+fn save(rt: &(impl Files + AllocGlobal), order: &Order) -> Result<(), Fault> {
+    let bytes = <By<Order> as Serialize>::serialize(rt.alloc(), order)?;
+    fs::write(rt, PATH, bytes.as_slice())?;
+    Ok(())
 }
 
-fn run(rt: &(impl Files + Print + AllocGlobal)) -> Result<(), Fault> {
-    let alloc = rt.alloc();
-    let bytes = encoded(alloc)?;
-    fs::write(rt, "order.bin", bytes.as_slice())?;
+fn load(rt: &(impl Files + AllocGlobal)) -> Result<Order, Fault> {
+    let bytes = fs::read(rt, PATH)?;
+    let mut cursor = Cursor::new(bytes.as_slice());
+    match <By<Order> as SchemaGet<Lifetime>>::get(rt.alloc(), &mut cursor) {
+        Ok(order) => Ok(order),
+        Err(error) => {
+            let offset = cursor.position();
+            Err(Fault::Read { offset, error })
+        }
+    }
+}
 
-    let mut bytes = fs::read(rt, "order.bin")?;
-    let order = decoded(alloc, bytes.as_slice())?;
-    println!(rt;
-        "{} bytes: order {} of {}",
-        bytes.len(),
-        order.id,
-        order.buyer
-    )?;
-
+/// Puts 2, which is no flag, in the place of the order's flag.
+fn damage(rt: &(impl Files + AllocGlobal)) -> Result<(), Fault> {
+    let mut bytes = fs::read(rt, PATH)?;
     if let Some(flag) = bytes.as_mut_slice().get_mut(8) {
         *flag = 2;
     }
-    let mut cursor = Cursor::new(bytes.as_slice());
-    if let Err(error) = <By<Order> as SchemaGet<Lifetime>>::get(alloc, &mut cursor) {
-        println!(rt; "refused in front of byte {}: {error}", cursor.position())?;
+    fs::write(rt, PATH, bytes.as_slice())?;
+    Ok(())
+}
+
+fn run(rt: &(impl Files + Print + AllocGlobal)) -> Result<(), Fault> {
+    save(rt, &first_order(rt.alloc())?)?;
+    let order = load(rt)?;
+    println!(rt;
+        "order {} of {}: {} items",
+        order.id,
+        order.buyer,
+        order.items.len()
+    )?;
+
+    damage(rt)?;
+    if let Err(fault) = load(rt) {
+        println!(rt; "{fault}")?;
     }
-    fs::remove_file(rt, "order.bin")?;
+    fs::remove_file(rt, PATH)?;
     Ok(())
 }
 
 fn main(rt: HostRuntime) -> ExitCode {
     match run(&rt) {
         Ok(()) => ExitCode::SUCCESS,
-        Err(error) => {
-            let _ = eprintln!(rt; "{error}");
+        Err(fault) => {
+            let _ = eprintln!(rt; "{fault}");
             ExitCode::FAILURE
         }
     }

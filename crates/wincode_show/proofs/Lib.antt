@@ -1,3 +1,1 @@
 pub mod Shapes
-mod Faulty
-mod Cases

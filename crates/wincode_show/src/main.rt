@@ -2,18 +2,11 @@
 //! `wincode_show explain SHAPE`: writes its parts, a line each.
 #![tactic(auto)]
 
-mod change;
-mod entry;
-mod event;
 mod explaining;
-mod faults;
-mod label;
-mod message;
 mod recoding;
 mod relaying;
 #[cfg(test)]
 mod tests;
-mod transfer;
 
 use explaining::explain;
 use recoding::RelayError;

@@ -1,42 +1,16 @@
-//! The program and its schemas: worked rows, and what is refused.
-mod events;
+//! The program: worked rows, and what is refused.
 mod explaining;
-mod faults;
-mod labels;
-mod messages;
-mod own_schemas;
 mod program;
 mod relaying;
 mod shapes;
 
-use super::entry::Entry;
 use super::relaying::relay;
-use std::alloc::Global;
 use std::test::Fail;
-use wincode::io::Lifetime;
-use wincode::{OneText, RoundTrip, serialize};
-use wincode_tests::copying::copy_front;
-use wincode_tests::rewriting::rewrite;
-use wincode_tests::rows::outcome;
 
 /// The list of the list of 1 and the empty list.
 const NESTED: [u8; 32] = [
     2, 0, 0, 0, 0, 0, 0, 0, 1, 0, 0, 0, 0, 0, 0, 0, 1, 0, 0, 0, 0, 0, 0, 0, 0, 0, 0, 0, 0, 0, 0, 0,
 ];
-
-/// What copying the value of a schema from the front of the bytes answers, and how many are left.
-fn copied_as<'a, T: RoundTrip<Lifetime<'a>> + OneText<Lifetime<'a>>>(
-    alloc: Global,
-    bytes: &'a [u8],
-) -> Result<String, Fail>
-where
-    T::Src: Drop,
-{
-    let mut reader = bytes;
-    let text = copy_front::<Lifetime<'a>, &'a [u8], T>(alloc, &mut reader);
-    let left = reader.len();
-    outcome(alloc, text, left)
-}
 
 #[test]
 fn relays(rt: HostRuntime) -> Result<(), Fail> {
@@ -60,23 +34,5 @@ fn relays(rt: HostRuntime) -> Result<(), Fail> {
         }
         assert!(rt; none.is_empty());
     }
-    Ok(())
-}
-
-#[test]
-fn an_entry(rt: HostRuntime) -> Result<(), Fail> {
-    let alloc = rt.alloc();
-    let entry = Entry {
-        id: 258,
-        tags: vec![in alloc; 7u8, 9]?,
-    };
-    let text = serialize(alloc, &entry)?;
-    assert_eq!(rt;
-        text.as_slice(),
-        [2u8, 1, 0, 0, 0, 0, 0, 0, 2, 0, 0, 0, 0, 0, 0, 0, 7, 9].as_slice()
-    );
-    let mut reader = text.as_slice();
-    let again = rewrite::<Lifetime, &[u8], Entry>(alloc, &mut reader)?;
-    assert!(rt; again == text);
     Ok(())
 }

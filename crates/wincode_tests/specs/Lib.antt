@@ -1,4 +1,3 @@
 pub mod Block
 pub mod Refusing
 pub mod ByteLengths
-pub mod Rewriting

@@ -5,9 +5,7 @@
 pub mod asked;
 pub mod block;
 pub mod byte_len;
-pub mod copying;
 pub mod refusing;
-pub mod rewriting;
 pub mod rows;
 pub mod single;
 pub mod square;

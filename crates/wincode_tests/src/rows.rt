@@ -1,11 +1,11 @@
 //! What tests of several crates share: rows as digits of base 16, and outcomes as encoding.
 ghost use Rattle.std.specs.Prelude.{◌<◌, IfOk};
 
-use crate::rewriting::rewrite;
 use std::alloc::Global;
 use std::test::Fail;
 use wincode::io::Lifetime;
 use wincode::{Error, RoundTrip};
+use wincode_uses::rewriting::rewrite;
 
 /// The byte of two digits of base 16.
 fn digit(b: u8) -> Result<u8, Fail>

@@ -7,8 +7,8 @@ use std::collections::{BinaryHeap, HashMap, HashSet};
 use std::test::Fail;
 use wincode::RoundTrip;
 use wincode::io::Lifetime;
-use wincode_tests::rewriting::rewrite;
 use wincode_tests::rows::{digits_of, outcome};
+use wincode_uses::rewriting::rewrite;
 
 /// The text of a list with its items in order, where each has so many bytes.
 fn in_order(alloc: Global, text: &[u8], size: usize) -> Result<Vec<u8>, Fail> {

@@ -1,0 +1,113 @@
+//! Structs and an enum by their shape: what they are written as, and that it is copied from a reader as it was read.
+use crate::copied::copied_as;
+use std::alloc::Global;
+use std::test::Fail;
+use wincode::By;
+use wincode::io::{Lending, Reader};
+use wincode::serde::Serialize;
+use wincode_examples::change::Change;
+use wincode_examples::transfer::{Account, Day, Payment, Transfer};
+use wincode_tests::rows::{bytes_of, outcome};
+use wincode_uses::copying::copy_front;
+
+/// A key of 32 bytes of 1, one of 32 bytes of 2, the number 3, and the note `a`.
+const TRANSFER: &str = concat!(
+    "0101010101010101010101010101010101010101010101010101010101010101",
+    "0202020202020202020202020202020202020202020202020202020202020202",
+    "0300000000000000",
+    "01010000000000000061"
+);
+
+/// Day 7, on which 5 went to a key of 32 bytes of 2.
+const DAY: &str = concat!(
+    "07000000",
+    "0100000000000000",
+    "0202020202020202020202020202020202020202020202020202020202020202",
+    "0500000000000000"
+);
+
+#[test]
+fn shapes_written_as_their_parts(rt: HostRuntime) -> Result<(), Fail> {
+    let alloc = rt.alloc();
+    let transfer = Transfer {
+        from: [1; 32],
+        to: [2; 32],
+        amount: 3,
+        memo: Some(String::from_str(alloc, "a")?),
+    };
+    let text = <By<Transfer> as Serialize>::serialize(alloc, &transfer)?;
+    assert!(rt; text == bytes_of(alloc, TRANSFER)?);
+    let payment = Payment {
+        to: Account([2; 32]),
+        amount: 5,
+    };
+    let day = Day {
+        number: 7,
+        paid: vec![in alloc; payment]?,
+    };
+    let text = <By<Day> as Serialize>::serialize(alloc, &day)?;
+    assert!(rt; text == bytes_of(alloc, DAY)?);
+    for (change, digits) in [
+        (Change::Closed(5), "000000000500000000000000"),
+        (
+            Change::Named(String::from_str(alloc, "a")?),
+            "01000000010000000000000061",
+        ),
+    ] {
+        let text = <By<Change> as Serialize>::serialize(alloc, &change)?;
+        assert!(rt; text == bytes_of(alloc, digits)?, "{digits}");
+    }
+    Ok(())
+}
+
+/// The encoding of the value of this name in front of the bytes, and how many bytes are left.
+fn copied(alloc: Global, name: &str, bytes: &[u8]) -> Result<String, Fail> {
+    match name {
+        "Transfer" => transfer_copied(alloc, bytes),
+        "Day" => copied_as::<By<Day>>(alloc, bytes),
+        _ => copied_as::<By<Change>>(alloc, bytes),
+    }
+}
+
+/// So of a transfer.
+fn transfer_copied(alloc: Global, bytes: &[u8]) -> Result<String, Fail> {
+    let mut reader = bytes;
+    let text = copy_shape(alloc, &mut reader);
+    let left = reader.len();
+    outcome(alloc, text, left)
+}
+
+/// A transfer from any reader.
+fn copy_shape<L: Lending, R: Reader<L>>(alloc: Global, reader: &mut R) -> wincode::Result<Vec<u8>> {
+    copy_front::<L, R, By<Transfer>>(alloc, reader)
+}
+
+#[test]
+fn shapes_copied(rt: HostRuntime) -> Result<(), Fail> {
+    let alloc = rt.alloc();
+    for (name, digits) in [
+        ("Transfer", TRANSFER),
+        ("Day", DAY),
+        ("Change", "000000000500000000000000"),
+        ("Change", "01000000010000000000000061"),
+    ] {
+        let wanted = format!(in alloc; "ok 0 {digits}")?;
+        let bytes = bytes_of(alloc, digits)?;
+        assert!(rt; copied(alloc, name, bytes.as_slice())? == wanted, "{name}");
+    }
+    for (name, digits, wanted) in [
+        ("Change", "0200000009", "err InvalidTagEncoding(2) 1"),
+        ("Change", "0000000009", "err Io(ReadSizeLimit(8)) 1"),
+        (
+            "Day",
+            "070000000100000000000000ff",
+            "err Io(ReadSizeLimit(40)) 1",
+        ),
+        ("Transfer", "01", "err Io(ReadSizeLimit(32)) 1"),
+    ] {
+        let bytes = bytes_of(alloc, digits)?;
+        let found = copied(alloc, name, bytes.as_slice())?;
+        assert_eq!(rt; found.as_str(), wanted);
+    }
+    Ok(())
+}

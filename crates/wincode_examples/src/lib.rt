@@ -1,0 +1,10 @@
+//! Schemas of a user's own, by hand and by shape, and devices that fail.
+#![tactic(auto)]
+
+pub mod change;
+pub mod entry;
+pub mod event;
+pub mod faults;
+pub mod label;
+pub mod message;
+pub mod transfer;
