@@ -1,6 +1,6 @@
 //! An enum of two cases that is read and written by its shape, as a result: a tag of four bytes, 0 for the
 //! first case and 1 for the second, and then what the case holds.
-ghost use Rattle.wincode_examples.specs.Changes.{change_parts};
+ghost use Rattle.wincode_examples.specs.Changes.{change_parts, change_parts_tell};
 
 use wincode::io::Writer;
 use wincode::schema::tuples::Member;
@@ -19,6 +19,8 @@ impl Shape for Change {
     type As = Result<u64, String>;
 
     ghost parts = { change_parts };
+
+    ghost parts_tell = { change_parts_tell };
 
     fn make(made_of: Self::Parts) -> Change {
         match made_of {

@@ -1,4 +1,6 @@
 //! A struct with a borrowed field, by its shape: what it borrows is the reader's own bytes.
+ghost use Rattle.std.proofs.Common.{ap};
+
 use wincode::io::Writer;
 use wincode::schema::tuples::{size_of_members_2, write_members_2};
 use wincode::{Shape, WriteResult};
@@ -16,6 +18,8 @@ impl<'a> Shape for Label<'a> {
     type As = (u64, &'a str);
 
     ghost parts = { λ l. (l.number, l.name) };
+
+    ghost parts_tell = { λ x y same. ap (λ p. record { number = p.0; name = p.1 }) same };
 
     fn make(made_of: Self::Parts) -> Label<'a> {
         let (number, name) = made_of;

@@ -1,5 +1,7 @@
 //! Structs that are read and written by their shape, without a grammar or a law of their own: as a tuple of
 //! their fields, or as the one field that they have.
+ghost use Rattle.std.proofs.Common.{ap};
+
 use wincode::io::Writer;
 use wincode::schema::tuples::{
     size_of_members_2, size_of_members_4, write_members_2, write_members_4,
@@ -16,6 +18,8 @@ impl Shape for Account {
     type As = [u8; 32];
 
     ghost parts = { λ a. a.0 };
+
+    ghost parts_tell = { λ x y same. ap (λ p. record { 0 = p }) same };
 
     fn make(made_of: [u8; 32]) -> Account {
         Account(made_of)
@@ -45,6 +49,8 @@ impl Shape for Transfer {
     type As = ([u8; 32], [u8; 32], u64, Option<String>);
 
     ghost parts = { λ t. (t.from, t.to, t.amount, t.memo) };
+
+    ghost parts_tell = { λ x y same. ap (λ p. record { from = p.0; to = p.1; amount = p.2; memo = p.3 }) same };
 
     fn make(made_of: Self::Parts) -> Transfer {
         let (from, to, amount, memo) = made_of;
@@ -90,6 +96,8 @@ impl Shape for Payment {
 
     ghost parts = { λ p. (p.to, p.amount) };
 
+    ghost parts_tell = { λ x y same. ap (λ p. record { to = p.0; amount = p.1 }) same };
+
     fn make(made_of: Self::Parts) -> Payment {
         let (to, amount) = made_of;
         Payment { to, amount }
@@ -117,6 +125,8 @@ impl Shape for Day {
     type As = (u32, Vec<By<Payment>>);
 
     ghost parts = { λ d. (d.number, d.paid) };
+
+    ghost parts_tell = { λ x y same. ap (λ p. record { number = p.0; paid = p.1 }) same };
 
     fn make(made_of: Self::Parts) -> Day {
         let (number, paid) = made_of;
