@@ -1,5 +1,5 @@
 -- Many forms read or written at once.
-use Rattle.std.proofs.Common.{◌≡◌, ◌⊎◌, ◌∙◌, sym, ap, subst, ℕ, ◌*◌, ◌-◌, ◌<◌, ◌≤◌, Bool, false, List, [], ◌∷◌, ◌++◌, length, map, min, refl, inl, inr, arith, append-nil, length-append}
+use Rattle.std.proofs.Common.{◌≡◌, ◌⊎◌, ◌∙◌, sym, ap, subst, ℕ, ◌*◌, ◌-◌, ◌<◌, ◌≤◌, ◌^◌, Bool, false, List, [], ◌∷◌, ◌++◌, length, map, min, refl, inl, inr, arith, append-nil, length-append}
 use Rattle.std.proofs.lemmas.Bool.{cases_lt}
 use Rattle.std.proofs.lemmas.List.Elements.{All-head, All-tail}
 use Rattle.std.specs.List.{All, flat_map}
@@ -211,3 +211,9 @@ at_once {S} {K} {put = put} {room = room} n old new e refused vast = elim (cases
   by new (writer.WriteSizeLimit m) least d = ((λ few. d.0), d.1 ∙ least)
   by new (writer.Io x) least d = d
   by new writer.OutOfMemory least d = d
+
+-- so, of n values of a byte each
+pub bytes_at_once : {S K : Type 0} {put : S → List ℕ → S} {room : S → ℕ} (n : ℕ) (old new : WriterState put room K) (e : IoWriteError) → n < 2 ^ 64 → BytesWriteRefused n old new e → FormWriteRefused (n * 1) old new e
+bytes_at_once n old new e few d =
+    let one : n ≡ n * 1 = omega arith in
+    at_once (n * 1) old new e (λ l. subst (λ k. BytesWriteRefused k old new e) one d) (λ l. absurd (omega (arith, few, l)))

@@ -58,7 +58,7 @@ returns-in-None-clause-outcome g c =
       ok = tt;
       value = tt;
       refused = whole_unwritten s k z T.writing vs (unfit_unwritten list vs W laws _ _ (rw c.write_length_encoding_overflow.ensures tt) over);
-      place = span_halted s k z T.writing vs has _ (bytes_are s z _ _ _ _ many c.in_ok-length.ensures.ok.1 none) W known refl (refl, rw c.write_length_encoding_overflow.ensures tt);
+      place = span_halted s k z T.writing vs has _ (bytes_are s z _ _ _ _ many c.in_ok-length.ensures.ok.1 none) W known refl (refl, rw c.write_length_encoding_overflow.ensures refl);
     }
 
 pub returns-in_err-make_room-clause-outcome : goal.returns-in_err-make_room-clause-outcome

@@ -1,7 +1,6 @@
-use Rattle.std.proofs.Common.{rules, arith, ◌≡◌, ◌<◌, ◌^◌, ◌*◌, length, subst}
-use Rattle.wincode_io.specs.Writers.{BytesWriteRefused}
+use Rattle.std.proofs.Common.{rules, ◌<◌, ◌^◌, length}
 use Rattle.wincode_base.proofs.Integers.{AreSmall}
-use Rattle.wincode_base.proofs.FormRuns.{at_once}
+use Rattle.wincode_base.proofs.FormRuns.{bytes_at_once}
 use Rattle.wincode_base.proofs.Bulk.{bytes_wrote, bytes_unwritten, bytes_halted, each_small}
 use Rattle.wincode_write.proofs.schema.leaves.U8SchemaWrite.write_items.Goals as goal
 
@@ -13,8 +12,7 @@ returns-in_err-write g c =
     let u = bytes_unwritten c.args.items.now small laws _ d in
     let p = bytes_halted c.args.items.now small laws _ d in
     let few : length c.args.items.now < 2 ^ 64 = search rules in
-    let one : length c.args.items.now ≡ length c.args.items.now * 1 = omega arith in
-    let b = at_once (length c.args.items.now * 1) _ _ _ (λ l. subst (λ k. BytesWriteRefused k _ _ _) one d) (λ l. absurd (omega (arith, few, l))) in search (rules, u, p, b)
+    let b = bytes_at_once (length c.args.items.now) _ _ _ few d in search (rules, u, p, b)
 
 pub returns : goal.returns
 returns g c =
