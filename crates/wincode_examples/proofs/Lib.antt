@@ -1,2 +1,2 @@
-mod Faulty
+mod Records
 mod Cases
