@@ -1,5 +1,5 @@
 -- Many numbers of one byte read or written at once.
-use Rattle.std.proofs.Common.{◌≡◌, ◌∙◌, sym, ap, subst, ℕ, ◌<◌, ◌≤◌, ◌^◌, ◌&&◌, Bool, true, false, List, [], ◌∷◌, ◌++◌, length, map, take, suc, refl, arith}
+use Rattle.std.proofs.Common.{◌≡◌, ◌∙◌, sym, ap, subst, ℕ, ◌*◌, ◌<◌, ◌≤◌, ◌^◌, ◌&&◌, Bool, true, false, List, [], ◌∷◌, ◌++◌, length, length-take, map, take, suc, refl, arith}
 use Rattle.std.proofs.lemmas.List.Elements.{All-head, All-tail}
 use Rattle.std.specs.Prelude.{Result, Ok, Err, is_ok, OnOk}
 use Rattle.wincode_io.specs.Bytes.{IsBytes}
@@ -9,6 +9,7 @@ use Rattle.wincode_io.specs.Places.{onward}
 use Rattle.wincode_io.specs.PlaceLaws.{kept_trans, known_kept, stays_onward}
 use Rattle.wincode_io.specs.Readers.{ReaderState, ReadRefusedFor, Stays, Loses, Takes, IsShown, IsShort}
 use Rattle.wincode_io.specs.Writers.{WriterState, WriterLaws, Added, BytesWriteRefused}
+use Rattle.wincode_base.specs.AsForms.{BulkReadRefused}
 use Rattle.wincode_base.specs.Grammar.{WriteGrammar}
 use Rattle.wincode_base.specs.Leaves.{number_read, number_write}
 use Rattle.wincode_base.specs.Lists.{items_write}
@@ -81,6 +82,16 @@ bytes_added n old mid new bytes before after small size shown stays loses e = re
 
 pub bytes_refused : (n : ℕ) (old new : ReaderState) (e : IoReadError) → Stays old new → ReadRefusedFor (IsShort n old) ⊥ n new e → ReadRefused (AreItems n (number_read 1 true).reads) 0 false old new (reading.Io e)
 bytes_refused n old new e s d = denied_refuses (AreItems n (number_read 1 true).reads) n (bytes_sized n) 0 false old new (reading.Io e) (s, d)
+
+-- at once they were refused by the reader
+pub bytes_denied : (n : ℕ) (old new : ReaderState) (e : IoReadError) → Stays old new → ReadRefusedFor (IsShort n old) ⊥ n new e → BulkReadRefused (n * 1) old new (reading.Io e)
+bytes_denied n old new e s d =
+    let one : n ≡ n * 1 = omega arith in
+    subst (λ k. BulkReadRefused k old new (reading.Io e)) one (s, d)
+
+-- at once they are there, and memory for them was refused
+pub bytes_wanted : (n : ℕ) (old new : ReaderState) (bytes : List ℕ) → Stays old new → length bytes ≡ n → IsShown n old bytes → BulkReadRefused (n * 1) old new reading.OutOfMemory
+bytes_wanted n old new bytes s size shown = (s, λ known. omega (arith, size, ap length (shown.1 known), length-take n old.rest))
 
 -- ---- writing
 

@@ -1,19 +1,18 @@
-use Rattle.std.proofs.Common.{rules, arith, ◌≡◌, ◌*◌, subst}
-use Rattle.wincode_io.specs.Readers.{BytesReadRefused, IsShort}
-use Rattle.wincode_base.proofs.Bulk.{bytes_added, bytes_refused, wanted_refuses, went_well}
+use Rattle.std.proofs.Common.{rules}
+use Rattle.wincode_base.proofs.Bulk.{bytes_added, bytes_refused, bytes_denied, bytes_wanted, wanted_refuses, went_well}
 use Rattle.wincode_read.proofs.schema.leaves.U8SchemaRead.read_items.Goals as goal
 
 pub returns-in_err-bytes : goal.returns-in_err-bytes
 returns-in_err-bytes g c =
     let follows = rw c.in_err-bytes.was at c.fill_exact.follows.holds-at-none in
     let h = bytes_refused c.args.n _ _ _ follows.0 follows.2 in
-    let one : c.args.n ≡ c.args.n * 1 = omega arith in
-    let b = subst (λ k. BytesReadRefused (IsShort k _) ⊥ k _ _ _) one (follows.0, follows.2) in search (rules, h, b)
+    let b = bytes_denied c.args.n _ _ _ follows.0 follows.2 in search (rules, h, b)
 
 pub returns-then-is_err : goal.returns-then-is_err
 returns-then-is_err g c =
     let follows = rw c.in_ok-bytes.was at c.fill_exact.follows.holds-at-none in
-    record { each = record { ok = tt; refused = wanted_refuses _ _ _ _ follows.0; place = search rules; same = search rules }; at_once = (follows.0, search rules) }
+    let shown = c.in_ok-bytes.ensures.shown in
+    record { each = record { ok = tt; refused = wanted_refuses _ _ _ _ follows.0; place = search rules; same = search rules }; at_once = bytes_wanted c.args.n _ _ _ follows.0 shown.0 shown.1 }
 
 pub returns : goal.returns
 returns g c =

@@ -1,5 +1,6 @@
 use Rattle.std.proofs.Common.{rules, ◌*◌, ◌<◌, ◌≤◌, true, [], refl, arith, inl, inr}
 use Rattle.std.proofs.Math.Nat.{mul-le-mul_right}
+use Rattle.wincode_io.specs.Readers.{Stays}
 use Rattle.wincode_io.specs.Writers.{byte_limit}
 use Rattle.wincode_base.specs.ListLaws.{items_none}
 use Rattle.wincode_base.specs.Views.{pod_read}
@@ -25,9 +26,9 @@ returns-in-None-2 g c =
     let some : 0 < c.args.n = search (arith, rules) in
     let most : 1 * s ≤ c.args.n * s = mul-le-mul_right s (omega (arith, some)) in
     let vast : byte_limit < s = search rules in
-    let stays = record { kept = record { lends = refl; never_fails = refl; is_known = refl }; rest = λ t. refl; ready = omega arith; place = refl } in
     let reads = (pod_read T.is_valid s T.form).reads in
     let old = g.R.Reader.state c.args.reader.now in
+    let stays : Stays old old = record { kept = record { lends = refl; never_fails = refl; is_known = refl }; rest = λ t. refl; ready = omega arith; place = refl } in
     rw c.read_length_encoding_overflow.ensures (record { each = record {
       ok = tt;
       refused = forms_vast g.T.ZeroCopy.byte_form c.args.n _ _ (omega (arith, most, vast));
