@@ -8,6 +8,7 @@ mod arrays;
 mod as_forms;
 mod boxes;
 pub mod from_items;
+mod heaps;
 mod in_window;
 mod leaves;
 mod lists;

@@ -8,6 +8,7 @@ ghost use Rattle.wincode_base.specs.Outcomes.{IsSized, SizeRefused, WriteOutcome
 mod arrays;
 mod as_forms;
 mod boxes;
+mod heaps;
 mod in_window;
 mod leaves;
 mod lists;

@@ -1,20 +1,18 @@
-//! Schemas of maps, sets and heaps, behind a length of eight bytes.
+//! Schemas of maps and sets, behind a length of eight bytes.
 //!
-//! A map is read as the list of its pairs, a set or a heap as the list of its items, and what `lists` says of
+//! A map is read as the list of its pairs, a set as the list of its items, and what `lists` says of
 //! windows, refusals and places holds here; a pair has one size where key and value have one. Where a value
 //! is refused, the reader stands as a list of pairs leaves it.
 //!
 //! The pairs or items may come in any order, and as often as they like: of equal keys the first stays, with
 //! the last value. An insertion that gets no memory is `OutOfMemory`. A pair counts as much as its key and its
 //! value together against the limit.
-ghost use Rattle.std.specs.BinaryHeap.{heap_items};
-ghost use Rattle.std.specs.List.Sorted.{IsPermutation};
-ghost use Rattle.std.specs.Prelude.{ℕ, Bool, List, map};
+ghost use Rattle.std.specs.Prelude.{List, map};
 ghost use Rattle.wincode_collect.specs.Collections.{IsSetOf, IsMapOf, IsHashSetOf, IsHashMapOf};
-ghost use Rattle.wincode_collect.specs.Seen.{sees, HashSetSeen, HashMapSeen, hash_set_sees, hash_map_sees, heap_sees, Made};
+ghost use Rattle.wincode_collect.specs.Seen.{sees, HashSetSeen, HashMapSeen, hash_set_sees, hash_map_sees, Made};
 ghost use Rattle.wincode_io.specs.Joins.{Each};
 ghost use Rattle.wincode_base.specs.Gathered.{gathered_read};
-ghost use Rattle.wincode_base.specs.GatheredLaws.{map_read_laws, set_read_laws, hash_map_read_laws, hash_set_read_laws, bag_read_laws};
+ghost use Rattle.wincode_base.specs.GatheredLaws.{map_read_laws, set_read_laws, hash_map_read_laws, hash_set_read_laws};
 ghost use Rattle.wincode_base.specs.LengthLaws.{bincode_laws};
 ghost use Rattle.wincode_base.specs.Lengths.{bincode, preallocation_limit};
 ghost use Rattle.wincode_base.specs.Pairs.{pair_read};
@@ -24,7 +22,7 @@ use crate::keys::Key;
 use crate::schema::SchemaRead;
 use crate::schema::from_items::{get_list, get_list_of};
 use std::alloc::Global;
-use std::collections::{BTreeMap, BTreeSet, BinaryHeap, HashMap, HashSet};
+use std::collections::{BTreeMap, BTreeSet, HashMap, HashSet};
 use std::hash::Hash;
 use wincode_base::error::ReadResult;
 use wincode_base::len::{BincodeLen, PREALLOCATION_LIMIT};
@@ -185,40 +183,4 @@ where
     }
 
     ghost read_laws = { hash_set_read_laws (bincode preallocation_limit) (bincode_laws preallocation_limit) (item_size K.reading.meta) K.model K.read_laws K.Dst.eq K.Dst.Eq.laws K.alike };
-}
-
-impl<L: Lending, T: SchemaRead<L> + Ord> SchemaRead<L> for BinaryHeap<T>
-where
-    T::Dst: Ord,
-{
-    type Dst = BinaryHeap<T::Dst>;
-
-    ghost Value = { (T.Value → Bool) → ℕ };
-
-    ghost model = { λ h. heap_sees T.model (heap_items h) };
-
-    ghost is_valid = { λ v. Unit {0} };
-
-    ghost reading = { gathered_read T.model (Made IsPermutation (heap_sees T.model)) (bincode preallocation_limit) (item_size T.reading.meta) T.reading };
-
-    fn type_meta() -> TypeMeta {
-        TypeMeta::Dynamic
-    }
-
-    fn prealloc_size() -> usize {
-        24
-    }
-
-    fn read<R: Reader<L>>(
-        alloc: Global,
-        reader: &mut R,
-        dst: &mut Option<BinaryHeap<T::Dst>>,
-    ) -> ReadResult<()> {
-        *dst = Some(get_list::<BinaryHeap<T::Dst>, BincodeLen<PREALLOCATION_LIMIT>, L, T, R>(
-            alloc, reader,
-        )?);
-        Ok(())
-    }
-
-    ghost read_laws = { bag_read_laws (bincode preallocation_limit) (bincode_laws preallocation_limit) (item_size T.reading.meta) T.model T.read_laws };
 }

@@ -1,10 +1,9 @@
-//! Schemas of maps, sets and heaps, behind a length of eight bytes.
+//! Schemas of maps and sets, behind a length of eight bytes.
 //!
-//! A map is written as the list of its pairs, a set or a heap as the list of its items, and what `lists` says of
-//! windows and refusals holds here; a pair has one size where key and value have one. `BTreeMap` and `BTreeSet`
+//! A map is written as the list of its pairs, a set as the list of its items, and what `lists` says of windows and
+//! refusals holds here; a pair has one size where key and value have one. `BTreeMap` and `BTreeSet`
 //! are written in the order of their keys, the others in the order in which they are gone over, which may be any.
 ghost use Rattle.std.specs.BTreeMap.{IsOrdered};
-ghost use Rattle.std.specs.BinaryHeap.{heap_items};
 ghost use Rattle.std.specs.HashMap.{IsUnique};
 ghost use Rattle.std.specs.List.{IsDistinct};
 ghost use Rattle.std.specs.List.Sorted.{IsStrictlySortedBy};
@@ -22,7 +21,7 @@ ghost use Rattle.wincode_base.specs.ItemSizes.{pair_size};
 
 use crate::schema::SchemaWrite;
 use crate::schema::to_items::{size_of_list, write_list, write_list_of};
-use std::collections::{BTreeMap, BTreeSet, BinaryHeap, HashMap, HashSet};
+use std::collections::{BTreeMap, BTreeSet, HashMap, HashSet};
 use std::hash::Hash;
 use wincode_base::error::WriteResult;
 use wincode_base::len::{BincodeLen, PREALLOCATION_LIMIT};
@@ -174,34 +173,4 @@ where
     }
 
     ghost write_laws = { sounder_laws (λ s. IsDistinct K.Src.eq s.keys) (scattered_write_laws (bincode preallocation_limit) (λ s. s.keys) K.write_laws) };
-}
-
-/// A `BinaryHeap` is some list of its items, seen as the bag of them.
-impl<T: SchemaWrite + Ord> SchemaWrite for BinaryHeap<T>
-where
-    T::Src: Ord,
-{
-    type Src = BinaryHeap<T::Src>;
-
-    ghost Value = { List T.Value };
-
-    ghost model = { λ h. map T.model (heap_items h) };
-
-    ghost is_valid = { λ h. Each T.is_valid (heap_items h) };
-
-    ghost writing = { scattered_write (bincode preallocation_limit) T.writing };
-
-    fn type_meta() -> TypeMeta {
-        TypeMeta::Dynamic
-    }
-
-    fn size_of(src: &BinaryHeap<T::Src>) -> WriteResult<usize> {
-        size_of_list::<BincodeLen<PREALLOCATION_LIMIT>, T, BinaryHeap<T::Src>, 24>(src)
-    }
-
-    fn write<W: Writer>(writer: &mut W, src: &BinaryHeap<T::Src>) -> WriteResult<()> {
-        write_list::<BincodeLen<PREALLOCATION_LIMIT>, T, BinaryHeap<T::Src>, W, 24>(writer, src)
-    }
-
-    ghost write_laws = { scattered_write_laws (bincode preallocation_limit) heap_items T.write_laws };
 }

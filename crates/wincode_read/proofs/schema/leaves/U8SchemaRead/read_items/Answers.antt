@@ -18,9 +18,12 @@ pub returns : goal.returns
 returns g c =
     let follows = rw c.in_ok-bytes.was at c.fill_exact.follows.holds-at-none in
     let shown = c.in_ok-bytes.ensures.shown in
-    record { each = record {
-      ok = bytes_added c.args.n _ _ _ c.in_ok-bytes.bytes.now _ _ c.add_bytes.ensures.small shown.0 shown.1 follows.0 c.consume_unchecked.ensures (went_well c.add_bytes.result c.if-is_err.ensures.negation c.add_bytes.ensures.ok);
-      refused = tt;
-      place = tt;
-      same = tt;
-    }; at_once = tt }
+    record {
+      each = record {
+        ok = bytes_added c.args.n _ _ _ c.in_ok-bytes.bytes.now _ _ c.add_bytes.ensures.small shown.0 shown.1 follows.0 c.consume_unchecked.ensures (went_well c.add_bytes.result c.if-is_err.ensures.negation c.add_bytes.ensures.ok);
+        refused = tt;
+        place = tt;
+        same = tt;
+      };
+      at_once = tt;
+    }

@@ -29,15 +29,18 @@ returns-in-None-2 g c =
     let reads = (pod_read T.is_valid s T.form).reads in
     let old = g.R.Reader.state c.args.reader.now in
     let stays : Stays old old = record { kept = record { lends = refl; never_fails = refl; is_known = refl }; rest = λ t. refl; ready = omega arith; place = refl } in
-    rw c.read_length_encoding_overflow.ensures (record { each = record {
-      ok = tt;
-      refused = forms_vast g.T.ZeroCopy.byte_form c.args.n _ _ (omega (arith, most, vast));
-      place = λ dynamic. record {
-        count = 0;
-        items = [];
-        mid = old;
-        gives = items_none reads old;
-        stop = inl (some, (form_vast g.T.ZeroCopy.byte_form 0 true old _ vast, inr (stays, omega (arith, vast), refl)));
+    rw c.read_length_encoding_overflow.ensures (record {
+      each = record {
+        ok = tt;
+        refused = forms_vast g.T.ZeroCopy.byte_form c.args.n _ _ (omega (arith, most, vast));
+        place = λ dynamic. record {
+          count = 0;
+          items = [];
+          mid = old;
+          gives = items_none reads old;
+          stop = inl (some, (form_vast g.T.ZeroCopy.byte_form 0 true old _ vast, inr (stays, omega (arith, vast), refl)));
+        };
+        same = refl;
       };
-      same = refl;
-    }; at_once = (stays, omega (arith, most, vast), refl) })
+      at_once = (stays, omega (arith, most, vast), refl);
+    })

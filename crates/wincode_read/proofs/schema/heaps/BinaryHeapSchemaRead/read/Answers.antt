@@ -6,7 +6,7 @@ use Rattle.wincode_base.specs.Lengths.{bincode, preallocation_limit}
 use Rattle.wincode_base.specs.ItemSizes.{item_size}
 use Rattle.wincode_base.specs.GatheredLaws.{gathered_refused, gathered_gives}
 use Rattle.wincode_base.proofs.ReadAnswers.{read_refused}
-use Rattle.wincode_read.proofs.schema.maps.BinaryHeapSchemaRead.read.Goals as goal
+use Rattle.wincode_read.proofs.schema.heaps.BinaryHeapSchemaRead.read.Goals as goal
 
 pub returns-in_err-get_list : goal.returns-in_err-get_list
 returns-in_err-get_list g c =

@@ -1,7 +1,7 @@
 use Rattle.wincode_base.specs.ItemSizes.{item_size}
 use Rattle.wincode_base.specs.Lengths.{bincode, preallocation_limit}
 use Rattle.wincode_base.specs.ScatteredLaws.{scattered_outcome}
-use Rattle.wincode_write.proofs.schema.maps.BinaryHeapSchemaWrite.write.Goals as goal
+use Rattle.wincode_write.proofs.schema.heaps.BinaryHeapSchemaWrite.write.Goals as goal
 
 pub returns : goal.returns
 returns g c =
