@@ -307,9 +307,9 @@ fn a_record_written_over_a_device(rt: HostRuntime) -> Result<(), Fail> {
     let mut room = [0u8; 83];
     let mut writer = FailingWriter::new(&mut room, 3);
     for _ in 0..2 {
-        write_record(&mut writer, &record)?;
+        write_record(&mut writer, record)?;
     }
-    let full = write_record(&mut writer, &record);
+    let full = write_record(&mut writer, record);
     assert!(rt;
         matches!(
             &full,
@@ -317,7 +317,7 @@ fn a_record_written_over_a_device(rt: HostRuntime) -> Result<(), Fail> {
         )
     );
     for _ in 0..2 {
-        let failed = write_record(&mut writer, &record);
+        let failed = write_record(&mut writer, record);
         assert!(rt; matches!(&failed, Err(WriteError::Io(error)) if is_write_fault(error)));
     }
     assert_eq!(rt; writer.written().len(), 82);

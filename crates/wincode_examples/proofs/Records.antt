@@ -1,11 +1,12 @@
 -- Reading and writing a record over a device, through one window of its size.
-use Rattle.std.proofs.Common.{◌≡◌, ◌∙◌, sym, subst, ap, ℕ, ◌<◌, ◌≤◌, ◌^◌, ◌&&◌, Bool, true, false, true≢false, List, [], ◌∷◌, ◌++◌, length, take, refl, arith, lit≤, lit<, append-nil, IsTrue, inl, inr, Result, Ok, Err}
-use Rattle.std.proofs.lemmas.List.{take_all}
+use Rattle.std.proofs.Common.{◌≡◌, ◌∙◌, sym, subst, ap, ℕ, ◌<◌, ◌≤◌, ◌^◌, ◌&&◌, Bool, true, false, true≢false, List, [], ◌∷◌, ◌++◌, length, take, map, refl, arith, lit≤, lit<, append-nil, IsTrue, inl, inr, Result, Ok, Err}
+use Rattle.std.proofs.lemmas.List.{take_all, map-id, length-append}
 use Rattle.std.specs.Result.{IfOk, IfErr, IsOk}
 use Rattle.std.specs.Borrow.{GName}
 use Rattle.wincode_io.specs.Joins.{Each}
-use Rattle.wincode_io.specs.Readers.{ReaderState, Windowed}
+use Rattle.wincode_io.specs.Readers.{ReaderState, Windowed, IsShort, BytesReadRefused}
 use Rattle.wincode_io.specs.Writers.{WriterState, WriterLaws, HasRoom, BytesWriteRefused}
+use Rattle.wincode_io.specs.SliceWriters.{slice_room}
 use Rattle.wincode_io.specs.WriteWindows.{window_of}
 use Rattle.wincode_io.specs.declared.error.ReadError.{ReadError as IoReadError}
 use Rattle.wincode_io.specs.declared.error.ReadError.TheVariants as reader
@@ -26,6 +27,7 @@ use Rattle.wincode_base.specs.declared.error.WriteError.{WriteError}
 use Rattle.wincode_base.specs.declared.error.WriteError.TheVariants as writing
 use Rattle.wincode_base.proofs.InWindow.{sized_of, written_size, window_gives, window_refuses, room_unwritten, room_halted, windowed_unwritten}
 use Rattle.wincode_base.proofs.Runs.{window_stopped}
+use Rattle.wincode_examples.specs.Faults.{ReadFrom, WrittenTo, AskedReadRefused, AskedWriteRefused, over_device, slice_over}
 use Rattle.wincode_examples.specs.Records.{record_size, members_read, record_read, members_write, record_write}
 
 -- ---- a window in a window of the same size
@@ -69,8 +71,8 @@ sized : (b : List ℕ) (v : ℕ × (Bool × List ℕ)) → record_read.reads b v
 sized = sized_of record_read.reads record_read.meta 41 false record_laws.statics refl
 
 module _ {old new window : ReaderState} (w : Windowed 41 old new window) where
-  pub record_gives : {after : ReaderState} (v : ℕ × (Bool × List ℕ)) → Gives record_read.reads window after v → Gives record_read.reads old new v
-  record_gives {after} v r = window_gives record_read.reads 41 sized old new window after v w r
+  pub record_gives : {after : ReaderState} (n : ℕ) (b : Bool) (bytes : List ℕ) → Gives record_read.reads window after (n, (b, map (λ k. k) bytes)) → Gives record_read.reads old new (n, (b, bytes))
+  record_gives {after} n b bytes r = window_gives record_read.reads 41 sized old new window after (n, (b, bytes)) w (subst (λ l. Gives record_read.reads window after (n, (b, l))) (map-id bytes) r)
 
   pub record_refused : {after : ReaderState} (e : ReadError) → SchemaReadRefused record_read window after e → SchemaReadRefused record_read old new e
   record_refused {after} e r = (window_refuses record_read.reads 41 sized record_read.borrow record_read.takes_no_memory old new window after e w r.0, one_window 41 members_read.refused old new window after e w r.1)
@@ -105,6 +107,21 @@ module _ {old new window : ReaderState} (w : Windowed 41 old new window) where
 pub record_denied : (old new : ReaderState) (e : IoReadError) → PieceReadRefused 41 old new (reading.Io e) → SchemaReadRefused record_read old new (reading.Io e)
 record_denied old new e d = (denied_refuses record_read.reads 41 sized record_read.borrow record_read.takes_no_memory old new (reading.Io e) d, inl d)
 
+-- what serves a call and has a record at its front refuses no window of its size
+pub record_served : (old new : ReadFrom) (e : IoReadError) → BytesReadRefused (IsShort 41 (over_device old)) ⊥ 41 (over_device old) (over_device new) e → AskedReadRefused old.device new.device e
+    → 0 < old.device.sound → Front record_read.reads old.rest → ⊥
+record_served old new (reader.ReadSizeLimit m) d a some f =
+    let short : length old.rest < 41 = d.1.0 refl in
+    let joins = ap length f.found.joins ∙ length-append f.found.encoding f.rest in
+    absurd (omega (arith, short, joins, sized f.found.encoding f.value f.found.is_read))
+record_served old new (reader.Io x) d a some f = let none = a.0.0 in absurd (omega (arith, none, some))
+record_served old new _ d a some f = a
+
+-- what is refused for no reason is not refused
+pub ok_by : {T E : Type 0} {P : E → Type 0} (r : Result T E) → ((e : E) → P e → ⊥) → IfErr r P → IsOk r
+ok_by (Ok x) why p = refl
+ok_by (Err e) why p = absurd (why e p)
+
 -- ---- writing
 
 each_unit : (xs : List ℕ) → Each (λ x. Unit {0}) xs
@@ -133,6 +150,12 @@ unrefused = record {
   builtin = record_write.builtin;
   refused = λ v room added e. ⊥;
 }
+
+-- what serves a call and has room for a record makes it
+pub record_fits : (old new : WrittenTo) (e : IoWriteError) → BytesWriteRefused 41 (slice_over old) (slice_over new) e → AskedWriteRefused old.device new.device e → 0 < old.device.sound → 41 ≤ slice_room old.content → ⊥
+record_fits old new (writer.WriteSizeLimit m) d a some fits = let less = d.1.0 in absurd (omega (arith, less, fits))
+record_fits old new (writer.Io x) d a some fits = let none = a.0.0 in absurd (omega (arith, none, some))
+record_fits old new _ d a some fits = a
 
 module _ {S K : Type 0} {put : S → List ℕ → S} {room : S → ℕ} (v : ℕ × (Bool × List ℕ)) (l : length v.1.1 ≡ 32) where
   denied_by : {X : Type 0} {is_valid : X → Type 0} {model : X → ℕ × (Bool × List ℕ)} → WriteLaws is_valid model members_write → WriterLaws put room → (old new : WriterState put room K) (e : IoWriteError) → BytesWriteRefused 41 old new e

@@ -1,9 +1,9 @@
 //! Devices that serve so many calls and then fail each time: a reader and a writer over one.
-ghost use Rattle.std.specs.Prelude.{◌≡◌, ◌<◌, ◌≤◌, IfOk, IfErr, OnOk, IsOk};
+ghost use Rattle.std.specs.Prelude.{◌≡◌, ◌<◌, ◌≤◌, IfErr, OnOk, IsOk};
 ghost use Rattle.std.specs.IoError.{error_kind};
 ghost use Rattle.std.specs.declared.io.ErrorKind.TheVariants.{Other};
 ghost use Rattle.wincode_io.specs.SliceWriters.{slice_room};
-ghost use Rattle.wincode_base.specs.Outcomes.{Front, Gives, SchemaReadRefused, WriteOutcome};
+ghost use Rattle.wincode_base.specs.Outcomes.{Front, GetOutcome, Wrote, WriteOutcome};
 ghost use Rattle.wincode_examples.specs.Faults.{HasServed, HasFailed, over_device, slice_over};
 ghost use Rattle.wincode_examples.specs.Records.{record_size, record_read, record_write};
 
@@ -27,8 +27,7 @@ pub fn read_record<'a>(
     alloc: Global,
     reader: &mut FailingReader<'a>,
 ) -> ReadResult<(u64, bool, [u8; 32])>
-    ensures ok { IfOk result (λ v. Gives record_read.reads (over_device reader.old) (over_device reader.new) (v.0, (v.1, v.2))) }
-    ensures err { IfErr result (SchemaReadRefused record_read (over_device reader.old) (over_device reader.new)) }
+    ensures gave { GetOutcome record_read (λ v. (v.0, (v.1, v.2))) (over_device reader.old) (over_device reader.new) result }
     ensures served { OnOk result (HasServed reader.old.device reader.new.device) }
     ensures succeeds { 0 < reader.old.device.sound → Front record_read.reads reader.old.rest → IsOk result }
 {
@@ -36,18 +35,25 @@ pub fn read_record<'a>(
     <(u64, bool, [u8; 32]) as SchemaGet<Lifetime<'a>>>::get(alloc, &mut window)
 }
 
+/// Writes a record for which room was made: nothing is refused.
+fn write_in_room<W: Writer>(writer: &mut W, src: (u64, bool, [u8; 32])) -> WriteResult<()>
+    requires room { record_size ≤ (W.state writer.old).ready }
+    ensures ok { IsOk result }
+    ensures wrote { OnOk result (Wrote record_write (W.state writer.old) (W.state writer.new) (src.0, (src.1, src.2))) }
+{
+    let mut window = WriteWindow::new(writer, RECORD_SIZE);
+    <(u64, bool, [u8; 32]) as SchemaWrite>::write(&mut window, &src)?;
+    Ok(())
+}
+
 /// Writes a record over a device that may fail, which is asked once. Where it serves that call and there is
 /// room, it is written; else it is refused as its schema says, or by the device.
-pub fn write_record(
-    writer: &mut FailingWriter,
-    src: &(u64, bool, [u8; 32]),
-) -> WriteResult<()>
-    ensures wrote { WriteOutcome record_write (slice_over writer.old) (slice_over writer.new) (src.now.0, (src.now.1, src.now.2)) (Unit {0}) result }
+pub fn write_record(writer: &mut FailingWriter, src: (u64, bool, [u8; 32])) -> WriteResult<()>
+    ensures wrote { WriteOutcome record_write (slice_over writer.old) (slice_over writer.new) (src.0, (src.1, src.2)) (Unit {0}) result }
     ensures succeeds { 0 < writer.old.device.sound → record_size ≤ slice_room writer.old.content → IsOk result }
 {
     writer.make_room(RECORD_SIZE)?;
-    let mut window = WriteWindow::new(writer, RECORD_SIZE);
-    <(u64, bool, [u8; 32]) as SchemaWrite>::write(&mut window, src)
+    write_in_room(writer, src)
 }
 
 /// A device that serves so many calls more and then fails each time. It counts its failures.

@@ -1,6 +1,6 @@
 //! Explaining: the front of an input as annotated bytes, a line for each part. A line has the part's offset,
 //! its bytes in hexadecimal, the first 16 where there are more, and what they are.
-use crate::recoding::{KnownShape, RelayError, recode_as};
+use crate::recoding::{KnownShape, RelayError, recode};
 use crate::relaying::gather;
 use std::alloc::Global;
 use std::io::{Read, Write};
@@ -242,8 +242,8 @@ fn parts(alloc: Global, shape: KnownShape, bytes: &[u8]) -> Result<Page, RelayEr
 }
 
 /// Why the value isn't recoded, if it isn't.
-fn refusal(alloc: Global, shape: KnownShape, bytes: &[u8]) -> Result<(), RelayError> {
-    match recode_as(alloc, shape, bytes) {
+fn refusal(alloc: Global, shape: &str, bytes: &[u8]) -> Result<(), RelayError> {
+    match recode(alloc, shape, bytes) {
         Ok(_) => Ok(()),
         Err(error) => Err(error),
     }
@@ -263,7 +263,7 @@ pub fn explain<R: Read, W: Write>(
     };
     let bytes = gather(alloc, input)?;
     let mut page = parts(alloc, known, bytes.as_slice())?;
-    let answer = refusal(alloc, known, bytes.as_slice());
+    let answer = refusal(alloc, shape, bytes.as_slice());
     if let Err(error) = &answer {
         let at = page.at;
         let why = kept(format!(in alloc; "{at}: refused: {error}\n"))?;

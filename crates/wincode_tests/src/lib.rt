@@ -1,5 +1,5 @@
-//! Uses of `wincode` by its trait contracts alone: a call for every schema, schemas and a length scheme of
-//! a caller's own, and what tests share.
+//! Schemas, a key and a length scheme of a caller's own, by the contracts of `wincode` alone, and what tests
+//! share.
 #![tactic(auto)]
 
 pub mod asked;
