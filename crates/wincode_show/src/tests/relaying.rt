@@ -251,5 +251,12 @@ fn a_list_of_some_mebibytes(rt: HostRuntime) -> Result<(), Fail> {
     let mut output = Vec::new(alloc);
     relay(alloc, "nested", &mut input.as_slice(), &mut output)?;
     assert!(rt; output == input);
+    let behind = vec![in alloc; 255u8; 1_048_576]?;
+    for _ in 0..20 {
+        input.extend_from_slice(behind.as_slice())?;
+    }
+    let mut again = Vec::new(alloc);
+    relay(alloc, "nested", &mut input.as_slice(), &mut again)?;
+    assert_eq!(rt; again.len(), output.len());
     Ok(())
 }
