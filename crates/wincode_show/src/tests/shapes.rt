@@ -126,7 +126,7 @@ const ENCODED: [(&str, &str); 10] = [
     ),
     ("pairs", "0000000000000000"),
     ("pairs", "020000000000000007010702"),
-    ("pairs", "030000000000000009010502050309"),
+    ("pairs", "0300000000000000090105020503"),
 ];
 
 /// Whether no value is found in front of the input, and nothing is written.
