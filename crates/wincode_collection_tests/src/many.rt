@@ -34,7 +34,7 @@ where
 }
 
 #[test]
-fn many_numbers(rt: HostRuntime) -> Result<(), Fail> {
+fn lists_of_many_numbers(rt: HostRuntime) -> Result<(), Fail> {
     let alloc = rt.alloc();
     for n in [2_000, 100_000] {
         let list = numbered(alloc, n, &[])?;
@@ -42,9 +42,6 @@ fn many_numbers(rt: HostRuntime) -> Result<(), Fail> {
         assert!(rt; keeps_all::<Vec<u32>>(alloc, bytes)?);
         assert!(rt; keeps_all::<VecDeque<u32>>(alloc, bytes)?);
         assert!(rt; keeps_all::<LinkedList<u32>>(alloc, bytes)?);
-        assert!(rt; keeps_all::<BTreeSet<u32>>(alloc, bytes)?);
-        assert!(rt; keeps_all::<HashSet<u32>>(alloc, bytes)?);
-        assert!(rt; keeps_all::<BinaryHeap<u32>>(alloc, bytes)?);
         assert!(rt; keeps_all::<containers::Vec<u32, Len>>(alloc, bytes)?);
         assert!(rt; keeps_all::<containers::VecDeque<u32, Len>>(alloc, bytes)?);
         assert!(rt; keeps_all::<containers::BoxedSlice<u32, Len>>(alloc, bytes)?);
@@ -55,24 +52,33 @@ fn many_numbers(rt: HostRuntime) -> Result<(), Fail> {
 }
 
 #[test]
-fn many_pairs_and_texts(rt: HostRuntime) -> Result<(), Fail> {
+fn maps_of_many_numbers(rt: HostRuntime) -> Result<(), Fail> {
     let alloc = rt.alloc();
     for n in [2_000, 100_000] {
         let list = numbered(alloc, n, &[])?;
         let bytes = list.as_slice();
         assert!(rt; keeps_all::<BTreeMap<u32, ()>>(alloc, bytes)?);
+        assert!(rt; keeps_all::<BTreeSet<u32>>(alloc, bytes)?);
         assert!(rt; keeps_all::<HashMap<u32, ()>>(alloc, bytes)?);
+        assert!(rt; keeps_all::<HashSet<u32>>(alloc, bytes)?);
+        assert!(rt; keeps_all::<BinaryHeap<u32>>(alloc, bytes)?);
     }
+    Ok(())
+}
+
+#[test]
+fn collections_of_many_texts(rt: HostRuntime) -> Result<(), Fail> {
+    let alloc = rt.alloc();
     let list = numbered(alloc, 2_000, &4u64.to_le_bytes())?;
     let bytes = list.as_slice();
     assert!(rt; keeps_all::<Vec<String>>(alloc, bytes)?);
     assert!(rt; keeps_all::<VecDeque<String>>(alloc, bytes)?);
     assert!(rt; keeps_all::<LinkedList<String>>(alloc, bytes)?);
+    assert!(rt; keeps_all::<BTreeMap<String, ()>>(alloc, bytes)?);
     assert!(rt; keeps_all::<BTreeSet<String>>(alloc, bytes)?);
+    assert!(rt; keeps_all::<HashMap<String, ()>>(alloc, bytes)?);
     assert!(rt; keeps_all::<HashSet<String>>(alloc, bytes)?);
     assert!(rt; keeps_all::<BinaryHeap<String>>(alloc, bytes)?);
-    assert!(rt; keeps_all::<BTreeMap<String, ()>>(alloc, bytes)?);
-    assert!(rt; keeps_all::<HashMap<String, ()>>(alloc, bytes)?);
     assert!(rt; keeps_all::<containers::Vec<String, Len>>(alloc, bytes)?);
     assert!(rt; keeps_all::<containers::VecDeque<String, Len>>(alloc, bytes)?);
     assert!(rt; keeps_all::<containers::BoxedSlice<String, Len>>(alloc, bytes)?);
