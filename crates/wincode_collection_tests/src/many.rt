@@ -58,8 +58,18 @@ fn maps_of_many_numbers(rt: HostRuntime) -> Result<(), Fail> {
         let list = numbered(alloc, n, &[])?;
         let bytes = list.as_slice();
         assert!(rt; keeps_all::<BTreeMap<u32, ()>>(alloc, bytes)?);
-        assert!(rt; keeps_all::<BTreeSet<u32>>(alloc, bytes)?);
         assert!(rt; keeps_all::<HashMap<u32, ()>>(alloc, bytes)?);
+    }
+    Ok(())
+}
+
+#[test]
+fn sets_and_heaps_of_many_numbers(rt: HostRuntime) -> Result<(), Fail> {
+    let alloc = rt.alloc();
+    for n in [2_000, 100_000] {
+        let list = numbered(alloc, n, &[])?;
+        let bytes = list.as_slice();
+        assert!(rt; keeps_all::<BTreeSet<u32>>(alloc, bytes)?);
         assert!(rt; keeps_all::<HashSet<u32>>(alloc, bytes)?);
         assert!(rt; keeps_all::<BinaryHeap<u32>>(alloc, bytes)?);
     }
