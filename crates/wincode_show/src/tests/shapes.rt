@@ -110,7 +110,7 @@ fn shapes_refused(rt: HostRuntime) -> Result<(), Fail> {
 }
 
 /// A shape and an encoding of it, in hexadecimal.
-const ENCODED: [(&str, &str); 10] = [
+const ENCODED: [(&str, &str); 12] = [
     ("nested", "0000000000000000"),
     (
         "nested",
@@ -127,6 +127,8 @@ const ENCODED: [(&str, &str); 10] = [
     ("pairs", "0000000000000000"),
     ("pairs", "020000000000000007010702"),
     ("pairs", "0300000000000000090105020503"),
+    ("pairs", "01000000000000000702"),
+    ("pairs", "020000000000000005030901"),
 ];
 
 /// Whether no value is found in front of the input, and nothing is written.
