@@ -4,9 +4,11 @@ ghost use Rattle.wincode_io.specs.Writers.{in_memory, byte_limit};
 ghost use Rattle.wincode_io.specs.WriterLaws.{append_laws, min_right};
 
 use crate::values::{NESTED, nested};
+use std::alloc::Global;
+use std::collections::{BTreeMap, BinaryHeap, HashMap, LinkedList, VecDeque};
 use std::test::Fail;
 use wincode::io::{self, WriteResult, Writer, ZeroCopy};
-use wincode::{WriteError, deserialize, serialize_into};
+use wincode::{SchemaWrite, WriteError, deserialize, serialize_into};
 
 #[test]
 fn inputs_of_each_kind(rt: HostRuntime) -> Result<(), Fail> {
@@ -95,5 +97,51 @@ fn a_piece_of_writing_ends_once(rt: HostRuntime) -> Result<(), Fail> {
         assert!(rt; answer.is_ok() != refuses);
         assert_eq!(rt; is_refused, refuses);
     }
+    Ok(())
+}
+
+/// Whether no piece of writing ends in the writing of the value by its schema, and one does by the call.
+fn ends_once<T: SchemaWrite<Src = T>>(alloc: Global, value: &T) -> Result<bool, Fail> {
+    let mut writer = Ending {
+        bytes: Vec::new(alloc),
+        ended: 0,
+        refuses: false,
+    };
+    T::write(&mut writer, value)?;
+    let by_schema = writer.ended;
+    serialize_into(&mut writer, value)?;
+    Ok(by_schema == 0 && writer.ended == 1)
+}
+
+#[test]
+fn schemas_end_no_piece_of_writing(rt: HostRuntime) -> Result<(), Fail> {
+    let alloc = rt.alloc();
+    let text = String::from_str(alloc, "ab")?;
+    assert!(rt; ends_once(alloc, &text)?);
+    assert!(rt; ends_once(alloc, &(7u8, 'c'))?);
+    assert!(rt; ends_once(alloc, &(258u16, true, [1u8, 2, 3]))?);
+    assert!(rt; ends_once(alloc, &(text, 1u8, Some(2u8), 3u64))?);
+    assert!(rt; ends_once(alloc, &Some(7u8))?);
+    assert!(rt; ends_once(alloc, &Option::<u8>::None)?);
+    assert!(rt; ends_once(alloc, &Result::<u8, u16>::Err(258))?);
+    assert!(rt; ends_once(alloc, &Box::new(alloc, 258u32)?)?);
+    assert!(rt; ends_once(alloc, &nested(alloc)?)?);
+    let mut map = BTreeMap::new(alloc);
+    let mut hashed = HashMap::new(alloc);
+    let mut queue = VecDeque::new(alloc);
+    let mut list = LinkedList::new(alloc);
+    let mut heap = BinaryHeap::new(alloc);
+    for item in [1u8, 2] {
+        map.insert(item, Some(item))?;
+        hashed.insert(item, item)?;
+        queue.push_back(item)?;
+        list.push_back(Some(item))?;
+        heap.push(item)?;
+    }
+    assert!(rt; ends_once(alloc, &map)?);
+    assert!(rt; ends_once(alloc, &hashed)?);
+    assert!(rt; ends_once(alloc, &queue)?);
+    assert!(rt; ends_once(alloc, &list)?);
+    assert!(rt; ends_once(alloc, &heap)?);
     Ok(())
 }

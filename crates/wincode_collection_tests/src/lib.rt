@@ -8,6 +8,8 @@ mod keys;
 #[cfg(test)]
 mod lists;
 #[cfg(test)]
+mod many;
+#[cfg(test)]
 mod maps;
 #[cfg(test)]
 mod short_lengths;

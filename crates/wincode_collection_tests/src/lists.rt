@@ -1,6 +1,7 @@
 //! Lists that rows as data can't say: how they are made, and lengths past their schemes.
 
-use std::collections::{LinkedList, VecDeque};
+use std::alloc::Global;
+use std::collections::{BinaryHeap, LinkedList, VecDeque};
 use std::test::Fail;
 use wincode::io::Lifetime;
 use wincode::len::{BincodeLen, ShortU16Len};
@@ -21,17 +22,31 @@ fn lists_past_their_limit_are_written(rt: HostRuntime) -> Result<(), Fail> {
     Ok(())
 }
 
+/// Whether the writing of a value was refused since its length is past the short ones, and nothing was written.
+fn is_past_u16<T: SchemaWrite>(alloc: Global, value: &T::Src) -> bool {
+    let size = T::size_of(value);
+    let mut text = Vec::new(alloc);
+    let long = T::write(&mut text, value);
+    matches!(&size, Err(WriteError::LengthEncodingOverflow("u16::MAX")))
+        && matches!(&long, Err(WriteError::LengthEncodingOverflow("u16::MAX")))
+        && text.is_empty()
+}
+
 #[test]
 fn lists_past_u16(rt: HostRuntime) -> Result<(), Fail> {
     let alloc = rt.alloc();
     let many = vec![in alloc; 0u8; 65536]?;
-    type Short = containers::Vec<u8, ShortU16Len>;
-    let size = <Short as SchemaWrite>::size_of(&many);
-    assert!(rt; matches!(&size, Err(WriteError::LengthEncodingOverflow("u16::MAX"))));
-    let mut text = Vec::new(alloc);
-    let long = <Short as SchemaWrite>::write(&mut text, &many);
-    assert!(rt; matches!(&long, Err(WriteError::LengthEncodingOverflow("u16::MAX"))));
-    assert!(rt; text.is_empty());
+    assert!(rt; is_past_u16::<containers::Vec<u8, ShortU16Len>>(alloc, &many));
+    let mut queue = VecDeque::new(alloc);
+    let mut heap = BinaryHeap::new(alloc);
+    for _ in 0..65536 {
+        queue.push_back(0u8)?;
+        heap.push(0u8)?;
+    }
+    assert!(rt; is_past_u16::<containers::VecDeque<u8, ShortU16Len>>(alloc, &queue));
+    assert!(rt; is_past_u16::<containers::BinaryHeap<u8, ShortU16Len>>(alloc, &heap));
+    let boxed = many.into_boxed_slice();
+    assert!(rt; is_past_u16::<containers::BoxedSlice<u8, ShortU16Len>>(alloc, &boxed));
     Ok(())
 }
 

@@ -5,6 +5,7 @@ use std::alloc::Global;
 use std::test::Fail;
 use wincode::io::{Lifetime, SliceWriter};
 use wincode::{RoundTrip, SchemaGet, SchemaRead, SchemaWrite};
+use wincode_tests::asked::AskedReader;
 use wincode_tests::rows::{digits_of, read_as};
 
 /// The value in front of the bytes.
@@ -20,6 +21,18 @@ where
         Ok(value) => Ok(value),
         Err(_) => Err(Fail::from("a value")),
     }
+}
+
+/// Whether a value was read from the bytes, how many of them are left, and how many the reader was asked for at the
+/// most.
+fn furthest<'a, T: RoundTrip<Lifetime<'a>>>(alloc: Global, bytes: &'a [u8]) -> Result<String, Fail>
+where
+    T::Src: Drop,
+{
+    let mut reader = AskedReader::new(bytes);
+    let is_read = <T as SchemaGet<Lifetime<'a>>>::get(alloc, &mut reader).is_ok();
+    let (left, furthest) = (reader.left(), reader.furthest());
+    Ok(format!(in alloc; "{is_read} {left} {furthest}")?)
 }
 
 /// What writing the value in front of the bytes into a slice of so many bytes answers, and what was written.
@@ -77,6 +90,7 @@ where
 {
     match asked {
         Asked::Read => read_as::<T>(alloc, bytes),
+        Asked::Furthest => furthest::<T>(alloc, bytes),
         Asked::Room(size) => within::<T>(alloc, bytes, size),
         Asked::Size => size_of::<T>(alloc, bytes),
         Asked::Meta => announced::<T>(alloc),

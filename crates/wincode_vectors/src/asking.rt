@@ -4,6 +4,7 @@
 #[derive(Clone, Copy)]
 pub enum Asked {
     Read,
+    Furthest,
     Room(usize),
     Size,
     Meta,
@@ -28,6 +29,7 @@ impl Call {
     fn of_word(text: &str) -> Option<Call> {
         match text {
             "read" => Some(Call::Schema(Asked::Read)),
+            "furthest" => Some(Call::Schema(Asked::Furthest)),
             "size" => Some(Call::Schema(Asked::Size)),
             "meta" => Some(Call::Schema(Asked::Meta)),
             "calls" => Some(Call::Calls),

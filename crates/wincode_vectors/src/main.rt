@@ -7,6 +7,8 @@
 //!
 //! - `read`: `ok LEFT TEXT`, the value written again; or `err ERROR LEFT`. Of what may be written in any order
 //!   the text is `sorted:`, and then its items in order.
+//! - `furthest`: whether a value is read, LEFT, and how many bytes from the front the reader was asked for at the
+//!   most, by a reader that lends nothing: no more than the value needs.
 //! - `room N`: the value is written into a slice of N bytes: `ok TEXT`, or `err ERROR TEXT`.
 //! - `size`: `size_of` of the value: `ok SIZE`.
 //! - `meta`: what the schema announces in reading, in writing, and `prealloc_size`.

@@ -146,6 +146,12 @@ fn views_give_and_set(rt: HostRuntime) -> Result<(), Fail> {
             Err(ReadError::ReadSizeLimit(8))
         )
     );
+    assert_eq!(rt; bytes, [2u8, 1, 0, 0, 9]);
+    let mut behind = [1u8, 0, 5, 6, 7, 8, 9];
+    u16::from_bytes_mut(&mut behind)?.set(772);
+    assert_eq!(rt; behind, [4u8, 3, 5, 6, 7, 8, 9]);
+    assert!(rt; Address::from_bytes_mut(&mut behind).is_err());
+    assert_eq!(rt; behind, [4u8, 3, 5, 6, 7, 8, 9]);
     let mut forms = [1u8, 0, 2, 0, 3, 0];
     let mut view = SliceRefMut::<'_, u16>::new(&mut forms, 3);
     assert_eq!(rt; (view.len(), view.get(1)), (3, 2));

@@ -50,6 +50,44 @@ fn lists(alloc: Global) -> Result<Ending, Unlike> {
     Ok(queue.and(linked).and(boxed).and(shared))
 }
 
+/// So behind a length by a scheme of choice.
+fn lists_of_choice(alloc: Global) -> Result<Ending, Unlike> {
+    let two = [2u8, 5, 0, 6, 0, 9];
+    let list = read::<containers::Vec<u16, ShortU16Len>>(alloc, two.as_slice(), 1, &[1])?;
+    let queue = read::<containers::VecDeque<u16, ShortU16Len>>(alloc, two.as_slice(), 1, &[1])?;
+    let heap = read::<containers::BinaryHeap<u16, ShortU16Len>>(alloc, two.as_slice(), 1, &[1])?;
+    Ok(list.and(queue).and(heap))
+}
+
+/// Two numbers behind one that is there: refused, the list holds that one, and all bytes stay.
+fn added_numbers(alloc: Global) -> Result<Ending, Unlike> {
+    let Ok(mut list) = Vec::from_slice(alloc, &[7u16]) else {
+        return Ok(Ending::Refused);
+    };
+    let mut reader = [5u8, 0, 6, 0, 9].as_slice();
+    let answer = <u16 as SchemaRead<Lifetime>>::read_items(alloc, &mut reader, 2, &mut list);
+    match answer {
+        Ok(()) if reader.len() == 1 && list.as_slice() == [7u16, 5, 6].as_slice() => Ok(
+            Ending::Ample,
+        ),
+        Err(ReadError::OutOfMemory) if reader.len() == 5 && list.as_slice() == [7u16].as_slice() =>
+            Ok(Ending::Refused),
+        _ => Err(Unlike::Reading),
+    }
+}
+
+/// Two texts, one after the other, for a list that is empty: refused, it is empty.
+fn added_texts(alloc: Global) -> Result<Ending, Unlike> {
+    let mut reader = [1u8, 0, 0, 0, 0, 0, 0, 0, 97, 1, 0, 0, 0, 0, 0, 0, 0, 98, 9].as_slice();
+    let mut list = Vec::new(alloc);
+    let answer = <String as SchemaRead<Lifetime>>::read_items(alloc, &mut reader, 2, &mut list);
+    match answer {
+        Ok(()) if reader.len() == 1 && list.len() == 2 => Ok(Ending::Ample),
+        Err(ReadError::OutOfMemory) if list.is_empty() => Ok(Ending::Refused),
+        _ => Err(Unlike::Reading),
+    }
+}
+
 /// Growths of what stands in options, results, tuples, arrays and lists.
 fn inside(alloc: Global) -> Result<Ending, Unlike> {
     let some = [1u8, 1, 0, 0, 0, 0, 0, 0, 0, 97];
@@ -93,5 +131,7 @@ pub fn all(alloc: Global) -> Result<Ending, Unlike> {
     let parts = inside(alloc)?;
     let gathered = inserted(alloc)?;
     let listed = one.and(lists(alloc)?).and(parts);
-    Ok(listed.and(gathered).and(deserialized(alloc)?))
+    let chosen = listed.and(lists_of_choice(alloc)?);
+    let added = added_numbers(alloc)?.and(added_texts(alloc)?);
+    Ok(chosen.and(gathered).and(added).and(deserialized(alloc)?))
 }

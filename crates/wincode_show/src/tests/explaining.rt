@@ -5,7 +5,7 @@ use std::test::Fail;
 use wincode_tests::rows::bytes_of;
 
 /// The shape, the input, the lines, and the error's text, which is empty where the input is explained whole.
-const EXPLAINED: [(&str, &str, &str, &str); 10] = [
+const EXPLAINED: [(&str, &str, &str, &str); 17] = [
     (
         "nested",
         "0200000000000000010000000000000001000000000000000000000000000000ff",
@@ -65,6 +65,48 @@ const EXPLAINED: [(&str, &str, &str, &str); 10] = [
         "0200000000",
         "0: refused: Attempting to read 8 bytes\n",
         "Attempting to read 8 bytes",
+    ),
+    (
+        "record",
+        "0500000000000000000909090909090909090909090909090909090909090909090909090909090909",
+        "0: 0500000000000000 number 5\n8: 00 flag false\n9: 09090909090909090909090909090909.. (32 bytes) 32 bytes\n",
+        "",
+    ),
+    (
+        "short",
+        "8001070809",
+        "0: 8001 length 128\n2: refused: Attempting to read 128 bytes\n",
+        "Attempting to read 128 bytes",
+    ),
+    (
+        "text",
+        "0200000000000000c328",
+        "0: 0200000000000000 length 2\n8: refused: invalid utf-8 sequence of 1 bytes from index 0\n",
+        "invalid utf-8 sequence of 1 bytes from index 0",
+    ),
+    (
+        "text",
+        "0f00000000000000616161616161616161616161616161",
+        "0: 0f00000000000000 length 15\n8: 616161616161616161616161616161 text\n",
+        "",
+    ),
+    (
+        "text",
+        "100000000000000061616161616161616161616161616161",
+        "0: 1000000000000000 length 16\n8: 61616161616161616161616161616161 text\n",
+        "",
+    ),
+    (
+        "text",
+        "11000000000000006161616161616161616161616161616161",
+        "0: 1100000000000000 length 17\n8: 61616161616161616161616161616161.. (17 bytes) text\n",
+        "",
+    ),
+    (
+        "nested",
+        "010000000000000007000000000000000100000000000000020000000000000003000000000000000400000000000000050000000000000006000000000000000700000000000000",
+        "0: 0100000000000000 length 1\n8: 0700000000000000 length 7\n16: 0100000000000000 item 1\n24: 0200000000000000 item 2\n32: 0300000000000000 item 3\n40: 0400000000000000 item 4\n48: 0500000000000000 item 5\n56: 0600000000000000 item 6\n64: 0700000000000000 item 7\n",
+        "",
     ),
 ];
 

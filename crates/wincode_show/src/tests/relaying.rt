@@ -253,3 +253,15 @@ fn a_list_of_some_mebibytes(rt: HostRuntime) -> Result<(), Fail> {
     assert!(rt; output == input);
     Ok(())
 }
+
+#[test]
+fn twenty_mebibytes_behind_a_value(rt: HostRuntime) -> Result<(), Fail> {
+    let alloc = rt.alloc();
+    let mut input = Vec::from_slice(alloc, NESTED.as_slice())?;
+    let behind = vec![in alloc; 255u8; 1_048_576]?;
+    for _ in 0..20 {
+        input.extend_from_slice(behind.as_slice())?;
+    }
+    assert!(rt; is_due(&relayed(alloc, input.as_slice()), Some(NESTED.as_slice())));
+    Ok(())
+}

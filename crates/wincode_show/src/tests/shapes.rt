@@ -109,20 +109,46 @@ fn shapes_refused(rt: HostRuntime) -> Result<(), Fail> {
     Ok(())
 }
 
-/// Each front of an encoding that is cut short is refused with nothing written, whichever the shape.
+/// A shape and an encoding of it, in hexadecimal.
+const ENCODED: [(&str, &str); 12] = [
+    ("nested", "0000000000000000"),
+    (
+        "nested",
+        "0200000000000000010000000000000001000000000000000000000000000000",
+    ),
+    ("text", "010000000000000061"),
+    ("text", "0300000000000000e282ac"),
+    ("short", "00"),
+    ("short", "03010203"),
+    (
+        "record",
+        "0201000000000000010102030405060708090a0b0c0d0e0f101112131415161718191a1b1c1d1e1f20",
+    ),
+    ("pairs", "0000000000000000"),
+    ("pairs", "020000000000000007010702"),
+    ("pairs", "0300000000000000090105020503"),
+    ("pairs", "01000000000000000702"),
+    ("pairs", "020000000000000005030901"),
+];
+
+/// Whether no value is found in front of the input, and nothing is written.
+fn is_unread(alloc: Global, shape: &str, input: &[u8]) -> bool {
+    let mut left = input;
+    let mut output = Vec::new(alloc);
+    let answer = relay(alloc, shape, &mut left, &mut output);
+    matches!(&answer, Err(RelayError::Read(_))) && output.is_empty()
+}
+
+/// Each front of an encoding that is cut short is refused in reading with nothing written, whichever the shape.
 #[test]
 fn fronts_of_encodings(rt: HostRuntime) -> Result<(), Fail> {
     let alloc = rt.alloc();
-    for n in 0..NESTED.len() {
-        assert!(rt; relayed(alloc, "nested", &NESTED[..n])?.is_err(), "{n}");
-    }
-    for (shape, _, output) in &WRITTEN {
-        let text = bytes_of(alloc, *output)?;
+    for (shape, text) in &ENCODED {
+        let text = bytes_of(alloc, *text)?;
         for n in 0..text.len() {
-            let answer = relayed(alloc, *shape, &text[..n])?;
-            let error = answer.err().ok_or("a refusal")?;
-            assert!(rt; error.as_str().ends_with(", 1, 0"), "{shape} {n}: {error}");
+            assert!(rt; is_unread(alloc, *shape, &text[..n]), "{shape} {n}");
         }
+        assert!(rt; relayed(alloc, *shape, text.as_slice())?.is_ok(), "{shape}");
     }
     Ok(())
 }
