@@ -6,7 +6,7 @@ use std::test::Fail;
 use wincode::io::Lifetime;
 use wincode::len::{BincodeLen, NO_LIMIT};
 use wincode::{RoundTrip, containers};
-use wincode_tests::rewriting::rewrite;
+use wincode_uses::rewriting::rewrite;
 
 type Len = BincodeLen<NO_LIMIT>;
 
