@@ -1,7 +1,7 @@
 //! An enum of three cases with schemas by hand, which differ in their tags alone; and one of cases that hold
 //! nothing.
 ghost use Rattle.std.specs.Prelude.{◌≡◌, ℕ, ◌+◌, ◌≤◌, ◌^◌, true, false, IfOk, IfErr, refl};
-ghost use Rattle.wincode_base.specs.Outcomes.{IsLengthOverflow, GetOutcome};
+ghost use Rattle.wincode_base.specs.Outcomes.{IsOverflow, past_usize, GetOutcome};
 ghost use Rattle.wincode_examples.specs.Cases.{Three, AreTags};
 ghost use Rattle.wincode_examples.specs.Events.{SeenEvent, event_seen, IsEvent, IsSeenEvent, event_read, event_write, mark_seen, mark_read, mark_write};
 ghost use Rattle.wincode_examples.specs.EventLaws.{event_read_laws, event_write_laws, event_reads_back, event_one_text};
@@ -124,7 +124,7 @@ pub type EventU32 = EventBy<SpreadTags>;
 /// `LengthEncodingOverflow`.
 fn behind_tag<Tag: TagCode>(size: usize) -> WriteResult<usize>
     ensures ok { IfOk result (λ n. n ≡ Tag.size + size) }
-    ensures err { IfErr result (λ e. (2 ^ 64 ≤ Tag.size + size) × IsLengthOverflow e) }
+    ensures err { IfErr result (λ e. (2 ^ 64 ≤ Tag.size + size) × IsOverflow past_usize e) }
 {
     match Tag::tag_size().checked_add(size) {
         Some(size) => Ok(size),

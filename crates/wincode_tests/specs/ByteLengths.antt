@@ -12,6 +12,7 @@ byte_scheme = record {
   encoding = λ n. if nat_lt n 256 then Some (n ∷ []) else None;
   admits = λ n p. n < 256;
   builtin = false;
+  overflow = [];
   refused = λ p. PieceReadRefused 1;
 }
 
