@@ -173,3 +173,16 @@ module _ {S K : Type 0} {put : S → List ℕ → S} {room : S → ℕ} (v : ℕ
   record_written_through old made below after name name' left left' e has same all u s =
       let stopped = window_stopped record_write v 41 (written v, lit< tt) old made below after name name' left left' e has same all u {k = unrefused} s (λ cannot inside added r. absurd (cannot (can v l))) in
       stopped.refused
+
+  -- what of a record was written in a window of its size was written
+  pub record_through : (old below after : WriterState put room K) (name name' : GName) (left left' : ℕ) → below ≡ old → 41 ≤ room old.content → Wrote record_write (window_of below name left) (window_of after name' left') v → Wrote record_write old after v
+  record_through old below after name name' left left' same fits o = record {
+    can = o.can;
+    fits = let size = written v o.can in omega (arith, size, fits);
+    encoding = o.encoding;
+    is_encoding = o.is_encoding;
+    took = record {
+      same = record { kept = ap (λ k. k.target) o.took.same.kept ∙ ap (λ s. s.kept) same; never_fails = ap (λ k. k.never_fails) o.took.same.kept ∙ ap (λ s. s.never_fails) same };
+      content = ap (λ c. c.target) o.took.content ∙ ap (λ s. put s.content o.encoding) same;
+    };
+  }
