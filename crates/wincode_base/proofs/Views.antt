@@ -20,7 +20,7 @@ use Rattle.wincode_base.specs.LengthLaws.{bincode_encoding, bincode_encoding_is}
 use Rattle.wincode_base.specs.Lengths.{bincode}
 use Rattle.wincode_base.specs.ItemSizes.{item_size}
 use Rattle.wincode_base.specs.Lists.{items_write, parts_write, list_bytes, ItemsWriteRefused, ListWriteRefused, WholeWriteRefused, InnerWriteRefused, SpanWriteRefused, SizesRefused, reads_list}
-use Rattle.wincode_base.specs.Outcomes.{Gives, Accepts, ReadRefused, ReaderDue, ReadDue, PieceReadRefused, Wrote, WriteRefused, Stopped, WriteOutcome, PieceWriteRefused, IsValueError}
+use Rattle.wincode_base.specs.Outcomes.{Gives, Accepts, ReadRefused, ReaderDue, ReadDue, PieceReadRefused, Wrote, WriteRefused, Stopped, PieceWriteRefused, IsValueError}
 use Rattle.wincode_base.specs.AsForms.{reads_form}
 use Rattle.wincode_base.specs.Sequences.{Then, gives_map, refuses_map, then_gives, then_first, then_second}
 use Rattle.wincode_base.specs.FixedSizeLaws.{takes_gives}

@@ -1,5 +1,5 @@
 -- Reading and writing one of three cases, by its tag.
-use Rattle.std.proofs.Common.{◌≡◌, ◌∙◌, sym, ap, subst, ℕ, ◌+◌, ◌<◌, ◌≤◌, ◌^◌, ◌&&◌, true, List, [], max, refl, arith, append-nil, inl, Ok, Err}
+use Rattle.std.proofs.Common.{◌≡◌, ◌∙◌, sym, ap, subst, ℕ, ◌<◌, ◌≤◌, ◌^◌, ◌&&◌, true, List, [], max, refl, arith, append-nil, inl, Ok, Err}
 use Rattle.wincode_io.specs.Readers.{ReaderState}
 use Rattle.wincode_io.specs.Numbers.{le}
 use Rattle.wincode_io.specs.Writers.{WriterState, WriterLaws}

@@ -1,7 +1,7 @@
 -- Reading and writing a record over a device, through one window of its size.
-use Rattle.std.proofs.Common.{◌≡◌, ◌∙◌, sym, subst, ap, ℕ, ◌<◌, ◌≤◌, ◌^◌, ◌&&◌, Bool, true, false, true≢false, List, [], ◌∷◌, ◌++◌, length, take, map, refl, arith, lit≤, lit<, append-nil, IsTrue, inl, inr, Result, Ok, Err}
+use Rattle.std.proofs.Common.{◌≡◌, ◌∙◌, sym, subst, ap, ℕ, ◌<◌, ◌≤◌, ◌^◌, ◌&&◌, Bool, true, false, true≢false, List, [], ◌∷◌, ◌++◌, length, map, refl, arith, lit≤, lit<, append-nil, IsTrue, inl, inr, Result, Ok, Err}
 use Rattle.std.proofs.lemmas.List.{take_all, map-id, length-append}
-use Rattle.std.specs.Result.{IfOk, IfErr, IsOk}
+use Rattle.std.specs.Result.{IfErr, IsOk}
 use Rattle.std.specs.Borrow.{GName}
 use Rattle.wincode_io.specs.Joins.{Each}
 use Rattle.wincode_io.specs.Readers.{ReaderState, Windowed, IsShort, BytesReadRefused}
@@ -13,9 +13,9 @@ use Rattle.wincode_io.specs.declared.error.ReadError.TheVariants as reader
 use Rattle.wincode_io.specs.declared.error.WriteError.{WriteError as IoWriteError}
 use Rattle.wincode_io.specs.declared.error.WriteError.TheVariants as writer
 use Rattle.wincode_base.specs.ArrayLaws.{array_read_laws, array_write_laws}
-use Rattle.wincode_base.specs.Arrays.{IsArray, array_write}
+use Rattle.wincode_base.specs.Arrays.{IsArray}
 use Rattle.wincode_base.specs.FixedSizeLaws.{takes_joins, denied_refuses}
-use Rattle.wincode_base.specs.Grammar.{ReadGrammar, ReadLaws, ReadRefusal, WriteGrammar, WriteLaws}
+use Rattle.wincode_base.specs.Grammar.{ReadLaws, ReadRefusal, WriteGrammar, WriteLaws}
 use Rattle.wincode_base.specs.InWindow.{WindowReadRefused}
 use Rattle.wincode_base.specs.LeafLaws.{same_front, number_read_laws, number_write_laws, bool_read_laws, bool_write_laws}
 use Rattle.wincode_base.specs.Leaves.{number_read, number_write}
@@ -28,7 +28,7 @@ use Rattle.wincode_base.specs.declared.error.WriteError.TheVariants as writing
 use Rattle.wincode_base.proofs.InWindow.{sized_of, written_size, window_gives, window_refuses, room_unwritten, room_halted, windowed_unwritten}
 use Rattle.wincode_base.proofs.Runs.{window_stopped}
 use Rattle.wincode_examples.specs.Faults.{ReadFrom, WrittenTo, AskedReadRefused, AskedWriteRefused, over_device, slice_over}
-use Rattle.wincode_examples.specs.Records.{record_size, members_read, record_read, members_write, record_write}
+use Rattle.wincode_examples.specs.Records.{members_read, record_read, members_write, record_write}
 
 -- ---- a window in a window of the same size
 

@@ -1,11 +1,10 @@
 -- A schema that accepts nothing and whose value has no encoding.
-use Rattle.std.specs.Prelude.{◌≡◌, ℕ, List, [], true, false}
+use Rattle.std.specs.Prelude.{◌≡◌, [], true, false}
 use Rattle.std.proofs.Common.{arith}
 use Rattle.wincode_io.specs.Readers.{ReaderState, nothing}
 use Rattle.wincode_base.specs.Grammar.{ReadGrammar, ReadLaws, WriteGrammar, WriteLaws, WriteRefusal}
 use Rattle.wincode_base.specs.declared.error.ReadError.{ReadError}
 use Rattle.wincode_base.specs.declared.error.ReadError.TheVariants.{Custom}
-use Rattle.wincode_base.specs.declared.error.WriteError.{WriteError}
 use Rattle.wincode_base.specs.declared.error.WriteError.TheVariants as writing
 use Rattle.wincode_base.specs.declared.meta.TypeMeta.TheVariants.{Dynamic}
 

@@ -1,4 +1,4 @@
-use Rattle.std.proofs.Common.{rules, true, inl, inr}
+use Rattle.std.proofs.Common.{rules, true, inr}
 use Rattle.wincode_base.specs.Strings.{str_read, body_read}
 use Rattle.wincode_base.proofs.ReadAnswers.{get_map}
 use Rattle.wincode_base.proofs.Strings.{text_gives, text_first, text_second}

@@ -1,4 +1,4 @@
-use Rattle.std.proofs.Common.{rules, ◌∙◌, sym, ap, map, refl, inl, inr, Some}
+use Rattle.std.proofs.Common.{rules, ◌∙◌, sym, ap, map, refl, inr, Some}
 use Rattle.std.proofs.lemmas.List.{length-map}
 use Rattle.wincode_base.specs.Lists.{parts_write, list_write_of}
 use Rattle.wincode_base.specs.ListLaws.{parts_write_laws}

@@ -1,4 +1,4 @@
-use Rattle.std.proofs.Common.{rules, ◌≡◌, ◌∙◌, sym, refl, map, length}
+use Rattle.std.proofs.Common.{rules, ◌≡◌, ◌∙◌, refl, map, length}
 use Rattle.std.proofs.lemmas.List.{length-map}
 use Rattle.wincode_base.specs.Arrays.{array_write}
 use Rattle.wincode_base.specs.Lists.{items_write, each_write}

@@ -1,4 +1,4 @@
-use Rattle.std.proofs.Common.{rules, true, ◌<◌, ◌*◌, length, map}
+use Rattle.std.proofs.Common.{rules, true, ◌<◌, ◌*◌, length}
 use Rattle.wincode_base.proofs.FormRuns.{pod_writes, forms_wrote, forms_unwritten, forms_halted, pods_refused, all_each, at_once}
 use Rattle.wincode_base.specs.Views.{form_prealloc}
 use Rattle.wincode_write.proofs.schema.pod.PodSchemaWrite.write_items.Goals as goal
