@@ -1,5 +1,6 @@
 //! A first program: an order goes to a file and comes back, and a file that was damaged is refused.
 #![tactic(auto)]
+
 ghost use Rattle.std.proofs.Common.{ap};
 
 use std::alloc::{AllocError, Global};
