@@ -16,7 +16,7 @@ fn values_there_and_back(rt: HostRuntime) -> Result<(), Fail> {
     counts.insert(String::from_str(alloc, "b")?, 2u64)?;
     counts.insert(String::from_str(alloc, "a")?, 1)?;
     let bytes = counts_to_bytes(alloc, &counts)?;
-    assert_eq!(rt; bytes[16], b'a');
+    assert!(rt; bytes.get(16) == Some(&b'a'));
     assert_eq!(rt; counts_of(alloc, bytes.as_slice())?.len(), 2);
     Ok(())
 }
@@ -28,11 +28,12 @@ fn lines_of_a_file(rt: HostRuntime) -> Result<(), Fail> {
         (7u64, String::from_str(alloc, "a")?),
         (8, String::new(alloc)),
     ]?;
-    let bytes = join_lines(alloc, lines.as_slice())?;
+    let mut bytes = join_lines(alloc, lines.as_slice())?;
     assert_eq!(rt; bytes.len(), 33);
     assert!(rt; split_lines(alloc, bytes.as_slice())? == lines);
     assert_eq!(rt; split_lines(alloc, &[])?.len(), 0);
-    let cut = split_lines(alloc, &bytes[..32]);
+    bytes.truncate(32);
+    let cut = split_lines(alloc, bytes.as_slice());
     assert!(rt; cut.is_err());
     Ok(())
 }
