@@ -1,0 +1,9 @@
+//! Structs and enums with the schemas that `wincode_derive` wrote of their declarations.
+#![tactic(auto)]
+
+pub mod event;
+pub mod label;
+pub mod marks;
+pub mod order;
+pub mod parcel;
+pub mod signal;

@@ -1,0 +1,670 @@
+//! Written by `wincode_derive`: the schemas of what the module above declares.
+ghost use Rattle.std.specs.Prelude.{Ok, Err};
+ghost use Rattle.wincode_base.specs.PairLaws.{write_laws_by, reads_back_by};
+ghost use Rattle.wincode_declared.specs.declared.marks.Mark.TheVariants.{Plus as MarkPlus, Minus as MarkMinus, Other as MarkOther};
+ghost use Rattle.wincode_declared.specs.declared.marks.Only.TheVariants.{Spanned as OnlySpanned};
+
+use super::*;
+use std::alloc::Global;
+use wincode::io::{Lending, Reader, Writer};
+use wincode::schema::tuples::{encode_members_2, size_of_members_2, write_members_2};
+use wincode::{
+    Key, OneText, ReadResult, RoundTrip, SchemaGet, SchemaRead, SchemaReadOwned, SchemaWrite,
+    TypeMeta, WriteResult,
+};
+use wincode_derived::enums::{EnumParts, EnumShape, read_enum, size_of_enum, write_enum};
+use wincode_derived::laws::{FieldsKey, FieldsOneText, FieldsReadOwned, Lawful};
+use wincode_derived::sums::{Case, Last, OneOf};
+
+type AccountFields = [u8; 32];
+
+impl SchemaWrite for Account {
+    type Src = Account;
+
+    ghost Value = { ⟦<AccountFields as SchemaWrite>⟧.Value };
+
+    ghost model = { λ x. ⟦<AccountFields as SchemaWrite>⟧.model x.0 };
+
+    ghost is_valid = { λ x. ⟦<AccountFields as SchemaWrite>⟧.is_valid x.0 };
+
+    ghost writing = { ⟦<AccountFields as SchemaWrite>⟧.writing };
+
+    fn type_meta() -> TypeMeta {
+        <AccountFields as SchemaWrite>::type_meta()
+    }
+
+    fn size_of(src: &Account) -> WriteResult<usize> {
+        <[u8; 32] as SchemaWrite>::size_of(&src.0)
+    }
+
+    fn write<W: Writer>(writer: &mut W, src: &Account) -> WriteResult<()> {
+        <[u8; 32] as SchemaWrite>::write::<W>(writer, &src.0)
+    }
+
+    fn encode(src: &Account, dst: &mut [u8]) -> bool {
+        <[u8; 32] as SchemaWrite>::encode(&src.0, dst)
+    }
+
+    ghost write_laws = { write_laws_by (λ x. x.0) ⟦<AccountFields as SchemaWrite>⟧.write_laws };
+}
+
+impl<L: Lending> SchemaRead<L> for Account {
+    type Dst = Account;
+
+    ghost Value = { ⟦<AccountFields as SchemaRead<L>>⟧.Value };
+
+    ghost model = { λ x. ⟦<AccountFields as SchemaRead<L>>⟧.model x.0 };
+
+    ghost is_valid = { ⟦<AccountFields as SchemaRead<L>>⟧.is_valid };
+
+    ghost reading = { ⟦<AccountFields as SchemaRead<L>>⟧.reading };
+
+    fn type_meta() -> TypeMeta {
+        <AccountFields as SchemaRead<L>>::type_meta()
+    }
+
+    fn prealloc_size() -> usize {
+        <AccountFields as SchemaRead<L>>::prealloc_size()
+    }
+
+    fn read<R: Reader<L>>(
+        alloc: Global,
+        reader: &mut R,
+        dst: &mut Option<Account>,
+    ) -> ReadResult<()> {
+        let a = <AccountFields as SchemaGet<L>>::get(alloc, reader)?;
+        *dst = Some(Account(a));
+        Ok(())
+    }
+
+    ghost read_laws = { ⟦<AccountFields as Lawful<L>>⟧.read_laws };
+}
+
+impl<L: Lending> Lawful<L> for Account {
+    ghost Value = { ⟦<AccountFields as Lawful<L>>⟧.Value };
+
+    ghost is_valid = { ⟦<AccountFields as Lawful<L>>⟧.is_valid };
+
+    ghost reading = { ⟦<AccountFields as Lawful<L>>⟧.reading };
+
+    ghost read_laws = { ⟦<AccountFields as Lawful<L>>⟧.read_laws };
+}
+
+impl<L: Lending> RoundTrip<L> for Account
+where
+    AccountFields: RoundTrip<L>,
+{
+    ghost reads_back = { reads_back_by (λ x. x.0) bound-5.reads_back };
+}
+
+impl<L: Lending> OneText<L> for Account
+where
+    AccountFields: FieldsOneText<L>,
+{
+    ghost one_text = { bound-5.fields_one_text };
+}
+
+impl<L: Lending> SchemaReadOwned<L> for Account
+where
+    AccountFields: FieldsReadOwned<L>,
+{
+    ghost owned = { bound-5.fields_owned };
+}
+
+type AccountPairs = [u8; 32];
+
+impl<L: Lending> Key<L> for Account
+where
+    AccountPairs: FieldsKey<L>,
+{
+    ghost alike = { λ x y. bound-5.fields_alike x.0 y.0 };
+}
+
+type SpanFields = (u16, i64);
+
+impl SchemaWrite for Span {
+    type Src = Span;
+
+    ghost Value = { ⟦<SpanFields as SchemaWrite>⟧.Value };
+
+    ghost model = { λ x. ⟦<SpanFields as SchemaWrite>⟧.model (x.0, x.1) };
+
+    ghost is_valid = { λ x. ⟦<SpanFields as SchemaWrite>⟧.is_valid (x.0, x.1) };
+
+    ghost writing = { ⟦<SpanFields as SchemaWrite>⟧.writing };
+
+    fn type_meta() -> TypeMeta {
+        <SpanFields as SchemaWrite>::type_meta()
+    }
+
+    fn size_of(src: &Span) -> WriteResult<usize> {
+        size_of_members_2::<u16, i64>(&src.0, &src.1)
+    }
+
+    fn write<W: Writer>(writer: &mut W, src: &Span) -> WriteResult<()> {
+        write_members_2::<u16, i64, W>(writer, &src.0, &src.1)
+    }
+
+    fn encode(src: &Span, dst: &mut [u8]) -> bool {
+        encode_members_2::<u16, i64>(&src.0, &src.1, dst)
+    }
+
+    ghost write_laws = { write_laws_by (λ x. (x.0, x.1)) ⟦<SpanFields as SchemaWrite>⟧.write_laws };
+}
+
+impl<L: Lending> SchemaRead<L> for Span {
+    type Dst = Span;
+
+    ghost Value = { ⟦<SpanFields as SchemaRead<L>>⟧.Value };
+
+    ghost model = { λ x. ⟦<SpanFields as SchemaRead<L>>⟧.model (x.0, x.1) };
+
+    ghost is_valid = { ⟦<SpanFields as SchemaRead<L>>⟧.is_valid };
+
+    ghost reading = { ⟦<SpanFields as SchemaRead<L>>⟧.reading };
+
+    fn type_meta() -> TypeMeta {
+        <SpanFields as SchemaRead<L>>::type_meta()
+    }
+
+    fn prealloc_size() -> usize {
+        <SpanFields as SchemaRead<L>>::prealloc_size()
+    }
+
+    fn read<R: Reader<L>>(alloc: Global, reader: &mut R, dst: &mut Option<Span>) -> ReadResult<()> {
+        let (a, b) = <SpanFields as SchemaGet<L>>::get(alloc, reader)?;
+        *dst = Some(Span(a, b));
+        Ok(())
+    }
+
+    ghost read_laws = { ⟦<SpanFields as Lawful<L>>⟧.read_laws };
+}
+
+impl<L: Lending> Lawful<L> for Span {
+    ghost Value = { ⟦<SpanFields as Lawful<L>>⟧.Value };
+
+    ghost is_valid = { ⟦<SpanFields as Lawful<L>>⟧.is_valid };
+
+    ghost reading = { ⟦<SpanFields as Lawful<L>>⟧.reading };
+
+    ghost read_laws = { ⟦<SpanFields as Lawful<L>>⟧.read_laws };
+}
+
+impl<L: Lending> RoundTrip<L> for Span
+where
+    SpanFields: RoundTrip<L>,
+{
+    ghost reads_back = { reads_back_by (λ x. (x.0, x.1)) bound-5.reads_back };
+}
+
+impl<L: Lending> OneText<L> for Span
+where
+    SpanFields: FieldsOneText<L>,
+{
+    ghost one_text = { bound-5.fields_one_text };
+}
+
+impl<L: Lending> SchemaReadOwned<L> for Span
+where
+    SpanFields: FieldsReadOwned<L>,
+{
+    ghost owned = { bound-5.fields_owned };
+}
+
+type SpanPairs = (u16, i64);
+
+impl<L: Lending> Key<L> for Span
+where
+    SpanPairs: FieldsKey<L>,
+{
+    ghost alike = { λ x y. bound-5.fields_alike (x.0, x.1) (y.0, y.1) };
+}
+
+type RangeFields = (u32, u32);
+
+impl SchemaWrite for Range {
+    type Src = Range;
+
+    ghost Value = { ⟦<RangeFields as SchemaWrite>⟧.Value };
+
+    ghost model = { λ x. ⟦<RangeFields as SchemaWrite>⟧.model (x.from, x.to) };
+
+    ghost is_valid = { λ x. ⟦<RangeFields as SchemaWrite>⟧.is_valid (x.from, x.to) };
+
+    ghost writing = { ⟦<RangeFields as SchemaWrite>⟧.writing };
+
+    fn type_meta() -> TypeMeta {
+        <RangeFields as SchemaWrite>::type_meta()
+    }
+
+    fn size_of(src: &Range) -> WriteResult<usize> {
+        size_of_members_2::<u32, u32>(&src.from, &src.to)
+    }
+
+    fn write<W: Writer>(writer: &mut W, src: &Range) -> WriteResult<()> {
+        write_members_2::<u32, u32, W>(writer, &src.from, &src.to)
+    }
+
+    fn encode(src: &Range, dst: &mut [u8]) -> bool {
+        encode_members_2::<u32, u32>(&src.from, &src.to, dst)
+    }
+
+    ghost write_laws = { write_laws_by (λ x. (x.from, x.to)) ⟦<RangeFields as SchemaWrite>⟧.write_laws };
+}
+
+impl<L: Lending> SchemaRead<L> for Range {
+    type Dst = Range;
+
+    ghost Value = { ⟦<RangeFields as SchemaRead<L>>⟧.Value };
+
+    ghost model = { λ x. ⟦<RangeFields as SchemaRead<L>>⟧.model (x.from, x.to) };
+
+    ghost is_valid = { ⟦<RangeFields as SchemaRead<L>>⟧.is_valid };
+
+    ghost reading = { ⟦<RangeFields as SchemaRead<L>>⟧.reading };
+
+    fn type_meta() -> TypeMeta {
+        <RangeFields as SchemaRead<L>>::type_meta()
+    }
+
+    fn prealloc_size() -> usize {
+        <RangeFields as SchemaRead<L>>::prealloc_size()
+    }
+
+    fn read<R: Reader<L>>(
+        alloc: Global,
+        reader: &mut R,
+        dst: &mut Option<Range>,
+    ) -> ReadResult<()> {
+        let (from, to) = <RangeFields as SchemaGet<L>>::get(alloc, reader)?;
+        *dst = Some(Range { from, to });
+        Ok(())
+    }
+
+    ghost read_laws = { ⟦<RangeFields as Lawful<L>>⟧.read_laws };
+}
+
+impl<L: Lending> Lawful<L> for Range {
+    ghost Value = { ⟦<RangeFields as Lawful<L>>⟧.Value };
+
+    ghost is_valid = { ⟦<RangeFields as Lawful<L>>⟧.is_valid };
+
+    ghost reading = { ⟦<RangeFields as Lawful<L>>⟧.reading };
+
+    ghost read_laws = { ⟦<RangeFields as Lawful<L>>⟧.read_laws };
+}
+
+impl<L: Lending> RoundTrip<L> for Range
+where
+    RangeFields: RoundTrip<L>,
+{
+    ghost reads_back = { reads_back_by (λ x. (x.from, x.to)) bound-5.reads_back };
+}
+
+impl<L: Lending> OneText<L> for Range
+where
+    RangeFields: FieldsOneText<L>,
+{
+    ghost one_text = { bound-5.fields_one_text };
+}
+
+impl<L: Lending> SchemaReadOwned<L> for Range
+where
+    RangeFields: FieldsReadOwned<L>,
+{
+    ghost owned = { bound-5.fields_owned };
+}
+
+type RangePairs = (u32, u32);
+
+impl<L: Lending> Key<L> for Range
+where
+    RangePairs: FieldsKey<L>,
+{
+    ghost alike = { λ x y. bound-5.fields_alike (x.from, x.to) (y.from, y.to) };
+}
+
+type MarkerFields = ();
+
+impl SchemaWrite for Marker {
+    type Src = Marker;
+
+    ghost Value = { ⟦<MarkerFields as SchemaWrite>⟧.Value };
+
+    ghost model = { λ x. ⟦<MarkerFields as SchemaWrite>⟧.model tt };
+
+    ghost is_valid = { λ x. ⟦<MarkerFields as SchemaWrite>⟧.is_valid tt };
+
+    ghost writing = { ⟦<MarkerFields as SchemaWrite>⟧.writing };
+
+    fn type_meta() -> TypeMeta {
+        <MarkerFields as SchemaWrite>::type_meta()
+    }
+
+    fn size_of(src: &Marker) -> WriteResult<usize> {
+        <() as SchemaWrite>::size_of(&())
+    }
+
+    fn write<W: Writer>(writer: &mut W, src: &Marker) -> WriteResult<()> {
+        <() as SchemaWrite>::write::<W>(writer, &())
+    }
+
+    fn encode(src: &Marker, dst: &mut [u8]) -> bool {
+        <() as SchemaWrite>::encode(&(), dst)
+    }
+
+    ghost write_laws = { write_laws_by (λ x. tt) ⟦<MarkerFields as SchemaWrite>⟧.write_laws };
+}
+
+impl<L: Lending> SchemaRead<L> for Marker {
+    type Dst = Marker;
+
+    ghost Value = { ⟦<MarkerFields as SchemaRead<L>>⟧.Value };
+
+    ghost model = { λ x. ⟦<MarkerFields as SchemaRead<L>>⟧.model tt };
+
+    ghost is_valid = { ⟦<MarkerFields as SchemaRead<L>>⟧.is_valid };
+
+    ghost reading = { ⟦<MarkerFields as SchemaRead<L>>⟧.reading };
+
+    fn type_meta() -> TypeMeta {
+        <MarkerFields as SchemaRead<L>>::type_meta()
+    }
+
+    fn prealloc_size() -> usize {
+        <MarkerFields as SchemaRead<L>>::prealloc_size()
+    }
+
+    fn read<R: Reader<L>>(
+        alloc: Global,
+        reader: &mut R,
+        dst: &mut Option<Marker>,
+    ) -> ReadResult<()> {
+        <MarkerFields as SchemaGet<L>>::get(alloc, reader)?;
+        *dst = Some(Marker);
+        Ok(())
+    }
+
+    ghost read_laws = { ⟦<MarkerFields as Lawful<L>>⟧.read_laws };
+}
+
+impl<L: Lending> Lawful<L> for Marker {
+    ghost Value = { ⟦<MarkerFields as Lawful<L>>⟧.Value };
+
+    ghost is_valid = { ⟦<MarkerFields as Lawful<L>>⟧.is_valid };
+
+    ghost reading = { ⟦<MarkerFields as Lawful<L>>⟧.reading };
+
+    ghost read_laws = { ⟦<MarkerFields as Lawful<L>>⟧.read_laws };
+}
+
+impl<L: Lending> RoundTrip<L> for Marker
+where
+    MarkerFields: RoundTrip<L>,
+{
+    ghost reads_back = { reads_back_by (λ x. tt) bound-5.reads_back };
+}
+
+impl<L: Lending> OneText<L> for Marker
+where
+    MarkerFields: FieldsOneText<L>,
+{
+    ghost one_text = { bound-5.fields_one_text };
+}
+
+impl<L: Lending> SchemaReadOwned<L> for Marker
+where
+    MarkerFields: FieldsReadOwned<L>,
+{
+    ghost owned = { bound-5.fields_owned };
+}
+
+type MarkCases = OneOf<<Mark as EnumShape>::Tag, <Mark as EnumShape>::Cases>;
+
+impl EnumParts for Mark {
+    type Parts = Result<(), Result<(), ()>>;
+
+    ghost parts = { elim [ MarkPlus ↦ Ok tt | MarkMinus ↦ Err (Ok tt) | MarkOther ↦ Err (Err tt) ] };
+
+    fn make(made_of: Self::Parts) -> Mark {
+        match made_of {
+            Ok(()) => Mark::Plus,
+            Err(Ok(())) => Mark::Minus,
+            Err(Err(())) => Mark::Other,
+        }
+    }
+}
+
+impl EnumShape for Mark {
+    type Tag = u8;
+
+    type Cases = Case<0, (), Case<1, (), Last<9, ()>>>;
+
+    fn tag(&self) -> usize {
+        match self {
+            Mark::Plus => 0,
+            Mark::Minus => 1,
+            Mark::Other => 9,
+        }
+    }
+
+    fn part_size(&self) -> WriteResult<usize> {
+        match self {
+            Mark::Plus => <() as SchemaWrite>::size_of(&()),
+            Mark::Minus => <() as SchemaWrite>::size_of(&()),
+            Mark::Other => <() as SchemaWrite>::size_of(&()),
+        }
+    }
+
+    fn write_part<W: Writer>(&self, writer: &mut W) -> WriteResult<()> {
+        match self {
+            Mark::Plus => <() as SchemaWrite>::write::<W>(writer, &()),
+            Mark::Minus => <() as SchemaWrite>::write::<W>(writer, &()),
+            Mark::Other => <() as SchemaWrite>::write::<W>(writer, &()),
+        }
+    }
+}
+
+impl SchemaWrite for Mark {
+    type Src = Mark;
+
+    ghost Value = { ⟦<MarkCases as SchemaWrite>⟧.Value };
+
+    ghost model = { λ x. ⟦<MarkCases as SchemaWrite>⟧.model (⟦<Mark as EnumParts>⟧.parts x) };
+
+    ghost is_valid = { λ x. ⟦<MarkCases as SchemaWrite>⟧.is_valid (⟦<Mark as EnumParts>⟧.parts x) };
+
+    ghost writing = { ⟦<MarkCases as SchemaWrite>⟧.writing };
+
+    fn type_meta() -> TypeMeta {
+        <MarkCases as SchemaWrite>::type_meta()
+    }
+
+    fn size_of(src: &Mark) -> WriteResult<usize> {
+        size_of_enum::<Mark>(src)
+    }
+
+    fn write<W: Writer>(writer: &mut W, src: &Mark) -> WriteResult<()> {
+        write_enum::<Mark, W>(writer, src)
+    }
+
+    ghost write_laws = { write_laws_by ⟦<Mark as EnumParts>⟧.parts ⟦<MarkCases as SchemaWrite>⟧.write_laws };
+}
+
+impl<L: Lending> SchemaRead<L> for Mark {
+    type Dst = Mark;
+
+    ghost Value = { ⟦<MarkCases as SchemaRead<L>>⟧.Value };
+
+    ghost model = { λ x. ⟦<MarkCases as SchemaRead<L>>⟧.model (⟦<Mark as EnumParts>⟧.parts x) };
+
+    ghost is_valid = { ⟦<MarkCases as SchemaRead<L>>⟧.is_valid };
+
+    ghost reading = { ⟦<MarkCases as SchemaRead<L>>⟧.reading };
+
+    fn type_meta() -> TypeMeta {
+        <MarkCases as SchemaRead<L>>::type_meta()
+    }
+
+    fn prealloc_size() -> usize {
+        <MarkCases as SchemaRead<L>>::prealloc_size()
+    }
+
+    fn read<R: Reader<L>>(alloc: Global, reader: &mut R, dst: &mut Option<Mark>) -> ReadResult<()> {
+        read_enum::<L, MarkCases, Mark, R>(alloc, reader, dst)
+    }
+
+    ghost read_laws = { ⟦<MarkCases as Lawful<L>>⟧.read_laws };
+}
+
+impl<L: Lending> Lawful<L> for Mark {
+    ghost Value = { ⟦<MarkCases as Lawful<L>>⟧.Value };
+
+    ghost is_valid = { ⟦<MarkCases as Lawful<L>>⟧.is_valid };
+
+    ghost reading = { ⟦<MarkCases as Lawful<L>>⟧.reading };
+
+    ghost read_laws = { ⟦<MarkCases as Lawful<L>>⟧.read_laws };
+}
+
+impl<L: Lending> RoundTrip<L> for Mark
+where
+    MarkCases: RoundTrip<L>,
+{
+    ghost reads_back = { reads_back_by ⟦<Mark as EnumParts>⟧.parts bound-5.reads_back };
+}
+
+impl<L: Lending> OneText<L> for Mark
+where
+    MarkCases: FieldsOneText<L>,
+{
+    ghost one_text = { bound-5.fields_one_text };
+}
+
+impl<L: Lending> SchemaReadOwned<L> for Mark
+where
+    MarkCases: FieldsReadOwned<L>,
+{
+    ghost owned = { bound-5.fields_owned };
+}
+
+type OnlyCases = OneOf<<Only as EnumShape>::Tag, <Only as EnumShape>::Cases>;
+
+impl EnumParts for Only {
+    type Parts = Span;
+
+    ghost parts = { elim [ OnlySpanned a ↦ a ] };
+
+    fn make(made_of: Self::Parts) -> Only {
+        match made_of {
+            a => Only::Spanned(a),
+        }
+    }
+}
+
+impl EnumShape for Only {
+    type Tag = u32;
+
+    type Cases = Last<0, Span>;
+
+    fn tag(&self) -> usize {
+        match self {
+            Only::Spanned(_) => 0,
+        }
+    }
+
+    fn part_size(&self) -> WriteResult<usize> {
+        match self {
+            Only::Spanned(a) => <Span as SchemaWrite>::size_of(a),
+        }
+    }
+
+    fn write_part<W: Writer>(&self, writer: &mut W) -> WriteResult<()> {
+        match self {
+            Only::Spanned(a) => <Span as SchemaWrite>::write::<W>(writer, a),
+        }
+    }
+}
+
+impl SchemaWrite for Only {
+    type Src = Only;
+
+    ghost Value = { ⟦<OnlyCases as SchemaWrite>⟧.Value };
+
+    ghost model = { λ x. ⟦<OnlyCases as SchemaWrite>⟧.model (⟦<Only as EnumParts>⟧.parts x) };
+
+    ghost is_valid = { λ x. ⟦<OnlyCases as SchemaWrite>⟧.is_valid (⟦<Only as EnumParts>⟧.parts x) };
+
+    ghost writing = { ⟦<OnlyCases as SchemaWrite>⟧.writing };
+
+    fn type_meta() -> TypeMeta {
+        <OnlyCases as SchemaWrite>::type_meta()
+    }
+
+    fn size_of(src: &Only) -> WriteResult<usize> {
+        size_of_enum::<Only>(src)
+    }
+
+    fn write<W: Writer>(writer: &mut W, src: &Only) -> WriteResult<()> {
+        write_enum::<Only, W>(writer, src)
+    }
+
+    ghost write_laws = { write_laws_by ⟦<Only as EnumParts>⟧.parts ⟦<OnlyCases as SchemaWrite>⟧.write_laws };
+}
+
+impl<L: Lending> SchemaRead<L> for Only {
+    type Dst = Only;
+
+    ghost Value = { ⟦<OnlyCases as SchemaRead<L>>⟧.Value };
+
+    ghost model = { λ x. ⟦<OnlyCases as SchemaRead<L>>⟧.model (⟦<Only as EnumParts>⟧.parts x) };
+
+    ghost is_valid = { ⟦<OnlyCases as SchemaRead<L>>⟧.is_valid };
+
+    ghost reading = { ⟦<OnlyCases as SchemaRead<L>>⟧.reading };
+
+    fn type_meta() -> TypeMeta {
+        <OnlyCases as SchemaRead<L>>::type_meta()
+    }
+
+    fn prealloc_size() -> usize {
+        <OnlyCases as SchemaRead<L>>::prealloc_size()
+    }
+
+    fn read<R: Reader<L>>(alloc: Global, reader: &mut R, dst: &mut Option<Only>) -> ReadResult<()> {
+        read_enum::<L, OnlyCases, Only, R>(alloc, reader, dst)
+    }
+
+    ghost read_laws = { ⟦<OnlyCases as Lawful<L>>⟧.read_laws };
+}
+
+impl<L: Lending> Lawful<L> for Only {
+    ghost Value = { ⟦<OnlyCases as Lawful<L>>⟧.Value };
+
+    ghost is_valid = { ⟦<OnlyCases as Lawful<L>>⟧.is_valid };
+
+    ghost reading = { ⟦<OnlyCases as Lawful<L>>⟧.reading };
+
+    ghost read_laws = { ⟦<OnlyCases as Lawful<L>>⟧.read_laws };
+}
+
+impl<L: Lending> RoundTrip<L> for Only
+where
+    OnlyCases: RoundTrip<L>,
+{
+    ghost reads_back = { reads_back_by ⟦<Only as EnumParts>⟧.parts bound-5.reads_back };
+}
+
+impl<L: Lending> OneText<L> for Only
+where
+    OnlyCases: FieldsOneText<L>,
+{
+    ghost one_text = { bound-5.fields_one_text };
+}
+
+impl<L: Lending> SchemaReadOwned<L> for Only
+where
+    OnlyCases: FieldsReadOwned<L>,
+{
+    ghost owned = { bound-5.fields_owned };
+}

@@ -1,0 +1,9 @@
+//! Tests of the schemas that `wincode_derive` wrote, and of what it refuses.
+#![tactic(auto)]
+
+#[cfg(test)]
+mod events;
+#[cfg(test)]
+mod orders;
+#[cfg(test)]
+mod refusals;

@@ -1,0 +1,57 @@
+//! What a source file declares.
+
+/// A field: its name, or its place in a tuple, and its schema.
+#[derive(Debug, Drop)]
+pub struct Field {
+    pub name: String,
+    /// The type that is declared.
+    pub value: String,
+    /// The schema: what `with` says, or the type.
+    pub schema: String,
+}
+
+/// How fields are named.
+#[derive(Debug, Clone, Copy, PartialEq)]
+pub enum Naming {
+    /// `{ a: A }`
+    Named,
+    /// `(A)`
+    Numbered,
+    /// None at all.
+    Unit,
+}
+
+/// The fields of a struct or of a case.
+#[derive(Debug, Drop)]
+pub struct Fields {
+    pub naming: Naming,
+    pub fields: Vec<Field>,
+}
+
+/// A case of an enum.
+#[derive(Debug, Drop)]
+pub struct Variant {
+    pub name: String,
+    pub tag: usize,
+    pub fields: Fields,
+}
+
+/// A struct or an enum.
+#[derive(Debug, Drop)]
+pub struct Declaration {
+    pub name: String,
+    /// The lifetime that it names, if it names one.
+    pub lifetime: Option<String>,
+    pub shape: DeclaredShape,
+    /// Whether it derives `Eq`.
+    pub is_eq: bool,
+    pub line: usize,
+}
+
+/// What is declared.
+#[derive(Debug, Drop)]
+pub enum DeclaredShape {
+    Struct(Fields),
+    /// The scheme of its tags, and its cases.
+    Enum { tag: String, variants: Vec<Variant> },
+}

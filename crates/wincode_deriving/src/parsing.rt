@@ -1,0 +1,454 @@
+//! The declarations of a source file.
+use crate::declarations::{Declaration, DeclaredShape, Field, Fields, Naming, Variant};
+use crate::error::{DeriveResult, malformed, unsupported};
+use crate::tokens::{Kind, Token};
+use std::alloc::Global;
+
+/// What comment lines and attributes say of what stands below them.
+#[derive(Drop)]
+struct Head {
+    with: Option<String>,
+    tag: Option<usize>,
+    tag_encoding: Option<String>,
+    /// Whether `Eq` is derived.
+    is_eq: bool,
+    /// Where what they stand over begins.
+    at: usize,
+}
+
+fn text_at(tokens: &[Token], at: usize) -> &str {
+    match tokens.get(at) {
+        Some(token) => token.text.as_str(),
+        None => "",
+    }
+}
+
+fn kind_at(tokens: &[Token], at: usize) -> Kind {
+    match tokens.get(at) {
+        Some(token) => token.kind,
+        None => Kind::Sign,
+    }
+}
+
+/// The line of the token, or of the last one.
+fn line_at(tokens: &[Token], at: usize) -> usize {
+    match tokens.get(at.min(tokens.len().saturating_sub(1))) {
+        Some(token) => token.line,
+        None => 1,
+    }
+}
+
+fn next(at: usize) -> usize {
+    at.saturating_add(1)
+}
+
+fn opens(token: &Token) -> bool {
+    token.kind == Kind::Sign && matches!(token.text.as_str(), "(" | "[" | "{" | "<")
+}
+
+fn closes(token: &Token) -> bool {
+    token.kind == Kind::Sign && matches!(token.text.as_str(), ")" | "]" | "}" | ">")
+}
+
+/// Where the bracket is closed that is opened there.
+fn end_of_group(tokens: &[Token], open: usize) -> DeriveResult<usize> {
+    let mut depth = 0usize;
+    for (i, token) in tokens.iter().enumerate().skip(open) {
+        if opens(token) {
+            depth = next(depth);
+        } else if closes(token) {
+            depth = depth.saturating_sub(1);
+        }
+        if depth == 0 {
+            return Ok(i);
+        }
+    }
+    Err(malformed(line_at(tokens, open), "a bracket is not closed"))
+}
+
+/// Where the part ends that begins there: at a comma outside of brackets, or at the end.
+fn end_of_part(tokens: &[Token], from: usize, to: usize) -> usize {
+    let mut depth = 0usize;
+    for (i, token) in tokens.iter().enumerate().take(to).skip(from) {
+        if opens(token) {
+            depth = next(depth);
+        } else if closes(token) {
+            depth = depth.saturating_sub(1);
+        } else if depth == 0 && token.kind == Kind::Sign && token.text.as_str() == "," {
+            return i;
+        }
+    }
+    to
+}
+
+/// Takes what a comment line says.
+fn take_note(alloc: Global, note: &Token, head: &mut Head) -> DeriveResult<()> {
+    let Some((word, value)) = note.text.split_once('=') else {
+        return Err(malformed(note.line, "`wincode:` wants a word, `=` and a value"));
+    };
+    match word.trim() {
+        "with" => head.with = Some(String::from_str(alloc, value.trim())?),
+        "tag_encoding" => head.tag_encoding = Some(String::from_str(alloc, value.trim())?),
+        "tag" => match value.trim().parse::<usize>() {
+            Ok(tag) => head.tag = Some(tag),
+            Err(_) => return Err(malformed(note.line, "a tag is a number")),
+        },
+        _ => {
+            return Err(malformed(
+                note.line,
+                "`wincode:` knows `with`, `tag` and `tag_encoding`",
+            ));
+        }
+    }
+    Ok(())
+}
+
+/// Whether the attribute that stands there derives `Eq`.
+fn derives_eq(tokens: &[Token], from: usize, to: usize) -> bool {
+    text_at(tokens, next(next(from))) == "derive"
+        && tokens
+            .iter()
+            .take(to)
+            .skip(from)
+            .any(|token| token.text.as_str() == "Eq")
+}
+
+/// What stands over a declaration, a field or a case: comment lines, attributes and its visibility.
+fn head_of(alloc: Global, tokens: &[Token], from: usize, to: usize) -> DeriveResult<Head> {
+    let mut head = Head {
+        with: None,
+        tag: None,
+        tag_encoding: None,
+        is_eq: false,
+        at: from,
+    };
+    for _ in from..to {
+        let Some(token) = tokens.get(head.at) else {
+            break;
+        };
+        match (token.kind, token.text.as_str()) {
+            (Kind::Note, _) => {
+                take_note(alloc, token, &mut head)?;
+                head.at = next(head.at);
+            }
+            (Kind::Sign, "#") => {
+                let end = next(end_of_group(tokens, next(head.at))?);
+                head.is_eq = head.is_eq || derives_eq(tokens, head.at, end);
+                head.at = end;
+            }
+            (Kind::Word, "pub") if text_at(tokens, next(head.at)) == "(" => {
+                head.at = next(end_of_group(tokens, next(head.at))?);
+            }
+            (Kind::Word, "pub") => head.at = next(head.at),
+            _ => break,
+        }
+    }
+    Ok(head)
+}
+
+/// Whether a space stands between two tokens of a type.
+fn are_apart(before: &Token, after: &Token) -> bool {
+    match (before.kind, after.kind) {
+        (Kind::Sign, _) => matches!(before.text.as_str(), "," | ";"),
+        (_, Kind::Word | Kind::Lifetime) => true,
+        _ => false,
+    }
+}
+
+/// The tokens as the text of a type.
+fn type_text(alloc: Global, tokens: &[Token], from: usize, to: usize) -> DeriveResult<String> {
+    let mut text = String::new(alloc);
+    let mut before: Option<&Token> = None;
+    for token in tokens.iter().take(to).skip(from) {
+        if let Some(last) = before {
+            if are_apart(last, token) {
+                text.push(' ')?;
+            }
+        }
+        text.push_str(token.text.as_str())?;
+        before = Some(token);
+    }
+    Ok(text)
+}
+
+/// The type that stands there, which has to name neither the type that is declared nor nothing.
+fn value_of(
+    alloc: Global,
+    owner: &str,
+    tokens: &[Token],
+    from: usize,
+    to: usize,
+) -> DeriveResult<String> {
+    if from >= to {
+        return Err(malformed(line_at(tokens, from), "a type is wanted"));
+    }
+    for token in tokens.iter().take(to).skip(from) {
+        if token.kind == Kind::Word && token.text.as_str() == owner {
+            return Err(unsupported(token.line, "a type that has itself for a part"));
+        }
+    }
+    type_text(alloc, tokens, from, to)
+}
+
+/// What `with` says, or the type.
+fn schema_of(alloc: Global, with: Option<String>, value: &str) -> DeriveResult<String> {
+    match with {
+        Some(with) => Ok(with),
+        None => Ok(String::from_str(alloc, value)?),
+    }
+}
+
+/// The name of a field, which is its place where it has one, and where its type begins.
+fn name_of(
+    alloc: Global,
+    tokens: &[Token],
+    at: usize,
+    place: Option<usize>,
+) -> DeriveResult<(String, usize)> {
+    if let Some(place) = place {
+        return Ok((format!(in alloc; "{place}")?, at));
+    }
+    if text_at(tokens, next(at)) != ":" {
+        return Err(malformed(line_at(tokens, at), "a field is wanted"));
+    }
+    let name = String::from_str(alloc, text_at(tokens, at))?;
+    Ok((name, next(next(at))))
+}
+
+/// A field that is declared there.
+fn field_of(
+    alloc: Global,
+    owner: &str,
+    tokens: &[Token],
+    (from, to): (usize, usize),
+    place: Option<usize>,
+) -> DeriveResult<Field> {
+    let Head { with, at, .. } = head_of(alloc, tokens, from, to)?;
+    let (name, begin) = name_of(alloc, tokens, at, place)?;
+    let value = value_of(alloc, owner, tokens, begin, to)?;
+    let schema = schema_of(alloc, with, value.as_str())?;
+    Ok(Field {
+        name,
+        value,
+        schema,
+    })
+}
+
+/// The fields in the brackets that are opened there, or none, and where what stands behind them begins.
+fn fields_at(
+    alloc: Global,
+    owner: &str,
+    tokens: &[Token],
+    open: usize,
+) -> DeriveResult<(Fields, usize)> {
+    let naming = match text_at(tokens, open) {
+        "{" => Naming::Named,
+        "(" => Naming::Numbered,
+        _ => Naming::Unit,
+    };
+    let mut fields = Vec::new(alloc);
+    if naming == Naming::Unit {
+        return Ok((Fields { naming, fields }, open));
+    }
+    let close = end_of_group(tokens, open)?;
+    let mut at = next(open);
+    for i in 0..tokens.len() {
+        if at >= close {
+            break;
+        }
+        let end = end_of_part(tokens, at, close);
+        let place = if naming == Naming::Named {
+            None
+        } else {
+            Some(i)
+        };
+        fields.push(field_of(alloc, owner, tokens, (at, end), place)?)?;
+        at = next(end);
+    }
+    if fields.len() > 12 {
+        return Err(unsupported(line_at(tokens, open), "more than 12 fields"));
+    }
+    Ok((Fields { naming, fields }, next(close)))
+}
+
+/// The greatest tag of a scheme.
+fn greatest_tag(encoding: &str) -> Option<usize> {
+    match encoding {
+        "u8" => Some(255),
+        "u16" => Some(65535),
+        "u32" => Some(4294967295),
+        "u64" => Some(usize::MAX),
+        _ => None,
+    }
+}
+
+/// A case that is declared there.
+fn variant_of(
+    alloc: Global,
+    owner: &str,
+    tokens: &[Token],
+    (from, to): (usize, usize),
+    place: usize,
+) -> DeriveResult<Variant> {
+    let head = head_of(alloc, tokens, from, to)?;
+    if kind_at(tokens, head.at) != Kind::Word {
+        return Err(malformed(line_at(tokens, head.at), "a case is wanted"));
+    }
+    let name = String::from_str(alloc, text_at(tokens, head.at))?;
+    let (fields, end) = fields_at(alloc, owner, tokens, next(head.at))?;
+    if end < to {
+        return Err(unsupported(
+            line_at(tokens, end),
+            "a case with a number of its own: `// wincode: tag = N` says its tag",
+        ));
+    }
+    Ok(Variant {
+        name,
+        tag: head.tag.unwrap_or(place),
+        fields,
+    })
+}
+
+/// The cases in the brackets that are opened there.
+fn variants_at(
+    alloc: Global,
+    owner: &str,
+    tokens: &[Token],
+    open: usize,
+    greatest: usize,
+) -> DeriveResult<Vec<Variant>> {
+    let close = end_of_group(tokens, open)?;
+    let mut variants: Vec<Variant> = Vec::new(alloc);
+    let mut at = next(open);
+    for i in 0..tokens.len() {
+        if at >= close {
+            break;
+        }
+        let end = end_of_part(tokens, at, close);
+        let variant = variant_of(alloc, owner, tokens, (at, end), i)?;
+        if variant.tag > greatest {
+            return Err(unsupported(line_at(tokens, at), "a tag past its encoding"));
+        }
+        if variants.iter().any(|other| other.tag == variant.tag) {
+            return Err(unsupported(line_at(tokens, at), "two cases with one tag"));
+        }
+        variants.push(variant)?;
+        at = next(end);
+    }
+    if variants.is_empty() {
+        return Err(unsupported(line_at(tokens, open), "an enum without cases"));
+    }
+    Ok(variants)
+}
+
+/// The lifetime in the brackets that are opened there, and where what stands behind them begins.
+fn lifetime_at(
+    alloc: Global,
+    tokens: &[Token],
+    open: usize,
+) -> DeriveResult<(Option<String>, usize)> {
+    if text_at(tokens, open) != "<" {
+        return Ok((None, open));
+    }
+    let close = end_of_group(tokens, open)?;
+    if kind_at(tokens, next(open)) != Kind::Lifetime || next(next(open)) != close {
+        return Err(unsupported(line_at(tokens, open), "parameters but for one lifetime"));
+    }
+    let lifetime = String::from_str(alloc, text_at(tokens, next(open)))?;
+    Ok((Some(lifetime), next(close)))
+}
+
+/// The struct or enum whose keyword stands there.
+fn declaration_at(
+    alloc: Global,
+    tokens: &[Token],
+    head: &Head,
+    keyword: usize,
+) -> DeriveResult<Declaration> {
+    let line = line_at(tokens, keyword);
+    let name = String::from_str(alloc, text_at(tokens, next(keyword)))?;
+    let (lifetime, open) = lifetime_at(alloc, tokens, next(next(keyword)))?;
+    let shape = if text_at(tokens, keyword) == "struct" {
+        let (fields, _) = fields_at(alloc, name.as_str(), tokens, open)?;
+        DeclaredShape::Struct(fields)
+    } else {
+        let tag = match &head.tag_encoding {
+            Some(encoding) => String::from_str(alloc, encoding.as_str())?,
+            None => String::from_str(alloc, "u32")?,
+        };
+        let Some(greatest) = greatest_tag(tag.as_str()) else {
+            return Err(unsupported(line, "a tag that is no u8, u16, u32 or u64"));
+        };
+        if lifetime.is_some() {
+            return Err(unsupported(line, "an enum with a lifetime"));
+        }
+        let variants = variants_at(alloc, name.as_str(), tokens, open, greatest)?;
+        DeclaredShape::Enum { tag, variants }
+    };
+    Ok(Declaration {
+        name,
+        lifetime,
+        shape,
+        is_eq: head.is_eq,
+        line,
+    })
+}
+
+/// Whether it is one of these, or there are none of these.
+fn is_asked(names: &[String], name: &str) -> bool {
+    names.is_empty() || names.iter().any(|asked| asked.as_str() == name)
+}
+
+/// Where the item's part ends that begins there: behind its brackets, or behind the token.
+fn after_part(tokens: &[Token], at: usize) -> DeriveResult<usize> {
+    match text_at(tokens, at) {
+        "{" | "(" | "[" => Ok(next(end_of_group_by_depth(tokens, at)?)),
+        _ => Ok(next(at)),
+    }
+}
+
+/// As `end_of_group`, of brackets in which `<` and `>` may be signs of comparison.
+fn end_of_group_by_depth(tokens: &[Token], open: usize) -> DeriveResult<usize> {
+    let mut depth = 0usize;
+    for (i, token) in tokens.iter().enumerate().skip(open) {
+        match (token.kind, token.text.as_str()) {
+            (Kind::Sign, "(" | "[" | "{") => depth = next(depth),
+            (Kind::Sign, ")" | "]" | "}") => depth = depth.saturating_sub(1),
+            _ => {}
+        }
+        if depth == 0 {
+            return Ok(i);
+        }
+    }
+    Err(malformed(line_at(tokens, open), "a bracket is not closed"))
+}
+
+/// The structs and enums that a source file declares outside of its functions and modules, in order: those with these
+/// names, or all where there are none. What has no schema is refused with its line.
+pub fn declarations_of(
+    alloc: Global,
+    tokens: &[Token],
+    names: &[String],
+) -> DeriveResult<Vec<Declaration>> {
+    let mut declarations = Vec::new(alloc);
+    let mut at = 0usize;
+    for _ in 0..tokens.len() {
+        if at >= tokens.len() {
+            break;
+        }
+        let head = head_of(alloc, tokens, at, tokens.len())?;
+        let keyword = head.at;
+        let name = text_at(tokens, next(keyword));
+        match text_at(tokens, keyword) {
+            "struct" | "enum" if is_asked(names, name) => {
+                declarations.push(declaration_at(alloc, tokens, &head, keyword)?)?;
+            }
+            "union" if kind_at(tokens, next(keyword)) == Kind::Word && is_asked(names, name) => {
+                return Err(unsupported(line_at(tokens, keyword), "a union"));
+            }
+            _ => {}
+        }
+        at = after_part(tokens, keyword)?;
+    }
+    Ok(declarations)
+}
