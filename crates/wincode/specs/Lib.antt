@@ -2,3 +2,4 @@ pub mod Edits
 pub mod OneText
 pub mod OneTextLaws
 pub mod Serde
+pub mod Messages

@@ -415,6 +415,21 @@ impl<T: SchemaWrite> SchemaWrite for Elem<T> {
         T::write_items::<W>(writer, items)
     }
 
+    #[inline(always)]
+    fn known_size() -> option::Option<usize> {
+        T::known_size()
+    }
+
+    #[inline(always)]
+    fn encode(src: &T::Src, dst: &mut [u8]) -> bool {
+        T::encode(src, dst)
+    }
+
+    #[inline(always)]
+    fn encode_items(items: &[T::Src], dst: &mut [u8]) -> bool {
+        T::encode_items(items, dst)
+    }
+
     ghost write_laws = { T.write_laws };
 }
 
@@ -452,6 +467,26 @@ impl<L: Lending, T: SchemaRead<L>> SchemaRead<L> for Elem<T> {
         into: &mut vec::Vec<T::Dst>,
     ) -> ReadResult<()> {
         T::read_items::<R>(alloc, reader, n, into)
+    }
+
+    #[inline(always)]
+    fn blank() -> option::Option<T::Dst> {
+        T::blank()
+    }
+
+    #[inline(always)]
+    fn decode(bytes: &[u8], place: &mut T::Dst) -> bool {
+        T::decode(bytes, place)
+    }
+
+    #[inline(always)]
+    fn decode_over(bytes: &[u8], places: &mut [T::Dst]) -> bool {
+        T::decode_over(bytes, places)
+    }
+
+    #[inline(always)]
+    fn decode_items(bytes: &[u8], n: usize, into: &mut vec::Vec<T::Dst>) -> bool {
+        T::decode_items(bytes, n, into)
     }
 
     ghost read_laws = { T.read_laws };

@@ -6,6 +6,7 @@ pub mod containers;
 pub mod laws;
 pub mod len;
 pub mod markers;
+pub mod messages;
 pub mod prelude;
 pub mod schema;
 pub mod serde;
@@ -16,6 +17,7 @@ pub use calls::{
     deserialize, deserialize_from, deserialize_mut, serialize, serialize_into, serialized_size,
 };
 pub use markers::{OneText, RoundTrip, SchemaReadOwned};
+pub use messages::Messages;
 pub use shape::{By, Shape};
 pub use wincode_base::error::{Error, ReadError, ReadResult, Result, WriteError, WriteResult};
 pub use wincode_base::meta::TypeMeta;

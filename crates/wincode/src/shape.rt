@@ -1,7 +1,7 @@
 //! Types of a user's own that are written and read as another, a tuple say, without a grammar or a law of
 //! their own.
-ghost use Rattle.std.specs.Prelude.{◌≡◌, IfOk, IfErr};
-ghost use Rattle.wincode_base.specs.Outcomes.{IsSized, SizeRefused, WriteOutcome};
+ghost use Rattle.std.specs.Prelude.{◌≡◌, IsTrue, IfOk, IfErr};
+ghost use Rattle.wincode_base.specs.Outcomes.{IsSized, IsEncoded, SizeRefused, WriteOutcome};
 ghost use Rattle.wincode_base.specs.PairLaws.{write_laws_by, reads_back_by};
 
 use crate::io::{Lending, Reader, Writer};
@@ -37,6 +37,17 @@ pub trait Shape: Drop {
     /// Writes its parts, as `As` does.
     fn write_parts<W: Writer>(&self, writer: &mut W) -> WriteResult<()>
         ensures { WriteOutcome Self.As.SchemaWrite.writing (W.state writer.old) (W.state writer.new) (Self.As.SchemaWrite.model (parts self.now)) (Self.As.SchemaWrite.is_valid (parts self.now)) result };
+
+    /// Puts an encoding of its parts over all of the bytes, where it has as many, as `As` does; or answers
+    /// `false`, and may have put any bytes there.
+    #[inline(always)]
+    fn encode_parts(&self, dst: &mut [u8]) -> bool
+        ensures { IsTrue result → IsEncoded Self.As.SchemaWrite.writing (Self.As.SchemaWrite.model (parts self.now)) dst.new × Self.As.SchemaWrite.is_valid (parts self.now) }
+    {
+        let _ = &*self;
+        let _len = dst.len();
+        false
+    }
 }
 
 /// The schema of a type that has a shape: that of its parts.
@@ -63,6 +74,11 @@ impl<T: Shape> SchemaWrite for By<T> {
 
     fn write<W: Writer>(writer: &mut W, src: &T) -> WriteResult<()> {
         src.write_parts::<W>(writer)
+    }
+
+    #[inline(always)]
+    fn encode(src: &T, dst: &mut [u8]) -> bool {
+        src.encode_parts(dst)
     }
 
     ghost write_laws = { write_laws_by T.parts T.As.SchemaWrite.write_laws };
@@ -94,6 +110,24 @@ where
         let parts = <T::As as SchemaGet<L>>::get(alloc, reader)?;
         *dst = Some(T::make(parts));
         Ok(())
+    }
+
+    #[inline(always)]
+    fn blank() -> Option<T> {
+        let parts = <T::As as SchemaRead<L>>::blank()?;
+        Some(T::make(parts))
+    }
+
+    #[inline(always)]
+    fn decode(bytes: &[u8], place: &mut T) -> bool {
+        let Some(mut parts) = <T::As as SchemaRead<L>>::blank() else {
+            return false;
+        };
+        if !<T::As as SchemaRead<L>>::decode(bytes, &mut parts) {
+            return false;
+        }
+        *place = T::make(parts);
+        true
     }
 
     ghost read_laws = { T.As.SchemaRead.read_laws };

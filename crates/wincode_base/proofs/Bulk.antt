@@ -13,7 +13,7 @@ use Rattle.wincode_base.specs.AsForms.{BulkReadRefused}
 use Rattle.wincode_base.specs.Grammar.{WriteGrammar}
 use Rattle.wincode_base.specs.Leaves.{number_read, number_write}
 use Rattle.wincode_base.specs.Lists.{items_write}
-use Rattle.wincode_base.specs.Outcomes.{Gives, Adds, ReadRefused, Wrote, WriteRefused, Stopped}
+use Rattle.wincode_base.specs.Outcomes.{Gives, Adds, ReadRefused, IsEncoded, Wrote, WriteRefused, Stopped}
 use Rattle.wincode_base.specs.WriteSequences.{encoding_wrote, encoding_unwritten, nothing_stopped}
 use Rattle.wincode_base.specs.declared.error.ReadError.TheVariants as reading
 use Rattle.wincode_base.specs.declared.error.WriteError.TheVariants as writing
@@ -115,6 +115,12 @@ bytes_written (b ∷ bytes) all =
 pub each_small : (vs : List ℕ) → AreSmall vs → Each (λ v. v < 256 ^ 1) vs
 each_small [] h = tt
 each_small (v ∷ vs) h = (h 0, each_small vs (λ i. h (suc i)))
+
+-- bytes are an encoding of themselves
+pub bytes_encoded : (vs : List ℕ) → AreSmall vs → IsEncoded bytes_write (map (λ v. v) vs) vs × Each (λ v. v < 256 ^ 1) vs
+bytes_encoded vs small =
+    let P : List ℕ → Type 0 = λ ws. IsEncoded bytes_write ws vs in
+    (subst P (sym (mapped vs)) (each_can vs, bytes_written vs (are_bytes vs small)), each_small vs small)
 
 module _ {S K : Type 0} {put : S → List ℕ → S} {room : S → ℕ} {old new : WriterState put room K} (vs : List ℕ) (small : AreSmall vs) where
   pub bytes_wrote : Added vs old new → Wrote bytes_write old new (map (λ v. v) vs)

@@ -66,7 +66,7 @@ module _ {X : Type 0} {is_valid : X → Type 0} {s : ℕ} {form : X → List ℕ
 
   pub forms_vast : (n : ℕ) (old : ReaderState) (t : _) → byte_limit < n * s → ReadRefused (AreItems n reads) 0 false old old (reading.LengthEncodingOverflow t)
   forms_vast n old t vast = record {
-    kept = record { lends = refl; never_fails = refl; is_known = refl };
+    kept = record { lends = refl; never_fails = refl; counts_windows = refl; is_known = refl };
     left = λ told. record { front = []; joins = refl };
     place = λ told. still old;
     due = λ a. let f = a.front.found in absurd (omega (arith, vast, a.fits, forms_sized n f.encoding a.front.value f.is_read, ap length f.joins, length-append f.encoding a.front.rest));
@@ -83,7 +83,7 @@ module _ {X : Type 0} {is_valid : X → Type 0} {s : ℕ} {form : X → List ℕ
   -- the same, of the first of them
   pub form_vast : (borrow : ℕ) (takes_no_memory : Bool) (old : ReaderState) (t : _) → byte_limit < s → ReadRefused reads borrow takes_no_memory old old (reading.LengthEncodingOverflow t)
   form_vast borrow takes_no_memory old t vast = record {
-    kept = record { lends = refl; never_fails = refl; is_known = refl };
+    kept = record { lends = refl; never_fails = refl; counts_windows = refl; is_known = refl };
     left = λ told. record { front = []; joins = refl };
     place = λ told. still old;
     due = λ a. let f = a.front.found in absurd (omega (arith, vast, a.fits, ap length f.is_read.1 ∙ law.long a.front.value f.is_read.0, ap length f.joins, length-append f.encoding a.front.rest));

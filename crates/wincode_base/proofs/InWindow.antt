@@ -1,12 +1,12 @@
 -- What is read from, or written to, a window of the right size is read from, or written to, what is below.
-use Rattle.std.proofs.Common.{◌≡◌, ◌∙◌, sym, subst, ℕ, ◌<◌, ◌&&◌, Bool, true, false, List, [], ◌++◌, length, refl, arith, append-nil, IsTrue, inl, inr, ◌-◌, ap}
-use Rattle.wincode_io.specs.Readers.{ReaderState, Windowed}
+use Rattle.std.proofs.Common.{◌≡◌, ◌∙◌, sym, subst, ℕ, ◌<◌, ◌&&◌, not, Bool, true, false, List, [], ◌++◌, length, refl, arith, append-nil, IsTrue, inl, inr, ◌-◌, ap}
+use Rattle.wincode_io.specs.Readers.{ReaderState, Windowed, is_steady}
 use Rattle.wincode_io.specs.PlaceLaws.{loses_onward}
 use Rattle.wincode_io.specs.Writers.{WriterState, WriterLaws, BytesWriteRefused}
 use Rattle.wincode_base.specs.Grammar.{ReadRefusal, WriteGrammar, WriteLaws, IsReadStatic, IsWriteStatic}
 use Rattle.wincode_base.specs.LeafLaws.{same_front}
 use Rattle.wincode_base.specs.InWindow.{WindowWriteRefused, windowed_write, WindowReadRefused, StaticReadRefused}
-use Rattle.wincode_base.specs.Lists.{items_write, ItemsWriteRefused}
+use Rattle.wincode_base.specs.Lists.{item_write, items_write, ItemsWriteRefused}
 use Rattle.wincode_base.specs.WriteSequences.{wrote_map, unwritten_map, stopped_map, nothing_stopped, piece_denied}
 use Rattle.wincode_base.specs.Outcomes.{ReadDue, ReaderDue, Accepts, ReadRefused, Wrote, WriteRefused, Stopped, WriterDue, IsAble, Gives}
 use Rattle.wincode_base.specs.declared.meta.TypeMeta.{TypeMeta}
@@ -31,16 +31,19 @@ no_memory_alone a b false e h = elim b as (λ c. (c && false) ≡ false) [ true 
 no_memory_alone true b true e h = absurd (cc)
 no_memory_alone false b true e h = absurd (cc)
 
-reader_due_inside : (f f' : Type 0) (borrow : ℕ) (inner outer : ReaderState) → (f' → f) → inner.lends ≡ outer.lends → inner.never_fails ≡ true → (e : IoReadError) → ReaderDue f borrow inner e → ReaderDue f' borrow outer e
-reader_due_inside f f' borrow inner outer m l s (reader.ReadSizeLimit n) d = λ x. d (m x)
-reader_due_inside f f' borrow inner outer m l s reader.UnsupportedZeroCopy d = λ x. let h : inner.lends < borrow = d (m x) in omega arith
-reader_due_inside f f' borrow inner outer m l s reader.OutOfMemory d = let h : true ≡ false = sym s ∙ d in absurd (cc)
-reader_due_inside f f' borrow inner outer m l s (reader.Io e) d = let h : true ≡ false = sym s ∙ d.0 in absurd (cc)
+unsteady_inside : (inner outer : ReaderState) → inner.never_fails ≡ true → inner.counts_windows ≡ outer.counts_windows → is_steady inner ≡ false → is_steady outer ≡ false
+unsteady_inside inner outer s c d = subst (λ k. (outer.never_fails && not k) ≡ false) c (no_memory_alone inner.never_fails outer.never_fails (not inner.counts_windows) s d)
 
-due_inside : (f f' : Type 0) (borrow : ℕ) (takes_no_memory : Bool) (inner outer : ReaderState) → (f' → f) → inner.lends ≡ outer.lends → inner.never_fails ≡ true → (e : ReadError) → ReadDue f borrow takes_no_memory inner e → ReadDue f' borrow takes_no_memory outer e
-due_inside f f' borrow takes_no_memory inner outer m l s (reading.Io e) d = reader_due_inside f f' borrow inner outer m l s e d
-due_inside f f' borrow takes_no_memory inner outer m l s reading.OutOfMemory d = no_memory_alone inner.never_fails outer.never_fails takes_no_memory s d
-due_inside f f' borrow takes_no_memory inner outer m l s _ d = λ x. d (m x)
+reader_due_inside : (f f' : Type 0) (borrow : ℕ) (inner outer : ReaderState) → (f' → f) → inner.lends ≡ outer.lends → inner.never_fails ≡ true → inner.counts_windows ≡ outer.counts_windows → (e : IoReadError) → ReaderDue f borrow inner e → ReaderDue f' borrow outer e
+reader_due_inside f f' borrow inner outer m l s c (reader.ReadSizeLimit n) d = λ x. d (m x)
+reader_due_inside f f' borrow inner outer m l s c reader.UnsupportedZeroCopy d = λ x. let h : inner.lends < borrow = d (m x) in omega arith
+reader_due_inside f f' borrow inner outer m l s c reader.OutOfMemory d = unsteady_inside inner outer s c d
+reader_due_inside f f' borrow inner outer m l s c (reader.Io e) d = let h : true ≡ false = sym s ∙ d.0 in absurd (cc)
+
+due_inside : (f f' : Type 0) (borrow : ℕ) (takes_no_memory : Bool) (inner outer : ReaderState) → (f' → f) → inner.lends ≡ outer.lends → inner.never_fails ≡ true → inner.counts_windows ≡ outer.counts_windows → (e : ReadError) → ReadDue f borrow takes_no_memory inner e → ReadDue f' borrow takes_no_memory outer e
+due_inside f f' borrow takes_no_memory inner outer m l s c (reading.Io e) d = reader_due_inside f f' borrow inner outer m l s c e d
+due_inside f f' borrow takes_no_memory inner outer m l s c reading.OutOfMemory d = no_memory_alone inner.never_fails outer.never_fails takes_no_memory s d
+due_inside f f' borrow takes_no_memory inner outer m l s c _ d = λ x. d (m x)
 
 -- reading by a relation whose encodings have n bytes
 module _ {V : Type 0} (reads : List ℕ → V → Type 0) (n : ℕ) (sized : (b : List ℕ) (v : V) → reads b v → length b ≡ n) where
@@ -76,7 +79,7 @@ module _ {V : Type 0} (reads : List ℕ → V → Type 0) (n : ℕ) (sized : (b 
     left = λ t. record { front = window.rest; joins = takes_joins w.takes t };
     place = loses_onward n old new w.takes.loses;
     due = due_inside (Accepts reads window) (Accepts reads old) borrow takes_no_memory after new (narrow old new window w)
-        (r.kept.lends ∙ w.lends ∙ sym w.takes.loses.kept.lends) (r.kept.never_fails ∙ w.never_fails) e r.due;
+        (r.kept.lends ∙ w.lends ∙ sym w.takes.loses.kept.lends) (r.kept.never_fails ∙ w.never_fails) (r.kept.counts_windows ∙ w.counts_windows ∙ sym w.takes.loses.kept.counts_windows) e r.due;
   }
 
 -- what is known where a grammar has a size
@@ -131,6 +134,19 @@ module _ {S K V : Type 0} {put : S → List ℕ → S} {room : S → ℕ} (g : W
   -- the room for it was refused
   pub room_halted : {s : ℕ} {z : Bool} → WriterLaws put room → (e : IoWriteError) → g.meta ≡ Static s z → BytesWriteRefused s old new e → Stopped (windowed_write g) old new v (writing.Io e)
   room_halted {s} laws e is d = nothing_stopped laws old new (writing.Io e) d.0.content (static_is g v g.meta (room old.content) [] (writing.Io e) is (inl (piece_denied s old new e d)))
+
+module _ {S K V : Type 0} {put : S → List ℕ → S} {room : S → ℕ} (g : WriteGrammar V) (v : V) {old new : WriterState put room K} where
+  -- an item of one size was refused, and nothing was added
+  pub short_halted : {s : ℕ} {z : Bool} (n : ℕ) → WriterLaws put room → (e : IoWriteError) → g.meta ≡ Static s z → BytesWriteRefused n old new e → Stopped (item_write g) old new v (writing.Io e)
+  short_halted n laws e is d = nothing_stopped laws old new (writing.Io e) d.0.content (λ dynamic. absurd (cc (is, dynamic)))
+
+  -- through its window it was refused as it says
+  pub item_windowed : {e : WriteError} → Stopped (windowed_write g) old new v e → Stopped (item_write (windowed_write g)) old new v e
+  item_windowed s = stopped_map (windowed_write g) (item_write (windowed_write g)) v v (λ a x dynamic. x) s
+
+-- an item is refused as it says
+pub item_alone : {S K V : Type 0} {put : S → List ℕ → S} {room : S → ℕ} (g : WriteGrammar V) (v : V) {old new : WriterState put room K} {e : WriteError} → Stopped g old new v e → Stopped (item_write g) old new v e
+item_alone g v s = stopped_map g (item_write g) v v (λ a x dynamic. x) s
 
 -- what can't be written was refused inside
 pub static_inside : {V : Type 0} (g : WriteGrammar V) (v : V) (m : TypeMeta) {s : ℕ} {z : Bool} (room : ℕ) (added : List ℕ) (e : WriteError) → m ≡ Static s z → (g.can v → ⊥) → (inside : ℕ) → g.refused v inside added e → WindowWriteRefused m g v room added e

@@ -114,7 +114,7 @@ module _ {S K : Type 0} {put : S → List ℕ → S} {room : S → ℕ} (w : Wid
 -- ---- booleans and values without bytes
 
 pub unit_puts : {X : Type 0} (s : ReaderState) (x : X) → Puts unit_read.reads (λ _. tt) s s (Some x)
-unit_puts s x = record { kept = record { lends = refl; never_fails = refl; is_known = refl }; found = λ t. record { encoding = []; is_read = refl; joins = refl }; place = λ t. still s }
+unit_puts s x = record { kept = record { lends = refl; never_fails = refl; counts_windows = refl; is_known = refl }; found = λ t. record { encoding = []; is_read = refl; joins = refl }; place = λ t. still s }
 
 one_of : (bytes : List ℕ) → length bytes ≡ 1 → bytes ≡ get_or bytes 0 0 ∷ []
 one_of [] e = absurd (omega arith)

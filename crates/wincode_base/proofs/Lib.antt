@@ -5,7 +5,9 @@ pub mod Integers
 pub mod Lengths
 pub mod Short
 pub mod Lists
+pub mod Encoding
 pub mod Items
+pub mod Decoding
 pub mod Runs
 pub mod Walks
 pub mod Bulk

@@ -1,13 +1,13 @@
 -- Going over a list item by item, in writing.
-use Rattle.std.proofs.Common.{◌≡◌, ◌∙◌, sym, ap, subst, ℕ, ◌+◌, ◌<◌, ◌≤◌, ◌^◌, List, length, map, take, drop, get_or, suc, arith}
+use Rattle.std.proofs.Common.{◌≡◌, ◌∙◌, sym, ap, subst, ℕ, ◌+◌, ◌*◌, ◌<◌, ◌≤◌, ◌^◌, List, [], ◌∷◌, length, map, take, drop, get_or, suc, arith}
 use Rattle.std.proofs.lemmas.List.{length-map}
 use Rattle.wincode_io.specs.Writers.{WriterState, WriterLaws}
 use Rattle.wincode_base.specs.Grammar.{WriteGrammar, WriteLaws}
 use Rattle.wincode_base.specs.Lengths.{Scheme, HasEncoding, encoding_len, length_write, LengthSizeRefused}
-use Rattle.wincode_base.specs.Lists.{items_write, each_write, parts_write, list_write, SizesRefused}
-use Rattle.wincode_base.specs.Outcomes.{Wrote, WriteRefused, Stopped, SizeRefused}
+use Rattle.wincode_base.specs.Lists.{item_write, items_write, each_write, parts_write, list_write, SizesRefused}
+use Rattle.wincode_base.specs.Outcomes.{Wrote, WriteRefused, Stopped, IsSized, SizeRefused}
 use Rattle.wincode_base.specs.PairSizeLaws.{unfit_first, unfit_second}
-use Rattle.wincode_base.specs.WriteSequences.{items_wrote_none, items_wrote_more, items_unwritten, each_halted, items_halted, list_halted_first, list_halted_second, list_wrote, list_unwritten_first, list_unwritten_second}
+use Rattle.wincode_base.specs.WriteSequences.{items_wrote_none, items_wrote_more, items_unwritten, each_halted, items_halted, item_halted, list_halted_first, list_halted_second, list_wrote, list_unwritten_first, list_unwritten_second}
 use Rattle.wincode_base.specs.declared.error.WriteError.{WriteError}
 use Rattle.wincode_io.specs.Joins.{Each, total}
 use Rattle.wincode_io.specs.JoinLaws.{map_more, map_parted, each_map_at, total_within}
@@ -34,6 +34,10 @@ module _ {A V S K : Type 0} (xs : List A) (i : ℕ) (x : A) (h : i < length xs) 
 
   pub items_place : {r : WriteError} → Wrote (items_write g) old mid (map f (take i xs)) → Stopped g mid new (f x) r → Stopped (items_write g) old new (map f xs) r
   items_place {r} w s = items_halted laws l (map f (take i xs)) (f x) (map f (drop (suc i) xs)) (map f xs) (map_parted xs i x h e f) w s
+
+  -- of whose refusal no more is said where it has one size
+  pub item_place : {r : WriteError} → Wrote (items_write g) old mid (map f (take i xs)) → Stopped (item_write g) mid new (f x) r → Stopped (items_write g) old new (map f xs) r
+  item_place {r} w s = item_halted laws l (map f (take i xs)) (f x) (map f (drop (suc i) xs)) (map f xs) (map_parted xs i x h e f) w s
 
 -- ---- the length of a list is that of what contracts see of it
 
@@ -73,6 +77,24 @@ module _ {X V : Type 0} (before : ℕ) (g : WriteGrammar V) (f : X → V) (xs : 
   -- the sum of sizes overflows
   pub sum_over : (sum : ℕ) → sum ≡ before + total g.size (map f (take i xs)) → 2 ^ 64 ≤ sum + g.size (f x) → Each g.can (map f xs) → before + total g.size (map f xs) < 2 ^ 64 → ⊥
   sum_over sum e over c fits = absurd (omega (arith, total_within xs i x h is f g.size))
+
+-- ---- items of which each can be written, in one size
+
+module _ {X V : Type 0} (g : WriteGrammar V) (f : X → V) (n : ℕ) (known : (x : X) → IsSized g (f x) n) where
+  sizes_known : (xs : List X) → Each g.can (map f xs) × (total g.size (map f xs) ≡ length xs * n)
+  sizes_known [] = (tt, omega arith)
+  sizes_known (x ∷ xs) =
+      let rest = sizes_known xs in
+      let one = known x in
+      ((one.0, rest.0), omega (arith, one.1, rest.1))
+
+  pub known_sum : (before count sum : ℕ) (xs : List X) → length xs ≡ count → sum ≡ before + count * n → Each g.can (map f xs) × (sum ≡ before + total g.size (map f xs))
+  known_sum before count sum xs long is =
+      let all = sizes_known xs in
+      (all.0, is ∙ ap (λ k. before + k) (ap (λ k. k * n) (sym long) ∙ sym all.1))
+
+  pub known_over : (before count : ℕ) (xs : List X) → length xs ≡ count → (before + count * n < 2 ^ 64 → ⊥) → Each g.can (map f xs) → before + total g.size (map f xs) < 2 ^ 64 → ⊥
+  known_over before count xs long over can fits = over (subst (λ k. before + k < 2 ^ 64) ((sizes_known xs).1 ∙ ap (λ k. k * n) long) fits)
 
 -- ---- a list after its length
 

@@ -107,7 +107,7 @@ module _ {V : Type 0} (g : ReadGrammar V) (n : ℕ) where
   run_each Vast is dynamic old new e d = absurd (cc)
 
   stays_here : (s : ReaderState) → Stays s s
-  stays_here s = record { kept = record { lends = refl; never_fails = refl; is_known = refl }; rest = λ t. refl; ready = omega arith; place = refl }
+  stays_here s = record { kept = record { lends = refl; never_fails = refl; counts_windows = refl; is_known = refl }; rest = λ t. refl; ready = omega arith; place = refl }
 
   -- they are past `usize::MAX` together
   pub run_long : (size : ItemSize) → IsTrue (is_known size) → run_size n size ≡ None → (s : ReaderState) (e : ReadError) (x : Bor (List ℕ)) → x.now ≡ past_usize → e ≡ reading.LengthEncodingOverflow x → RunReadRefused n size g s s e

@@ -31,7 +31,7 @@ use Rattle.wincode_base.specs.declared.error.ReadError.{ReadError}
 use Rattle.wincode_base.specs.declared.error.ReadError.TheVariants as reading
 use Rattle.wincode_io.specs.declared.error.ReadError.{ReadError as IoReadError}
 use Rattle.wincode_io.specs.declared.error.ReadError.TheVariants as reader
-use Rattle.wincode_io.specs.PlaceLaws.{kept_trans, known_kept, stays_trans, stays_onward, loses_onward, onward_trans}
+use Rattle.wincode_io.specs.PlaceLaws.{unsteady, kept_trans, known_kept, stays_trans, stays_onward, loses_onward, onward_trans}
 
 -- ---- characters
 
@@ -132,7 +132,7 @@ accepts_one old a =
 short_due : (n : ℕ) (old new : ReaderState) (e : IoReadError) → (Accepts char_read.reads old → n ≤ length old.rest) → ReadRefusedFor (IsShort n old) ⊥ n new e → ReaderDue (Accepts char_read.reads old) 0 new e
 short_due n old new (reader.ReadSizeLimit m) enough d = λ a. let h = d.0 a.is_known in let k = enough a in absurd (omega arith)
 short_due n old new reader.UnsupportedZeroCopy enough d = absurd d
-short_due n old new reader.OutOfMemory enough d = d
+short_due n old new reader.OutOfMemory enough d = unsteady new d
 short_due n old new (reader.Io e) enough d = d
 
 char_due : (old new : ReaderState) (e : ReadError) → CharReadRefusedFor old new e → ReadDue (Accepts char_read.reads old) 0 true new e
@@ -231,7 +231,7 @@ body_short n old short a =
 body_due : (unlent : Type 0) (n borrow : ℕ) (old new : ReaderState) (e : IoReadError) → (unlent → new.lends < borrow) → ReadRefusedFor (IsShort n old) unlent n new e → ReaderDue (Accepts (IsStrBytes n) old) borrow new e
 body_due unlent n borrow old new (reader.ReadSizeLimit m) lent d = λ a. body_short n old d.0 a
 body_due unlent n borrow old new reader.UnsupportedZeroCopy lent d = λ a. lent d
-body_due unlent n borrow old new reader.OutOfMemory lent d = d
+body_due unlent n borrow old new reader.OutOfMemory lent d = unsteady new d
 body_due unlent n borrow old new (reader.Io e) lent d = d
 
 body_not : (n : ℕ) (old new : ReaderState) (bytes : List ℕ) → Takes n old new bytes → (IsUtf8 bytes → ⊥) → Accepts (IsStrBytes n) old → ⊥

@@ -9,7 +9,7 @@ use Rattle.wincode_io.specs.Joins.{Joined, Each, total}
 use Rattle.wincode_io.specs.JoinedForms.{length-values, IsBytes-take, IsBytes-drop}
 use Rattle.wincode_io.specs.FormLaws.{byte_values}
 use Rattle.wincode_io.specs.Numbers.{le, worth}
-use Rattle.wincode_io.specs.PlaceLaws.{stays_onward}
+use Rattle.wincode_io.specs.PlaceLaws.{unsteady, stays_onward}
 use Rattle.wincode_io.specs.Readers.{ReaderState, Takes, TakesNumber, IsShort, ReadRefusedFor, BytesReadRefused, Stays}
 use Rattle.wincode_io.specs.Writers.{byte_limit, WriterState, WriterLaws, Added, BytesWriteRefused}
 use Rattle.wincode_base.specs.Grammar.{ReadGrammar, WriteGrammar}
@@ -63,7 +63,7 @@ module _ {V : Type 0} (reads : List ℕ → V → Type 0) (n : ℕ) (sized : (b 
   lend_due : (borrow m : ℕ) (old new : ReaderState) (e : IoReadError) → Stays old new → ReadRefusedFor (IsShortOfForm n old) (old.lends < borrow) m new e → ReaderDue (Accepts reads old) borrow new e
   lend_due borrow m old new (reader.ReadSizeLimit k) s d = λ a. too_short old d.0 a
   lend_due borrow m old new reader.UnsupportedZeroCopy s d = λ a. rw s.kept.lends d
-  lend_due borrow m old new reader.OutOfMemory s d = d
+  lend_due borrow m old new reader.OutOfMemory s d = unsteady new d
   lend_due borrow m old new (reader.Io e) s d = d
 
 -- what n bytes are too few for is so among at most `usize::MAX` too

@@ -1,15 +1,15 @@
 -- Going over the items of a collection, in writing.
-use Rattle.std.proofs.Common.{◌≡◌, ◌∙◌, sym, ap, subst, ℕ, ◌+◌, ◌-◌, ◌<◌, ◌≤◌, ◌^◌, List, [], ◌∷◌, ◌++◌, length, map, arith, append_assoc, length-append}
+use Rattle.std.proofs.Common.{◌≡◌, ◌∙◌, sym, ap, subst, ℕ, ◌+◌, ◌-◌, ◌<◌, ◌≤◌, ◌^◌, List, [], ◌∷◌, ◌++◌, length, map, refl, arith, append_assoc, length-append}
 use Rattle.std.proofs.lemmas.List.{map-append}
 use Rattle.wincode_io.specs.Joins.{Joined, Each, total}
 use Rattle.wincode_io.specs.JoinLaws.{joined_append, each_split, each_append, total-append}
 use Rattle.wincode_io.specs.Writers.{WriterState, WriterLaws}
 use Rattle.wincode_base.specs.Grammar.{WriteGrammar, WriteLaws}
-use Rattle.wincode_base.specs.Lists.{items_write, ItemsWriteRefused, SizesRefused}
+use Rattle.wincode_base.specs.Lists.{item_write, items_write, ItemsWriteRefused, SizesRefused}
 use Rattle.wincode_base.specs.ListLaws.{items_write_laws}
 use Rattle.wincode_base.specs.Outcomes.{Wrote, WriteRefused, Stopped, SizeRefused}
 use Rattle.wincode_base.specs.Pairs.{pair_write}
-use Rattle.wincode_base.specs.WriteSequences.{items_wrote_more, items_unwritten, items_halted, stopped_map, stopped_behind, wrote_map, unwritten_map, pair_wrote, pair_unwritten_first, pair_unwritten_second}
+use Rattle.wincode_base.specs.WriteSequences.{items_wrote_more, items_unwritten, items_halted, item_halted, stopped_map, stopped_behind, wrote_map, unwritten_map, pair_wrote, pair_unwritten_first, pair_unwritten_second}
 use Rattle.wincode_base.specs.declared.error.WriteError.{WriteError}
 
 -- so far the items before `rest` were written
@@ -90,6 +90,18 @@ module _ {S K V E : Type 0} {put : S → List ℕ → S} {room : S → ℕ} (law
   pub walk_halted : {old cur new : WriterState put room K} {all rest left : List E} {e : E} {x : WriteError} → WritesSoFar g see P old cur all left → left ≡ e ∷ rest → Stopped g cur new (see e) x
       → Stopped (items_write g) old new (map see all) x
   walk_halted {all = all} {rest = rest} {left = left} {e = e} w k s = items_halted laws l (map see w.done) (see e) (map see rest) (map see all) (sym (part_model see w.done rest all left e w.joins k)) w.items s
+
+  -- so, of an item of whose refusal no more is said where it has one size
+  pub walk_item_more : {old cur new : WriterState put room K} {all rest left : List E} {e : E} → WritesSoFar g see P old cur all left → left ≡ e ∷ rest → Wrote (item_write g) cur new (see e) → P e → WritesSoFar g see P old new all rest
+  walk_item_more w k r h = walk_more w k (wrote_map (item_write g) g _ _ (λ c. c) refl (λ b t. t) r) h
+
+  pub walk_item_refused : {old cur new : WriterState put room K} {all rest left : List E} {e : E} {x : WriteError} → WritesSoFar g see P old cur all left → left ≡ e ∷ rest → WriteRefused (item_write g) cur new (see e) x
+      → WriteRefused (items_write g) old new (map see all) x
+  walk_item_refused w k u = walk_refused w k (unwritten_map (item_write g) g _ _ (λ c. c) refl (λ b t. t) u)
+
+  pub walk_item_halted : {old cur new : WriterState put room K} {all rest left : List E} {e : E} {x : WriteError} → WritesSoFar g see P old cur all left → left ≡ e ∷ rest → Stopped (item_write g) cur new (see e) x
+      → Stopped (items_write g) old new (map see all) x
+  walk_item_halted {all = all} {rest = rest} {left = left} {e = e} w k s = item_halted laws l (map see w.done) (see e) (map see rest) (map see all) (sym (part_model see w.done rest all left e w.joins k)) w.items s
 
   -- ---- two runs of items, one after the other
 

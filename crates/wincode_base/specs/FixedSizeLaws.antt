@@ -1,9 +1,9 @@
 -- Reading encodings that all have one size.
 use Rattle.std.proofs.Common.{◌≡◌, ◌∙◌, sym, ap, subst, ℕ, ◌≤◌, Bool, List, [], ◌++◌, length, take, arith, length-append, IsTrue, Some}
 use Rattle.wincode_io.specs.Places.{onward}
-use Rattle.wincode_io.specs.Readers.{ReaderState, Loses, Takes, IsShort, ReadRefusedFor, Arrays}
-use Rattle.wincode_io.specs.PlaceLaws.{kept_trans, known_kept, stays_onward, loses_onward}
-use Rattle.wincode_base.specs.Outcomes.{Gives, Puts, Accepts, ReadRefused, ReaderDue, PieceReadRefused}
+use Rattle.wincode_io.specs.Readers.{ReaderState, Stays, Loses, Takes, IsShort, ReadRefusedFor, WindowRefusedFor, Arrays}
+use Rattle.wincode_io.specs.PlaceLaws.{kept_trans, known_kept, unsteady, stays_onward, loses_onward}
+use Rattle.wincode_base.specs.Outcomes.{Gives, Puts, Accepts, ReadRefused, ReaderDue, PieceReadRefused, NoWindow}
 use Rattle.wincode_base.specs.declared.error.ReadError.{ReadError}
 use Rattle.wincode_base.specs.declared.error.ReadError.TheVariants as reading
 use Rattle.wincode_io.specs.declared.error.ReadError.{ReadError as IoReadError}
@@ -18,18 +18,32 @@ module _ {V : Type 0} (reads : List ℕ → V → Type 0) (n : ℕ) (sized : (b 
   denied_due : (borrow : ℕ) (old new : ReaderState) (e : IoReadError) → ReadRefusedFor (IsShort n old) ⊥ n new e → ReaderDue (Accepts reads old) borrow new e
   denied_due borrow old new (reader.ReadSizeLimit m) d = λ a. too_short old d.0 a
   denied_due borrow old new reader.UnsupportedZeroCopy d = absurd d
-  denied_due borrow old new reader.OutOfMemory d = d
+  denied_due borrow old new reader.OutOfMemory d = unsteady new d
   denied_due borrow old new (reader.Io e) d = d
+
+  window_due : (borrow : ℕ) (old new : ReaderState) (e : IoReadError) → WindowRefusedFor (IsShort n old) n new e → ReaderDue (Accepts reads old) borrow new e
+  window_due borrow old new (reader.ReadSizeLimit m) d = λ a. too_short old d.0 a
+  window_due borrow old new reader.UnsupportedZeroCopy d = absurd d
+  window_due borrow old new reader.OutOfMemory d = d
+  window_due borrow old new (reader.Io e) d = d
+
+  stayed_refuses : (borrow : ℕ) (takes_no_memory : Bool) (old new : ReaderState) (e : IoReadError) → Stays old new → ReaderDue (Accepts reads old) borrow new e → ReadRefused reads borrow takes_no_memory old new (reading.Io e)
+  stayed_refuses borrow takes_no_memory old new e stays due = record {
+    kept = stays.kept;
+    left = λ t. record { front = []; joins = sym (stays.rest t) };
+    place = stays_onward old new stays;
+    due = due;
+  }
 
   -- the reader refused n bytes
   pub denied_refuses : (borrow : ℕ) (takes_no_memory : Bool) (old new : ReaderState) (e : ReadError) → PieceReadRefused n old new e → ReadRefused reads borrow takes_no_memory old new e
-  denied_refuses borrow takes_no_memory old new (reading.Io e) d = record {
-    kept = d.0.kept;
-    left = λ t. record { front = []; joins = sym (d.0.rest t) };
-    place = stays_onward old new d.0;
-    due = denied_due borrow old new e d.1;
-  }
+  denied_refuses borrow takes_no_memory old new (reading.Io e) d = stayed_refuses borrow takes_no_memory old new e d.0 (denied_due borrow old new e d.1)
   denied_refuses borrow takes_no_memory old new _ d = absurd d
+
+  -- the reader refused a window of n bytes
+  pub window_denied_refuses : (borrow : ℕ) (takes_no_memory : Bool) (old new : ReaderState) (e : ReadError) → NoWindow n old new e → ReadRefused reads borrow takes_no_memory old new e
+  window_denied_refuses borrow takes_no_memory old new (reading.Io e) d = stayed_refuses borrow takes_no_memory old new e d.0 (window_due borrow old new e d.1)
+  window_denied_refuses borrow takes_no_memory old new _ d = absurd d
 
 -- bytes that were shown as an array, and then consumed
 pub arrays_takes : (n : ℕ) (old mid new : ReaderState) (a : List ℕ) → Arrays n old mid a → Loses n mid new → Takes n old new a

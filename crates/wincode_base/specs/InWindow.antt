@@ -2,14 +2,14 @@
 use Rattle.std.specs.Prelude.{ℕ, ◌⊎◌}
 use Rattle.wincode_io.specs.Readers.{ReaderState, Windowed}
 use Rattle.wincode_base.specs.Grammar.{WriteGrammar, WriteRefusal, ReadGrammar, ReadRefusal}
-use Rattle.wincode_base.specs.Outcomes.{PieceReadRefused, PieceWriteRefused}
+use Rattle.wincode_base.specs.Outcomes.{NoWindow, PieceWriteRefused}
 use Rattle.wincode_base.specs.declared.meta.TypeMeta.{TypeMeta}
 use Rattle.wincode_base.specs.declared.meta.TypeMeta.TheVariants.{Static, Dynamic}
 
 -- What is read through a window of n bytes was refused: the window was, and nothing is gone; or all n bytes are gone,
 -- and what is in them was refused as `inside` says.
 abbrev pub WindowReadRefused : ℕ → ReadRefusal → ReadRefusal
-WindowReadRefused n inside old new e = PieceReadRefused n old new e ⊎ ((window : ReaderState) × (after : ReaderState) × Windowed n old new window × inside window after e)
+WindowReadRefused n inside old new e = NoWindow n old new e ⊎ ((window : ReaderState) × (after : ReaderState) × Windowed n old new window × inside window after e)
 
 -- What has one size is read through a window of it; the parts of what has none are refused as they say.
 abbrev pub StaticReadRefused : TypeMeta → ReadRefusal → ReadRefusal

@@ -41,7 +41,7 @@ list_read_laws s scheme count counts is_valid g laws = record {
 module _ {V : Type 0} (reads : List ℕ → V → Type 0) where
   pub items_none : (s : ReaderState) → Gives (AreItems 0 reads) s s []
   items_none s = record {
-    kept = record { lends = refl; never_fails = refl; is_known = refl };
+    kept = record { lends = refl; never_fails = refl; counts_windows = refl; is_known = refl };
     found = λ t. record { encoding = []; is_read = (refl, refl); joins = refl };
     place = λ t. still s;
   }

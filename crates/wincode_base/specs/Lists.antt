@@ -31,6 +31,19 @@ pub record ItemWriteRefused {V : Type 0} (g : WriteGrammar V) (vs : List V) (roo
 abbrev pub ItemsWriteRefused : {V : Type 0} → WriteGrammar V → WriteRefusal (List V)
 ItemsWriteRefused g vs room added e = g.meta ≡ Dynamic → ItemWriteRefused g vs room added e
 
+-- an item among others, of whose refusal no more is said where it has one size
+abbrev pub item_write : {V : Type 0} → WriteGrammar V → WriteGrammar V
+item_write g = record {
+  writes = g.writes;
+  can = g.can;
+  size = g.size;
+  fits = g.fits;
+  meta = g.meta;
+  prealloc = g.prealloc;
+  builtin = g.builtin;
+  refused = λ v room added e. g.meta ≡ Dynamic → g.refused v room added e;
+}
+
 -- items without their length, as something to write
 abbrev pub items_write : {V : Type 0} → WriteGrammar V → WriteGrammar (List V)
 items_write g = record {

@@ -2,7 +2,7 @@
 use Rattle.std.specs.Prelude.{⊤, ◌≡◌, ◌⊎◌, ℕ, ◌^◌, ◌<◌, ◌≤◌, min, Bool, false, ◌&&◌, List, [], ◌++◌, length, map, codes, IsTrue, Option, Result, OnOk, IfErr, OnErr, IfOk}
 use Rattle.std.specs.Option.{IsSomeAnd}
 use Rattle.wincode_io.specs.Joins.{AreItems}
-use Rattle.wincode_io.specs.Readers.{ReaderState, Kept, IsOnward, IsShort, BytesReadRefused}
+use Rattle.wincode_io.specs.Readers.{ReaderState, Kept, IsOnward, IsShort, BytesReadRefused, WindowRefused, is_steady}
 use Rattle.wincode_io.specs.Writers.{WriterState, IsSameWriter, Took, byte_limit, WriteRefusedFor}
 use Rattle.wincode_base.specs.Grammar.{ReadGrammar, WriteGrammar, ReadRefusal}
 use Rattle.wincode_base.specs.declared.error.ReadError.{ReadError}
@@ -57,11 +57,11 @@ pub record Accepts {V : Type 0} (reads : List ℕ → V → Type 0) (old : Reade
   pub front : Front reads old.rest
 
 -- Why reading may be refused, where `accepted` says that a front reads: then for a borrow that the reader does not
--- lend, for memory or by its device alone.
+-- lend, for memory, for a window that can't be counted, or by its device alone.
 abbrev pub ReaderDue : Type 0 → ℕ → ReaderState → IoReadError → Type 0
 ReaderDue accepted borrow new (reader.ReadSizeLimit n) = accepted → ⊥
 ReaderDue accepted borrow new reader.UnsupportedZeroCopy = accepted → new.lends < borrow
-ReaderDue accepted borrow new reader.OutOfMemory = new.never_fails ≡ false
+ReaderDue accepted borrow new reader.OutOfMemory = is_steady new ≡ false
 ReaderDue accepted borrow new (reader.Io e) = (new.never_fails ≡ false) × (0 < new.failures)
 
 -- So, with the errors of schemas: plain `OutOfMemory` is memory for the value, and any other error says that no
@@ -90,6 +90,11 @@ unsaid old new e = Unit {0}
 abbrev pub PieceReadRefused : ℕ → ReaderState → ReaderState → ReadError → Type 0
 PieceReadRefused n old new (reading.Io e) = BytesReadRefused (IsShort n old) ⊥ n old new e
 PieceReadRefused n old new _ = ⊥
+
+-- a window of n bytes was refused by the reader, which has the bytes that it had
+abbrev pub NoWindow : ℕ → ReaderState → ReaderState → ReadError → Type 0
+NoWindow n old new (reading.Io e) = WindowRefused n old new e
+NoWindow n old new _ = ⊥
 
 -- A read was refused: it is due, and as the grammar says.
 abbrev pub SchemaReadRefused : {V : Type 0} → ReadGrammar V → ReadRefusal
@@ -223,6 +228,10 @@ IsValueError builtin e = IsOfValueAlone e × (IsTrue builtin → IsLengthOverflo
 -- v can be written, in n bytes
 abbrev pub IsSized : {V : Type 0} → WriteGrammar V → V → ℕ → Type 0
 IsSized g v n = g.can v × (n ≡ g.size v)
+
+-- v can be written, and the bytes are an encoding of it
+abbrev pub IsEncoded : {V : Type 0} → WriteGrammar V → V → List ℕ → Type 0
+IsEncoded g v bytes = g.can v × g.writes v bytes
 
 -- The size of v was refused: v can't be written or its size is past `usize::MAX`.
 abbrev pub SizeRefused : {V : Type 0} → WriteGrammar V → V → WriteError → Type 0

@@ -5,7 +5,7 @@ use Rattle.wincode_io.specs.Joins.{Joined, Each}
 use Rattle.wincode_io.specs.JoinLaws.{joined_append, each_split, each_append, total-append}
 use Rattle.wincode_base.specs.Grammar.{WriteGrammar, WriteLaws}
 use Rattle.wincode_base.specs.Lengths.{Scheme, length_write}
-use Rattle.wincode_base.specs.Lists.{items_write, each_write, parts_write}
+use Rattle.wincode_base.specs.Lists.{item_write, items_write, each_write, parts_write}
 use Rattle.wincode_base.specs.ListLaws.{items_write_laws}
 use Rattle.wincode_base.specs.LengthLaws.{length_write_laws}
 use Rattle.wincode_base.specs.Pairs.{pair_write}
@@ -188,6 +188,11 @@ module _ {S K V X : Type 0} {put : S → List ℕ → S} {room : S → ℕ} (law
 
   pub items_halted : {old mid new : WriterState put room K} (us : List V) (v : V) (more vs : List V) {e : WriteError} → vs ≡ us ++ (v ∷ more) → Wrote (items_write g) old mid us → Stopped g mid new v e → Stopped (items_write g) old new vs e
   items_halted us v more vs is r s = stopped_map (each_write g) (items_write g) vs vs (λ a x dynamic. x) (each_halted us v more vs is r s)
+
+  -- an item was refused, of which no more is said where it has one size
+  pub item_halted : {old mid new : WriterState put room K} (us : List V) (v : V) (more vs : List V) {e : WriteError} → vs ≡ us ++ (v ∷ more) → Wrote (items_write g) old mid us → Stopped (item_write g) mid new v e → Stopped (items_write g) old new vs e
+  item_halted us v more vs is r s =
+      stopped_behind (items_laws l) laws (item_write g) (items_write g) v vs r s (λ x dynamic. record { before = us; item = v; after = more; encoding = r.encoding; rest = s.added; is = is; written = r.is_encoding; joins = refl; refused = x dynamic })
 
   module _ (s : Scheme) (count : ℕ) where
     pub list_halted_first : {old new : WriterState put room K} (vs : List V) {e : WriteError} → Stopped (length_write s) old new (length vs) e → Stopped (parts_write s count g) old new vs e

@@ -47,6 +47,7 @@ impl<const MAX_SIZE: usize> SeqLen for BincodeLen<MAX_SIZE> {
 
     /// With fewer than eight bytes left it is `ReadSizeLimit(8)`, and they stay. Over the limit it is
     /// `PreallocationSizeLimit`, behind the eight bytes; what is needed is at most `usize::MAX`.
+    #[inline(always)]
     fn read<L: Lending, R: Reader<L>>(reader: &mut R, prealloc: usize) -> ReadResult<usize> {
         let len = take_number::<L, R>(reader)? as usize;
         match len.checked_mul(prealloc) {
@@ -56,11 +57,13 @@ impl<const MAX_SIZE: usize> SeqLen for BincodeLen<MAX_SIZE> {
         }
     }
 
+    #[inline(always)]
     fn write<W: Writer>(writer: &mut W, len: usize) -> WriteResult<()> {
         writer.write(&(len as u64).to_le_bytes())?;
         Ok(())
     }
 
+    #[inline(always)]
     fn write_bytes_needed(_len: usize) -> WriteResult<usize> {
         Ok(8)
     }

@@ -7,6 +7,7 @@ use crate::error::ReadResult;
 use wincode_io::{Lending, Reader, fill_array};
 
 /// The first `N` bytes, which are then gone; `ReadSizeLimit(N)` where fewer are left, and they stay.
+#[inline(always)]
 pub fn take_array<L: Lending, R: Reader<L>, const N: usize>(reader: &mut R) -> ReadResult<[u8; N]>
     ensures ok { IfOk result (Takes N (R.state reader.old) (R.state reader.new)) }
     ensures err { IfErr result (PieceReadRefused N (R.state reader.old) (R.state reader.new)) }
@@ -18,6 +19,7 @@ pub fn take_array<L: Lending, R: Reader<L>, const N: usize>(reader: &mut R) -> R
 
 /// The number of the first eight bytes, which are then gone; `ReadSizeLimit(8)` where fewer are left, and
 /// they stay.
+#[inline(always)]
 pub fn take_number<L: Lending, R: Reader<L>>(reader: &mut R) -> ReadResult<u64>
     ensures ok { IfOk result (TakesNumber 8 (R.state reader.old) (R.state reader.new)) }
     ensures err { IfErr result (PieceReadRefused 8 (R.state reader.old) (R.state reader.new)) }

@@ -73,6 +73,7 @@ impl ItemSize {
 }
 
 /// The size of `n` items, or none.
+#[inline]
 pub fn size_of_items(n: usize, item: TypeMeta) -> TypeMeta
     ensures { result ≡ times_meta n item }
 {
@@ -86,6 +87,7 @@ pub fn size_of_items(n: usize, item: TypeMeta) -> TypeMeta
 }
 
 /// The size of what is held in memory of its own, which is no list of bytes.
+#[inline]
 pub fn boxed_meta(meta: TypeMeta) -> TypeMeta
     ensures { result ≡ reference_meta meta }
 {
@@ -99,6 +101,7 @@ pub fn boxed_meta(meta: TypeMeta) -> TypeMeta
 }
 
 /// The size of two parts, one after the other.
+#[inline]
 pub fn joined_meta(first: TypeMeta, second: TypeMeta) -> TypeMeta
     ensures { result ≡ pair_meta first second }
 {
@@ -117,6 +120,7 @@ pub fn joined_meta(first: TypeMeta, second: TypeMeta) -> TypeMeta
 }
 
 /// The size of a part and what stands behind it.
+#[inline]
 pub fn checked_sum(first: usize, second: usize) -> WriteResult<usize>
     ensures ok { IfOk result (λ n. n ≡ first + second) }
     ensures err { IfErr result (λ e. (2 ^ 64 ≤ first + second) × IsOverflow past_usize e) }
@@ -129,6 +133,7 @@ pub fn checked_sum(first: usize, second: usize) -> WriteResult<usize>
 
 /// The size of two parts, one after the other, of whose sizes either may be refused: the refusal of the first
 /// that is. A caller without a branch of its own is checked in less than half of the time.
+#[inline]
 pub fn joined_size(first: WriteResult<usize>, second: WriteResult<usize>) -> WriteResult<usize>
     ensures ok { IfOk result (JoinedSize first second) }
     ensures err { IfErr result (JoinedSizeRefused first second) }
@@ -137,6 +142,7 @@ pub fn joined_size(first: WriteResult<usize>, second: WriteResult<usize>) -> Wri
 }
 
 /// The size of a result with such a tag, whose sides have these sizes.
+#[inline]
 pub fn result_meta(tag_size: usize, one: TypeMeta, other: TypeMeta) -> TypeMeta
     ensures { result ≡ pair_meta (TypeMeta.Static tag_size true) (sides_meta one other) }
 {
@@ -155,6 +161,7 @@ pub fn result_meta(tag_size: usize, one: TypeMeta, other: TypeMeta) -> TypeMeta
 }
 
 /// The size of a form, or none.
+#[inline]
 pub fn meta_of_form<T: ZeroCopy>(zero_copy: bool) -> TypeMeta
     ensures { result ≡ form_meta T.size zero_copy }
 {

@@ -7,6 +7,7 @@ mod texts;
 use crate::arguments::Asked;
 use crate::messages::time_messages;
 use crate::records::time_records;
+use crate::samples::time_samples;
 use crate::timing::Failure;
 use std::rt::Clock;
 use wincode::len::BincodeLen;
@@ -21,5 +22,6 @@ pub fn time_cases(rt: &(impl Clock + Print + AllocGlobal), asked: &Asked) -> Res
     maps::time_all(rt, asked)?;
     items::time_all(rt, asked)?;
     time_records(rt, asked)?;
-    time_messages(rt, asked)
+    time_messages(rt, asked)?;
+    time_samples(rt, asked)
 }

@@ -1,5 +1,5 @@
 //! Looking at a value, so that no run can leave it out.
-use crate::parts::Record;
+use crate::parts::{Record, Sample};
 use std::collections::{BTreeMap, HashMap, VecDeque};
 use wincode_examples::event::Event;
 use wincode_examples::message::Message;
@@ -54,6 +54,14 @@ impl Look for u64 {
 impl Look for [u8; 32] {
     fn look(&self) -> u64 {
         u64::from(self[31])
+    }
+}
+
+impl Look for Sample {
+    fn look(&self) -> u64 {
+        self.number
+            .wrapping_add(u64::from(self.is_marked))
+            .wrapping_add(u64::from_le_bytes(self.bytes))
     }
 }
 

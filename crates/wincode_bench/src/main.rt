@@ -13,6 +13,7 @@ mod look;
 mod messages;
 mod parts;
 mod records;
+mod samples;
 mod timing;
 mod values;
 

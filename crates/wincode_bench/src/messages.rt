@@ -18,7 +18,7 @@ const MESSAGES: u64 = 10_000;
 const ROOM: usize = 64;
 
 /// What is seen of the values, added.
-fn seen_of<T: Look>(values: &[T]) -> u64 {
+pub fn seen_of<T: Look>(values: &[T]) -> u64 {
     let mut sum = 0u64;
     for value in values {
         sum = sum.wrapping_add(value.look());
@@ -39,9 +39,9 @@ fn encodings(alloc: Global, messages: &[Message]) -> Result<Vec<Vec<u8>>, Failur
 
 /// Copies each encoding into a new vector.
 #[derive(Drop)]
-struct CopyingEach<'a> {
-    texts: &'a [Vec<u8>],
-    due: u64,
+pub struct CopyingEach<'a> {
+    pub texts: &'a [Vec<u8>],
+    pub due: u64,
 }
 
 impl Work for CopyingEach<'_> {

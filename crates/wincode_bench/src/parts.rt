@@ -1,12 +1,56 @@
 //! What is read and written, made of numbers, so that no two values of a list are alike.
+ghost use Rattle.std.proofs.Common.{ap};
+
 use crate::timing::Failure;
 use std::alloc::Global;
 use std::collections::{BTreeMap, HashMap, VecDeque};
+use wincode::io::Writer;
+use wincode::schema::tuples::{encode_members_3, size_of_members_3, write_members_3};
+use wincode::{Shape, WriteResult};
 use wincode_examples::event::Event;
 use wincode_examples::message::Message;
 
 /// A number, a boolean and bytes.
 pub type Record = (u64, bool, [u8; 32]);
+
+/// A small struct of one size.
+#[derive(Debug, Drop)]
+pub struct Sample {
+    pub number: u64,
+    pub is_marked: bool,
+    pub bytes: [u8; 8],
+}
+
+impl Shape for Sample {
+    type Parts = (u64, bool, [u8; 8]);
+
+    type As = (u64, bool, [u8; 8]);
+
+    ghost parts = { λ s. (s.number, s.is_marked, s.bytes) };
+
+    ghost parts_tell = { λ x y same. ap (λ p. record { number = p.0; is_marked = p.1; bytes = p.2 }) same };
+
+    fn make(made_of: Self::Parts) -> Sample {
+        let (number, is_marked, bytes) = made_of;
+        Sample {
+            number,
+            is_marked,
+            bytes,
+        }
+    }
+
+    fn parts_size(&self) -> WriteResult<usize> {
+        size_of_members_3::<u64, bool, [u8; 8]>(&self.number, &self.is_marked, &self.bytes)
+    }
+
+    fn write_parts<W: Writer>(&self, writer: &mut W) -> WriteResult<()> {
+        write_members_3::<u64, bool, [u8; 8], W>(writer, &self.number, &self.is_marked, &self.bytes)
+    }
+
+    fn encode_parts(&self, dst: &mut [u8]) -> bool {
+        encode_members_3::<u64, bool, [u8; 8]>(&self.number, &self.is_marked, &self.bytes, dst)
+    }
+}
 
 /// How many items a list in a list has, and how many letters a text in one.
 const SIDE: u64 = 20;
@@ -209,6 +253,16 @@ impl Made for Event {
 }
 
 /// With four to seven tags, and every second one with a note.
+impl Made for Sample {
+    fn made(_alloc: Global, number: u64) -> Result<Sample, Failure> {
+        Ok(Sample {
+            number,
+            is_marked: number % 3 == 0,
+            bytes: number.wrapping_mul(7).to_le_bytes(),
+        })
+    }
+}
+
 impl Made for Message {
     fn made(alloc: Global, number: u64) -> Result<Message, Failure> {
         let tags = list_of(alloc, number, 4 + number % 4)?;

@@ -3,9 +3,9 @@
 /// What stands at the top.
 mod top {
     pub use wincode::{
-        By, Error, Key, OneText, ReadError, ReadResult, Result, RoundTrip, SchemaGet, SchemaRead,
-        SchemaReadOwned, SchemaWrite, Shape, TagCode, Told, TypeMeta, WriteError, WriteResult,
-        ZeroCopy, deserialize, deserialize_from, deserialize_mut, read_tag, serialize,
+        By, Error, Key, Messages, OneText, ReadError, ReadResult, Result, RoundTrip, SchemaGet,
+        SchemaRead, SchemaReadOwned, SchemaWrite, Shape, TagCode, Told, TypeMeta, WriteError,
+        WriteResult, ZeroCopy, deserialize, deserialize_from, deserialize_mut, read_tag, serialize,
         serialize_into, serialized_size, write_tag,
     };
 }
@@ -58,11 +58,12 @@ mod schemas {
 /// Readers and writers, as `wincode` passes them on.
 mod inputs {
     pub use wincode::io::{
-        Borrowed, Cursor, Held, Input, InputMut, Lending, Lifetime, ReadError, ReadResult,
-        ReadWindow, Reader, Ref, RefMut, SharedBytes, SliceRef, SliceRefMut, SliceView,
-        SliceWriter, TrustedSliceReader, TrustedSliceReaderZeroCopy, TrustedSliceReaderZeroCopyMut,
-        TrustedSliceWriter, View, WriteError, WriteResult, WriteWindow, Writer, ZeroCopy,
-        copy_into_array, fill_array, see_bytes, size_of_form, total_size,
+        Borrowed, CountedSliceReader, Cursor, Held, Input, InputMut, Lending, Lifetime, ReadError,
+        ReadResult, ReadWindow, Reader, Ref, RefMut, SharedBytes, SliceRef, SliceRefMut, SliceView,
+        SliceWriter, Source, StdSource, StreamReader, TrustedSliceReader,
+        TrustedSliceReaderZeroCopy, TrustedSliceReaderZeroCopyMut, TrustedSliceWriter, View,
+        WriteError, WriteResult, WriteWindow, Writer, ZeroCopy, copy_into_array, fill_array,
+        see_bytes, size_of_form, total_size,
     };
 }
 

@@ -13,7 +13,7 @@ pub trait Gather<T>: Drop + Sized {
     // It is made of these, in order.
     ghost made: { List T → Self → Type 0 };
 
-    /// An empty one, with memory for `n` items where it keeps them in one piece.
+    /// An empty one, with memory for `n` items where it keeps them in one piece or in a table.
     fn empty(alloc: Global, n: usize) -> Result<Self, AllocError>
         ensures { IfOk result (made []) };
 
@@ -95,8 +95,8 @@ impl<K: Ord + Drop> Gather<K> for BTreeSet<K> {
 impl<K: Eq + Hash + Drop, V: Drop> Gather<(K, V)> for HashMap<K, V> {
     ghost made = { λ pairs m. IsHashMapOf K.eq pairs m.entries };
 
-    fn empty(alloc: Global, _n: usize) -> Result<HashMap<K, V>, AllocError> {
-        Ok(HashMap::new(alloc))
+    fn empty(alloc: Global, n: usize) -> Result<HashMap<K, V>, AllocError> {
+        HashMap::with_capacity(alloc, n)
     }
 
     fn add(&mut self, pair: (K, V)) -> Result<(), AllocError> {
@@ -110,8 +110,8 @@ impl<K: Eq + Hash + Drop, V: Drop> Gather<(K, V)> for HashMap<K, V> {
 impl<K: Eq + Hash + Drop> Gather<K> for HashSet<K> {
     ghost made = { λ items set. IsHashSetOf K.eq items set.keys };
 
-    fn empty(alloc: Global, _n: usize) -> Result<HashSet<K>, AllocError> {
-        Ok(HashSet::new(alloc))
+    fn empty(alloc: Global, n: usize) -> Result<HashSet<K>, AllocError> {
+        HashSet::with_capacity(alloc, n)
     }
 
     fn add(&mut self, item: K) -> Result<(), AllocError> {

@@ -12,4 +12,6 @@ mod many;
 #[cfg(test)]
 mod maps;
 #[cfg(test)]
+mod quick;
+#[cfg(test)]
 mod short_lengths;

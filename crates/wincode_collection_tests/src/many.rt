@@ -54,7 +54,7 @@ fn lists_of_many_numbers(rt: HostRuntime) -> Result<(), Fail> {
 #[test]
 fn maps_of_many_numbers(rt: HostRuntime) -> Result<(), Fail> {
     let alloc = rt.alloc();
-    for n in [2_000, 30_000] {
+    for n in [2_000, 100_000] {
         let list = numbered(alloc, n, &[])?;
         let bytes = list.as_slice();
         assert!(rt; keeps_all::<BTreeMap<u32, ()>>(alloc, bytes)?);
@@ -66,7 +66,7 @@ fn maps_of_many_numbers(rt: HostRuntime) -> Result<(), Fail> {
 #[test]
 fn sets_and_heaps_of_many_numbers(rt: HostRuntime) -> Result<(), Fail> {
     let alloc = rt.alloc();
-    for n in [2_000, 30_000] {
+    for n in [2_000, 100_000] {
         let list = numbered(alloc, n, &[])?;
         let bytes = list.as_slice();
         assert!(rt; keeps_all::<BTreeSet<u32>>(alloc, bytes)?);

@@ -1,10 +1,11 @@
 //! The recipes of docs/USING.md.
 use std::collections::BTreeMap;
 use std::test::Fail;
+use wincode::io::StdSource;
 use wincode::{ReadError, serialize};
 use wincode_uses::recipes::{
     Damaged, counts_of, counts_to_bytes, few_of, join_lines, put_two_texts, set_first, settings_of,
-    split_lines, sum_of, take_two_texts, there_and_back, two_texts,
+    split_lines, sum_of, take_two_texts, there_and_back, total_length, two_texts,
 };
 
 #[test]
@@ -32,7 +33,9 @@ fn lines_of_a_file(rt: HostRuntime) -> Result<(), Fail> {
     assert_eq!(rt; bytes.len(), 33);
     assert!(rt; split_lines(alloc, bytes.as_slice())? == lines);
     assert_eq!(rt; split_lines(alloc, &[])?.len(), 0);
+    assert_eq!(rt; total_length(alloc, StdSource::new(bytes.as_slice()))?, 1);
     bytes.truncate(32);
+    assert!(rt; total_length(alloc, StdSource::new(bytes.as_slice())).is_err());
     let cut = split_lines(alloc, bytes.as_slice());
     assert!(rt; cut.is_err());
     Ok(())

@@ -1,10 +1,10 @@
 -- Reading and writing a record over a device, through one window of its size.
-use Rattle.std.proofs.Common.{◌≡◌, ◌∙◌, sym, subst, ap, ℕ, ◌<◌, ◌≤◌, ◌^◌, ◌&&◌, Bool, true, false, true≢false, List, [], ◌∷◌, ◌++◌, length, map, refl, arith, lit≤, lit<, append-nil, IsTrue, inl, inr, Result, Ok, Err}
+use Rattle.std.proofs.Common.{◌≡◌, ◌∙◌, sym, subst, ap, ℕ, ◌<◌, ◌≤◌, ◌^◌, ◌&&◌, not, Bool, true, false, true≢false, List, [], ◌∷◌, ◌++◌, length, map, refl, arith, lit≤, lit<, append-nil, IsTrue, inl, inr, Result, Ok, Err}
 use Rattle.std.proofs.lemmas.List.{take_all, map-id, length-append}
 use Rattle.std.specs.Result.{IfErr, IsOk}
 use Rattle.std.specs.Borrow.{GName}
 use Rattle.wincode_io.specs.Joins.{Each}
-use Rattle.wincode_io.specs.Readers.{ReaderState, Windowed, IsShort, BytesReadRefused}
+use Rattle.wincode_io.specs.Readers.{ReaderState, Kept, Windowed, WindowRefused, is_steady}
 use Rattle.wincode_io.specs.Writers.{WriterState, WriterLaws, HasRoom, BytesWriteRefused}
 use Rattle.wincode_io.specs.SliceWriters.{slice_room}
 use Rattle.wincode_io.specs.WriteWindows.{window_of}
@@ -14,12 +14,12 @@ use Rattle.wincode_io.specs.declared.error.WriteError.{WriteError as IoWriteErro
 use Rattle.wincode_io.specs.declared.error.WriteError.TheVariants as writer
 use Rattle.wincode_base.specs.ArrayLaws.{array_read_laws, array_write_laws}
 use Rattle.wincode_base.specs.Arrays.{IsArray}
-use Rattle.wincode_base.specs.FixedSizeLaws.{takes_joins, denied_refuses}
+use Rattle.wincode_base.specs.FixedSizeLaws.{takes_joins, window_denied_refuses}
 use Rattle.wincode_base.specs.Grammar.{ReadLaws, ReadRefusal, WriteGrammar, WriteLaws}
 use Rattle.wincode_base.specs.InWindow.{WindowReadRefused}
 use Rattle.wincode_base.specs.LeafLaws.{same_front, number_read_laws, number_write_laws, bool_read_laws, bool_write_laws}
 use Rattle.wincode_base.specs.Leaves.{number_read, number_write}
-use Rattle.wincode_base.specs.Outcomes.{Accepts, Front, Gives, PieceReadRefused, ReadDue, ReadRefused, SchemaReadRefused, Wrote, WriteRefused, Stopped}
+use Rattle.wincode_base.specs.Outcomes.{Accepts, Front, Gives, NoWindow, ReadDue, ReadRefused, SchemaReadRefused, Wrote, WriteRefused, Stopped}
 use Rattle.wincode_base.specs.PairLaws.{pair_read_laws, windowed_read_laws, pair_write_laws, windowed_write_laws}
 use Rattle.wincode_base.specs.declared.error.ReadError.{ReadError}
 use Rattle.wincode_base.specs.declared.error.ReadError.TheVariants as reading
@@ -32,19 +32,25 @@ use Rattle.wincode_examples.specs.Records.{members_read, record_read, members_wr
 
 -- ---- a window in a window of the same size
 
--- nothing of a window is refused for its size
-no_piece : (n : ℕ) (old new window after : ReaderState) (e : ReadError) → Windowed n old new window → PieceReadRefused n window after e → ⊥
-no_piece n old new window after (reading.Io (reader.ReadSizeLimit m)) w p = let short = p.1.0 w.is_known in absurd (omega (arith, w.takes.size, short))
-no_piece n old new window after (reading.Io reader.UnsupportedZeroCopy) w p = p.1
-no_piece n old new window after (reading.Io reader.OutOfMemory) w p = true≢false (sym (p.0.kept.never_fails ∙ w.never_fails) ∙ p.1)
-no_piece n old new window after (reading.Io (reader.Io x)) w p = true≢false (sym (p.0.kept.never_fails ∙ w.never_fails) ∙ p.1.0)
-no_piece n old new window after _ w p = p
+-- a window of a reader that doesn't count its windows is steady, and stays so
+steady_inside : {n : ℕ} {old new window after : ReaderState} → old.counts_windows ≡ false → Windowed n old new window → Kept window after → is_steady after ≡ true
+steady_inside {after = after} u w k =
+    ap (λ b. b && not after.counts_windows) (k.never_fails ∙ w.never_fails) ∙ ap (λ c. true && not c) (k.counts_windows ∙ w.counts_windows ∙ u)
+
+-- no window of all of such a window is refused
+all_of_window : (n : ℕ) (old new window after : ReaderState) (e : ReadError) → old.counts_windows ≡ false → Windowed n old new window → NoWindow n window after e → ⊥
+all_of_window n old new window after (reading.Io (reader.ReadSizeLimit m)) u w p = let short = p.1.0 w.is_known in absurd (omega (arith, w.takes.size, short))
+all_of_window n old new window after (reading.Io reader.UnsupportedZeroCopy) u w p = p.1
+all_of_window n old new window after (reading.Io reader.OutOfMemory) u w p = true≢false (sym (steady_inside u w p.0.kept) ∙ p.1)
+all_of_window n old new window after (reading.Io (reader.Io x)) u w p = true≢false (sym (p.0.kept.never_fails ∙ w.never_fails) ∙ p.1.0)
+all_of_window n old new window after _ u w p = p
 
 -- a window of all of a window is one of the reader below
 same_window : (n : ℕ) (old new window after inner : ReaderState) → Windowed n old new window → Windowed n window after inner → Windowed n old new inner
 same_window n old new window after inner w v = record {
   lends = v.lends ∙ w.lends;
   never_fails = v.never_fails;
+  counts_windows = v.counts_windows ∙ w.counts_windows;
   is_known = v.is_known;
   ready = v.ready;
   takes = record {
@@ -55,9 +61,9 @@ same_window n old new window after inner w v = record {
 }
 
 -- what was refused in a window of a window was refused in one window
-one_window : (n : ℕ) (inside : ReadRefusal) (old new window after : ReaderState) (e : ReadError) → Windowed n old new window → WindowReadRefused n inside window after e → WindowReadRefused n inside old new e
-one_window n inside old new window after e w (inl p) = absurd (no_piece n old new window after e w p)
-one_window n inside old new window after e w (inr i) = inr (i.0, i.1, same_window n old new window after i.0 w i.2, i.3)
+one_window : (n : ℕ) (inside : ReadRefusal) (old new window after : ReaderState) (e : ReadError) → old.counts_windows ≡ false → Windowed n old new window → WindowReadRefused n inside window after e → WindowReadRefused n inside old new e
+one_window n inside old new window after e u w (inl p) = absurd (all_of_window n old new window after e u w p)
+one_window n inside old new window after e u w (inr i) = inr (i.0, i.1, same_window n old new window after i.0 w i.2, i.3)
 
 -- ---- reading
 
@@ -74,8 +80,8 @@ module _ {old new window : ReaderState} (w : Windowed 41 old new window) where
   pub record_gives : {after : ReaderState} (n : ℕ) (b : Bool) (bytes : List ℕ) → Gives record_read.reads window after (n, (b, map (λ k. k) bytes)) → Gives record_read.reads old new (n, (b, bytes))
   record_gives {after} n b bytes r = window_gives record_read.reads 41 sized old new window after (n, (b, bytes)) w (subst (λ l. Gives record_read.reads window after (n, (b, l))) (map-id bytes) r)
 
-  pub record_refused : {after : ReaderState} (e : ReadError) → SchemaReadRefused record_read window after e → SchemaReadRefused record_read old new e
-  record_refused {after} e r = (window_refuses record_read.reads 41 sized record_read.borrow record_read.takes_no_memory old new window after e w r.0, one_window 41 members_read.refused old new window after e w r.1)
+  pub record_refused : {after : ReaderState} (e : ReadError) → old.counts_windows ≡ false → SchemaReadRefused record_read window after e → SchemaReadRefused record_read old new e
+  record_refused {after} e u r = (window_refuses record_read.reads 41 sized record_read.borrow record_read.takes_no_memory old new window after e w r.0, one_window 41 members_read.refused old new window after e u w r.1)
 
   accepted : IsTrue old.is_known → Front record_read.reads old.rest → Accepts record_read.reads window
   accepted k f =
@@ -90,25 +96,25 @@ module _ {old new window : ReaderState} (w : Windowed 41 old new window) where
       }
 
   -- nothing of a window is refused that begins with a record
-  pub record_read_through : {after : ReaderState} (e : ReadError) → IsTrue old.is_known → Front record_read.reads old.rest → ReadRefused record_read.reads record_read.borrow record_read.takes_no_memory window after e → ⊥
-  record_read_through {after} e k f r = by e r.due where
+  pub record_read_through : {after : ReaderState} (e : ReadError) → old.counts_windows ≡ false → IsTrue old.is_known → Front record_read.reads old.rest → ReadRefused record_read.reads record_read.borrow record_read.takes_no_memory window after e → ⊥
+  record_read_through {after} e u k f r = by e r.due where
     steady : after.never_fails ≡ true
     steady = r.kept.never_fails ∙ w.never_fails
 
     by : (e : ReadError) → ReadDue (Accepts record_read.reads window) record_read.borrow record_read.takes_no_memory after e → ⊥
     by (reading.Io (reader.ReadSizeLimit n)) d = d (accepted k f)
     by (reading.Io reader.UnsupportedZeroCopy) d = let l : after.lends < 0 = d (accepted k f) in absurd (omega arith)
-    by (reading.Io reader.OutOfMemory) d = true≢false (sym steady ∙ d)
+    by (reading.Io reader.OutOfMemory) d = true≢false (sym (steady_inside u w r.kept) ∙ d)
     by (reading.Io (reader.Io x)) d = true≢false (sym steady ∙ d.0)
     by reading.OutOfMemory d = let h : (true && true) ≡ false = subst (λ b. (b && true) ≡ false) steady d in true≢false h
     by _ d = d (accepted k f)
 
 -- a window of a record's size was refused
-pub record_denied : (old new : ReaderState) (e : IoReadError) → PieceReadRefused 41 old new (reading.Io e) → SchemaReadRefused record_read old new (reading.Io e)
-record_denied old new e d = (denied_refuses record_read.reads 41 sized record_read.borrow record_read.takes_no_memory old new (reading.Io e) d, inl d)
+pub record_denied : (old new : ReaderState) (e : IoReadError) → NoWindow 41 old new (reading.Io e) → SchemaReadRefused record_read old new (reading.Io e)
+record_denied old new e d = (window_denied_refuses record_read.reads 41 sized record_read.borrow record_read.takes_no_memory old new (reading.Io e) d, inl d)
 
 -- what serves a call and has a record at its front refuses no window of its size
-pub record_served : (old new : ReadFrom) (e : IoReadError) → BytesReadRefused (IsShort 41 (over_device old)) ⊥ 41 (over_device old) (over_device new) e → AskedReadRefused old.device new.device e
+pub record_served : (old new : ReadFrom) (e : IoReadError) → WindowRefused 41 (over_device old) (over_device new) e → AskedReadRefused old.device new.device e
     → 0 < old.device.sound → Front record_read.reads old.rest → ⊥
 record_served old new (reader.ReadSizeLimit m) d a some f =
     let short : length old.rest < 41 = d.1.0 refl in

@@ -45,7 +45,7 @@ pub record ReadFrom : Type 0 where
 
 -- a reader of these bytes, all of them at hand, over a device
 abbrev pub over_device : ReadFrom → ReaderState
-over_device r = record { rest = r.rest; ready = length r.rest; lends = nothing; never_fails = false; failures = r.device.failures; is_known = true; place = None }
+over_device r = record { rest = r.rest; ready = length r.rest; lends = nothing; never_fails = false; counts_windows = false; failures = r.device.failures; is_known = true; place = None }
 
 -- what a writer over a device has written, and to which slice
 pub record WrittenTo : Type 0 where

@@ -5,3 +5,4 @@ pub mod Events
 pub mod EventLaws
 pub mod Records
 pub mod Faults
+pub mod Pieces

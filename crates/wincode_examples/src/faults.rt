@@ -9,9 +9,11 @@ ghost use Rattle.wincode_examples.specs.Records.{record_size, record_read, recor
 
 mod failing_reader;
 mod failing_writer;
+mod pieces;
 
 pub use failing_reader::FailingReader;
 pub use failing_writer::FailingWriter;
+pub use pieces::Pieces;
 use std::alloc::Global;
 use std::io::{self, ErrorKind};
 use std::marker::Model;

@@ -4,7 +4,7 @@ ghost use Rattle.std.proofs.Common.{ap};
 
 use wincode::io::Writer;
 use wincode::schema::tuples::{
-    size_of_members_2, size_of_members_4, write_members_2, write_members_4,
+    encode_members_2, size_of_members_2, size_of_members_4, write_members_2, write_members_4,
 };
 use wincode::{By, SchemaWrite, Shape, WriteResult};
 
@@ -31,6 +31,10 @@ impl Shape for Account {
 
     fn write_parts<W: Writer>(&self, writer: &mut W) -> WriteResult<()> {
         <[u8; 32] as SchemaWrite>::write::<W>(writer, &self.0)
+    }
+
+    fn encode_parts(&self, dst: &mut [u8]) -> bool {
+        <[u8; 32] as SchemaWrite>::encode(&self.0, dst)
     }
 }
 
@@ -109,6 +113,10 @@ impl Shape for Payment {
 
     fn write_parts<W: Writer>(&self, writer: &mut W) -> WriteResult<()> {
         write_members_2::<By<Account>, u64, W>(writer, &self.to, &self.amount)
+    }
+
+    fn encode_parts(&self, dst: &mut [u8]) -> bool {
+        encode_members_2::<By<Account>, u64>(&self.to, &self.amount, dst)
     }
 }
 

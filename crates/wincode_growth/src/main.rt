@@ -13,8 +13,9 @@ use std::alloc::Global;
 fn all(alloc: Global) -> Result<Ending, Unlike> {
     cases::without::all(alloc)?;
     let reading = cases::reading::all(alloc)?;
+    let streaming = cases::streaming::all(alloc)?;
     let writing = cases::writing::all(alloc)?;
-    Ok(reading.and(writing))
+    Ok(reading.and(streaming).and(writing))
 }
 
 fn main(rt: HostRuntime) -> Result<(), Unlike> {

@@ -4,3 +4,6 @@ pub mod FormSteps
 pub mod EditSteps
 pub mod Chunks
 pub mod Blocks
+pub mod Ranges
+pub mod Refusals
+pub mod Took

@@ -1,8 +1,8 @@
 -- When a reader doesn't refuse.
-use Rattle.std.proofs.Common.{◌≡◌, ℕ, ◌-◌, ◌<◌, ◌≤◌, true, List, ◌++◌, length, take, IsTrue, arith, ◌∙◌, ap, length-append, length-take}
+use Rattle.std.proofs.Common.{◌≡◌, sym, ℕ, ◌-◌, ◌<◌, ◌≤◌, Bool, true, false, true≢false, ◌&&◌, not, refl, List, ◌++◌, length, take, IsTrue, arith, ◌∙◌, ap, length-append, length-take}
 use Rattle.wincode_io.specs.declared.error.ReadError.{ReadError}
 use Rattle.wincode_io.specs.declared.error.ReadError.TheVariants.{ReadSizeLimit, UnsupportedZeroCopy, Io, OutOfMemory}
-use Rattle.wincode_io.specs.Readers.{ReaderState, Stays, Loses, Windowed, IsShort, ReadRefusedFor}
+use Rattle.wincode_io.specs.Readers.{ReaderState, Stays, Loses, Windowed, IsShort, ReadRefusedFor, WindowRefusedFor}
 
 -- a told reader in memory, with n bytes left
 pub record Has (n : ℕ) (s : ReaderState) : Type 0 where
@@ -42,3 +42,16 @@ served m old new (ReadSizeLimit k) has enough stays refusal = let short : length
 served m old new UnsupportedZeroCopy has enough stays refusal = refusal
 served m old new OutOfMemory has enough stays refusal = let kept = stays.kept.never_fails in cc
 served m old new (Io e) has enough stays refusal = let kept = stays.kept.never_fails in let device = refusal.0 in cc
+
+counted_by : (a c : Bool) → a ≡ true → (a && not c) ≡ false → c ≡ true
+counted_by true true e h = refl
+counted_by true false e h = absurd (true≢false h)
+counted_by false c e h = absurd (true≢false (sym e))
+
+-- it refuses a window of m of its bytes only where it counts windows
+pub window_served : (m : ℕ) {n : ℕ} (old new : ReaderState) (e : ReadError) → Has n old → m ≤ n → Stays old new
+    → WindowRefusedFor (IsShort m old) m new e → (new.counts_windows ≡ true) × (e ≡ OutOfMemory)
+window_served m old new (ReadSizeLimit k) has enough stays refusal = let short : length old.rest < m = refusal.0 has.is_known in absurd (omega arith)
+window_served m old new UnsupportedZeroCopy has enough stays refusal = absurd refusal
+window_served m old new OutOfMemory has enough stays refusal = (counted_by new.never_fails new.counts_windows (stays.kept.never_fails ∙ has.never_fails) refusal, refl)
+window_served m old new (Io e) has enough stays refusal = absurd (true≢false (sym (stays.kept.never_fails ∙ has.never_fails) ∙ refusal.0))

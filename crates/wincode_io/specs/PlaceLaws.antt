@@ -1,13 +1,17 @@
 -- The laws of places.
-use Rattle.std.proofs.Common.{◌≡◌, ◌∙◌, sym, ap, ℕ, ◌+◌, ◌-◌, List, ◌++◌, length, take, refl, arith, length-append, length-take, IsTrue, Option, None, Some}
+use Rattle.std.proofs.Common.{◌&&◌, not, false, ◌≡◌, ◌∙◌, sym, ap, ℕ, ◌+◌, ◌-◌, List, ◌++◌, length, take, refl, arith, length-append, length-take, IsTrue, Option, None, Some}
 use Rattle.wincode_io.specs.Places.{Placed, placed, onward}
-use Rattle.wincode_io.specs.Readers.{ReaderState, Kept, Stays, Loses, IsOnward}
+use Rattle.wincode_io.specs.Readers.{ReaderState, Kept, Stays, Loses, IsOnward, is_steady}
 
 pub kept_trans : {a b c : ReaderState} → Kept a b → Kept b c → Kept a c
-kept_trans k l = record { lends = l.lends ∙ k.lends; never_fails = l.never_fails ∙ k.never_fails; is_known = l.is_known ∙ k.is_known }
+kept_trans k l = record { lends = l.lends ∙ k.lends; never_fails = l.never_fails ∙ k.never_fails; counts_windows = l.counts_windows ∙ k.counts_windows; is_known = l.is_known ∙ k.is_known }
 
 pub known_kept : {a b : ReaderState} → Kept a b → IsTrue a.is_known → IsTrue b.is_known
 known_kept k t = rw k.is_known t
+
+-- a reader that may fail is not steady
+pub unsteady : (s : ReaderState) → s.never_fails ≡ false → is_steady s ≡ false
+unsteady s e = ap (λ b. b && not s.counts_windows) e
 
 pub stays_trans : {a b c : ReaderState} → Stays a b → Stays b c → Stays a c
 stays_trans s t = record {

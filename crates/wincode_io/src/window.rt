@@ -1,9 +1,11 @@
 //! Windows: readers of a part of another reader's bytes.
 ghost use Rattle.std.specs.Prelude.{◌≡◌, ◌≤◌, take, drop, length, slice_range};
 
+mod counted;
 mod reading;
 
 use super::lending::Lending;
+pub use counted::CountedSliceReader;
 use std::marker::Model;
 
 /// A window that lends shared bytes: those from a place to an end of its parent's uncut bytes. To
@@ -143,4 +145,6 @@ pub enum ReadWindow<L: Lending> {
     Writing(TrustedSliceReaderZeroCopyMut<L>),
     /// It lends nothing.
     Plain(TrustedSliceReader<L>),
+    /// It lends nothing, and shares its bytes with the reader, which counts those that do.
+    Counted(CountedSliceReader),
 }

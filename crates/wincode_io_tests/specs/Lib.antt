@@ -1,1 +1,2 @@
+pub mod ReaderUses
 pub mod WriterUses

@@ -1,18 +1,20 @@
 //! Readers and their windows.
 ghost use Rattle.std.specs.Prelude.{◌≡◌, if◌then◌else◌, ◌+◌, ◌<◌, ◌≤◌, ◌++◌, false, length, take, IfOk, IfErr, IsTrue};
 ghost use Rattle.wincode_io.specs.Cursors.{inner_of, position_of, reading};
-ghost use Rattle.wincode_io.specs.Readers.{Loses, BytesReadRefused, IsShort};
+ghost use Rattle.wincode_io.specs.Readers.{Loses};
+ghost use Rattle.wincode_io_tests.specs.ReaderUses.{PairsReadRefused};
 
 use wincode_io::{Cursor, Lending, ReadResult, ReadWindow, Reader, copy_into_array};
 
 /// Two pairs of bytes from the next six, through a window of these six, which gives the first pair,
 /// and a window in it of the other four, which gives the second. The last two bytes are read by
 /// nobody, and are gone from the reader too. It is `ReadSizeLimit(6)` where fewer bytes are left, and
-/// then the reader stays where it is.
+/// then the reader stays where it is. A reader that counts its windows may refuse the window in the
+/// window for want of a count, and has then gone on by the six.
 pub fn pairs<L: Lending, R: Reader<L>>(reader: &mut R) -> ReadResult<([u8; 2], [u8; 2])>
     ensures loses { IfOk result (λ v. Loses 6 (R.state reader.old) (R.state reader.new)) }
     ensures value { IfOk result (λ v. IsTrue (R.state reader.old).is_known → v.0 ++ v.1 ≡ take 4 (R.state reader.old).rest) }
-    ensures err { IfErr result (BytesReadRefused (IsShort 6 (R.state reader.old)) ⊥ 6 (R.state reader.old) (R.state reader.new)) }
+    ensures err { IfErr result (PairsReadRefused (R.state reader.old) (R.state reader.new)) }
 {
     let mut outer = reader.as_trusted_for(6)?;
     let mut first = [0; 2];

@@ -1,11 +1,13 @@
 //! How values of a type are read.
-ghost use Rattle.std.specs.Prelude.{◌≡◌};
+ghost use Rattle.std.specs.Prelude.{◌≡◌, ◌++◌, List, length, map, IsTrue};
+ghost use Rattle.wincode_io.specs.Joins.{AreItems};
 ghost use Rattle.wincode_base.specs.Grammar.{ReadGrammar, ReadLaws};
 ghost use Rattle.wincode_base.specs.Lists.{AddOutcome};
 ghost use Rattle.wincode_base.specs.Outcomes.{ReadOutcome, GetOutcome};
 
 mod arrays;
 mod as_forms;
+mod at_hand;
 mod boxes;
 pub mod from_items;
 mod heaps;
@@ -20,6 +22,7 @@ pub mod tags;
 mod tuples;
 mod views;
 
+use crate::schema::at_hand::front_at_hand;
 use std::alloc::Global;
 use wincode_base::error::{ReadError, ReadResult};
 use wincode_base::meta::TypeMeta;
@@ -71,6 +74,14 @@ pub trait SchemaRead<L: Lending> {
         if into.reserve(n).is_err() {
             return Err(ReadError::OutOfMemory);
         }
+        if let Some(bytes) = front_at_hand::<L, R>(reader, n, Self::type_meta()) {
+            let total = bytes.len();
+            if Self::decode_items(bytes, n, into) {
+                reader.consume_unchecked(total);
+                return Ok(());
+            }
+            into.truncate(before);
+        }
         for _i in 0..n {
             let mut item = None;
             if let Err(error) = Self::read(alloc, reader, &mut item) {
@@ -90,6 +101,75 @@ pub trait SchemaRead<L: Lending> {
         Ok(())
     }
 
+    /// Some value to begin with, where the schema decodes values over others. What it is does not matter.
+    #[inline(always)]
+    fn blank() -> Option<Self::Dst> {
+        None
+    }
+
+    /// Puts the value that reads from all of the bytes into the place, and answers whether it did: a
+    /// schema need not, and says nothing of why. Where it did not, any value may be there.
+    #[inline(always)]
+    fn decode(bytes: &[u8], place: &mut Self::Dst) -> bool
+        ensures { IsTrue result → reading.reads bytes.now (model place.new) }
+    {
+        let _ = bytes.len();
+        let _ = &*place;
+        false
+    }
+
+    /// As `decode`, a value for each place, whose encodings stand one after another.
+    #[inline(always)]
+    fn decode_over(bytes: &[u8], places: &mut [Self::Dst]) -> bool
+        ensures { IsTrue result → AreItems (length places.old) reading.reads bytes.now (map model places.new) }
+    {
+        let TypeMeta::Static { size, .. } = Self::type_meta() else {
+            return false;
+        };
+        let mut rest = bytes;
+        for place in places.iter_mut() {
+            if rest.len() < size {
+                return false;
+            }
+            let (front, back) = rest.split_at(size);
+            if !Self::decode(front, place) {
+                return false;
+            }
+            rest = back;
+        }
+        rest.is_empty()
+    }
+
+    /// As `decode_over`, and adds the `n` values to the list; where it answers that it did not, any
+    /// number of values may have been added.
+    #[inline(always)]
+    fn decode_items(bytes: &[u8], n: usize, into: &mut Vec<Self::Dst>) -> bool
+        ensures { (ds : List Self.Dst) × (into.new.items ≡ into.old.items ++ ds) × (IsTrue result → AreItems n reading.reads bytes.now (map model ds)) }
+    {
+        let TypeMeta::Static { size, .. } = Self::type_meta() else {
+            return false;
+        };
+        let mut rest = bytes;
+        for _i in 0..n {
+            let Some(blank) = Self::blank() else {
+                return false;
+            };
+            if rest.len() < size {
+                return false;
+            }
+            let (front, back) = rest.split_at(size);
+            let last = into.len();
+            if into.push(blank).is_err() {
+                return false;
+            }
+            if !Self::decode(front, &mut into[last]) {
+                return false;
+            }
+            rest = back;
+        }
+        rest.is_empty()
+    }
+
     ghost read_laws: { ReadLaws is_valid reading };
 }
 
@@ -103,6 +183,7 @@ pub trait SchemaGet<L: Lending>: SchemaRead<L> {
 }
 
 impl<L: Lending, T: SchemaRead<L>> SchemaGet<L> for T {
+    #[inline]
     fn get<R: Reader<L>>(alloc: Global, reader: &mut R) -> ReadResult<T::Dst> {
         let mut dst = None;
         T::read(alloc, reader, &mut dst)?;

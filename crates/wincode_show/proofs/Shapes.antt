@@ -1,10 +1,12 @@
 -- Recoding, from the laws of the shapes' schemas.
-use Rattle.std.proofs.Common.{◌≡◌, ◌∙◌, sym, ap, subst, ℕ, ◌+◌, ◌*◌, ◌<◌, ◌≤◌, ◌^◌, inl, inr, List, [], ◌∷◌, ◌++◌, length, map, refl, arith, true, false, true≢false, Option, Some, None}
-use Rattle.std.specs.Prelude.{IfSome}
+use Rattle.std.proofs.Common.{◌≡◌, ◌∙◌, sym, ap, subst, ℕ, ◌+◌, ◌*◌, ◌<◌, ◌≤◌, ◌^◌, ◌&&◌, not, inl, inr, List, [], ◌∷◌, ◌++◌, length, map, refl, arith, true, false, true≢false, Option, Some, None}
+use Rattle.std.specs.Prelude.{IfSome, IsTrue}
 use Rattle.std.proofs.KnownBytes.{Keeps-refl}
 use Rattle.wincode_io.specs.Joins.{Each, total}
 use Rattle.wincode_io.specs.NumberLaws.{length-le}
-use Rattle.wincode_io.specs.Readers.{ReaderState, memory, shared}
+use Rattle.wincode_io.specs.Readers.{ReaderState, Kept, memory, shared, is_steady}
+use Rattle.wincode_io.specs.Sources.{SourceState}
+use Rattle.wincode_io.specs.Streams.{streaming}
 use Rattle.wincode_io.specs.ShortNumberLaws.{groups_most}
 use Rattle.wincode_io.specs.declared.error.ReadError.TheVariants as reader
 use Rattle.wincode_base.specs.ArrayLaws.{array_write_laws}
@@ -28,7 +30,7 @@ use Rattle.wincode_base.specs.declared.error.ReadError.{ReadError}
 use Rattle.wincode_base.specs.declared.error.ReadError.TheVariants as reading
 use Rattle.wincode_base.specs.declared.error.WriteError.{WriteError}
 use Rattle.wincode_base.specs.declared.error.WriteError.TheVariants as writing
-use Rattle.wincode_show.specs.Recoding.{Reread, RereadWriteRefused, RereadRefused, IsReadMemory, IsRecodedAs, RecodeAsRefused, IsKept, IsRecoded, RecodeRefused, RelayRefused}
+use Rattle.wincode_show.specs.Recoding.{Reread, RereadWriteRefused, RereadRefused, IsReadMemory, IsReadFault, IsRecodedAs, RecodeAsRefused, RecodeInputRefused, IsKept, IsRecoded, RecodeRefused, RelayRefused, StreamRelayRefused}
 use Rattle.wincode_show.specs.Shapes.{IsKnown, word_of, Value, byte_write, read_of, write_of}
 use Rattle.wincode_show.specs.declared.recoding.RelayError.{RelayError}
 use Rattle.wincode_show.specs.declared.recoding.RelayError.TheVariants as relay
@@ -121,26 +123,45 @@ kept Short model input text h = front_kept Short model input (list_one_text shor
 kept Record model input text h = front_kept Record model input record_one text h
 kept Pairs model input text h = tt
 
--- bytes of which a front reads are refused for want of memory alone
-pub memory_wanted : (shape : KnownShape) (bytes text : List ℕ) (left : ReaderState) (e : ReadError) → length bytes < 2 ^ 64 → IsRecodedAs shape bytes text
-    → ReadRefused (read_of shape).reads (read_of shape).borrow (read_of shape).takes_no_memory (memory shared bytes) left e → IsReadMemory e
-memory_wanted shape bytes text left e small h u = by e u.due where
-  accepted : Accepts (read_of shape).reads (memory shared bytes)
-  accepted = record { is_known = refl; fits = small; front = record { value = h.value; rest = h.rest; found = h.found } }
+-- where a front reads, reading is refused for memory or by the device alone
+read_fault : (shape : KnownShape) (old left : ReaderState) (text : List ℕ) (e : ReadError) → IsTrue old.is_known → length old.rest < 2 ^ 64 → IsRecodedAs shape old.rest text
+    → ReadRefused (read_of shape).reads (read_of shape).borrow (read_of shape).takes_no_memory old left e → IsReadFault left e
+read_fault shape old left text e known small h u = by e u.due where
+  accepted : Accepts (read_of shape).reads old
+  accepted = record { is_known = known; fits = small; front = record { value = h.value; rest = h.rest; found = h.found } }
 
-  by : (e : ReadError) → ReadDue (Accepts (read_of shape).reads (memory shared bytes)) (read_of shape).borrow (read_of shape).takes_no_memory left e → IsReadMemory e
+  by : (e : ReadError) → ReadDue (Accepts (read_of shape).reads old) (read_of shape).borrow (read_of shape).takes_no_memory left e → IsReadFault left e
   by (reading.Io (reader.ReadSizeLimit n)) d = absurd (d accepted)
   by (reading.Io reader.UnsupportedZeroCopy) d = let l : left.lends < (read_of shape).borrow = d accepted in absurd (omega (arith, unlent shape))
-  by (reading.Io reader.OutOfMemory) d = absurd (true≢false (sym u.kept.never_fails ∙ d))
-  by (reading.Io (reader.Io x)) d = absurd (true≢false (sym u.kept.never_fails ∙ d.0))
+  by (reading.Io reader.OutOfMemory) d = d
+  by (reading.Io (reader.Io x)) d = d
   by reading.OutOfMemory d = tt
   by _ d = absurd (d accepted)
 
-pub unrecoded : {X : Type 0} (shape : KnownShape) (model : X → Value shape) (bytes : List ℕ) (e : RelayError) → length bytes < 2 ^ 64
-    → RereadRefused model (read_of shape) model (write_of shape) (memory shared bytes) e → RecodeAsRefused shape bytes e
-unrecoded shape model bytes (relay.Read e) small u = (u, λ text r. memory_wanted shape bytes text u.0 e small r u.1.0)
-unrecoded shape model bytes (relay.Write e) small u = text_wanted shape model bytes e (u refl)
-unrecoded shape model bytes _ small u = absurd u
+pub unrecoded : {X : Type 0} (shape : KnownShape) (model : X → Value shape) (old : ReaderState) (e : RelayError)
+    → RereadRefused model (read_of shape) model (write_of shape) old e → RecodeInputRefused shape old e
+unrecoded shape model old (relay.Read e) u = (u.0, u.1, λ known small text h. read_fault shape old u.0 text e known small h u.1.0)
+unrecoded shape model old (relay.Write e) u = λ known. text_wanted shape model old.rest e (u known)
+unrecoded shape model old _ u = absurd u
+
+-- of bytes in memory, it is memory for a value
+memory_wanted : {bytes : List ℕ} {left : ReaderState} → Kept (memory shared bytes) left → (e : ReadError) → IsReadFault left e → IsReadMemory e
+memory_wanted {bytes} {left} kept = by where
+  steady : is_steady left ≡ true
+  steady = ap (λ b. b && not left.counts_windows) kept.never_fails ∙ ap (λ c. true && not c) kept.counts_windows
+
+  by : (e : ReadError) → IsReadFault left e → IsReadMemory e
+  by reading.OutOfMemory d = tt
+  by (reading.Io (reader.ReadSizeLimit n)) d = absurd d
+  by (reading.Io reader.UnsupportedZeroCopy) d = absurd d
+  by (reading.Io reader.OutOfMemory) d = absurd (true≢false (sym steady ∙ d))
+  by (reading.Io (reader.Io x)) d = absurd (true≢false (sym kept.never_fails ∙ d.0))
+  by _ d = absurd d
+
+pub unrecoded_bytes : (shape : KnownShape) (bytes : List ℕ) (e : RelayError) → length bytes < 2 ^ 64 → RecodeInputRefused shape (memory shared bytes) e → RecodeAsRefused shape bytes e
+unrecoded_bytes shape bytes (relay.Read e) small u = ((u.0, u.1), λ text h. memory_wanted u.1.0.kept e (u.2 refl small text h))
+unrecoded_bytes shape bytes (relay.Write e) small u = u refl
+unrecoded_bytes shape bytes _ small u = absurd u
 
 -- ---- an input and an output
 
@@ -158,3 +179,15 @@ pub unrelayed : (word : List ℕ) (shape : KnownShape) (input left old : Option 
 unrelayed word shape input left old bytes (relay.Read e) known same d = ((shape, known), Keeps-refl old, known_input (λ all. RecodeRefused word all (relay.Read e)) input bytes same (shape, known, d))
 unrelayed word shape input left old bytes (relay.Write e) known same d = ((shape, known), Keeps-refl old, known_input (λ all. RecodeRefused word all (relay.Write e)) input bytes same (shape, known, d))
 unrelayed word shape input left old bytes _ known same d = absurd d
+
+-- ---- a source and an output
+
+stream_refused : (word : List ℕ) (shape : KnownShape) (source : SourceState) (old : Option (List ℕ)) (e : RelayError) → word ≡ word_of shape → RecodeInputRefused shape (streaming [] source) e → StreamRelayRefused word source old old e
+stream_refused word shape source old (relay.Read e) named d = (Keeps-refl old, (shape, named, d))
+stream_refused word shape source old (relay.Write e) named d = (Keeps-refl old, (shape, named, d))
+stream_refused word shape source old _ named d = absurd d
+
+-- of a reader that has all of the source before it
+pub stream_unrelayed : (word : List ℕ) (shape : KnownShape) (source : SourceState) (begins : ReaderState) → begins ≡ streaming [] source → (old : Option (List ℕ)) (e : RelayError) → word ≡ word_of shape → RecodeInputRefused shape begins e
+    → StreamRelayRefused word source old old e
+stream_unrelayed word shape source begins same old e named d = stream_refused word shape source old e named (subst (λ s. RecodeInputRefused shape s e) same d)

@@ -1,13 +1,16 @@
 -- What recoding answers.
-use Rattle.std.specs.Prelude.{⊤, ◌≡◌, ℕ, List, ◌++◌, Option, IfSome, IsTrue}
+use Rattle.std.specs.Prelude.{⊤, ◌≡◌, ℕ, ◌^◌, ◌<◌, false, List, [], ◌++◌, length, Option, IfSome, IsTrue}
 use Rattle.std.specs.Io.KnownBytes.{Keeps, Appends}
 use Rattle.wincode_base.specs.Grammar.{ReadGrammar, WriteGrammar}
-use Rattle.wincode_base.specs.Outcomes.{Found, FrontReadRefused, SerializeRefused}
+use Rattle.wincode_base.specs.Outcomes.{Found, SchemaReadRefused, FrontReadRefused, SerializeRefused}
 use Rattle.wincode_base.specs.declared.error.ReadError.{ReadError}
 use Rattle.wincode_base.specs.declared.error.ReadError.TheVariants as reading
 use Rattle.wincode_base.specs.declared.error.WriteError.{WriteError}
 use Rattle.wincode_base.specs.declared.error.WriteError.TheVariants as writing
-use Rattle.wincode_io.specs.Readers.{ReaderState, memory, shared}
+use Rattle.wincode_io.specs.Readers.{ReaderState, memory, shared, is_steady}
+use Rattle.wincode_io.specs.Sources.{SourceState}
+use Rattle.wincode_io.specs.Streams.{streaming}
+use Rattle.wincode_io.specs.declared.error.ReadError.TheVariants as reader
 use Rattle.wincode_show.specs.Shapes.{IsKnown, word_of, read_of, write_of}
 use Rattle.wincode_show.specs.declared.recoding.RelayError.{RelayError}
 use Rattle.wincode_show.specs.declared.recoding.RelayError.TheVariants as relay
@@ -69,6 +72,20 @@ RecodeAsRefused shape bytes (relay.Read e) = FrontReadRefused (read_of shape) (m
 RecodeAsRefused shape bytes (relay.Write e) = ((text : List ℕ) × IsRecodedAs shape bytes text) × (e ≡ writing.OutOfMemory)
 RecodeAsRefused shape bytes _ = ⊥
 
+-- memory was wanted, for a value or by the reader, or the reader's device failed
+abbrev pub IsReadFault : ReaderState → ReadError → Type 0
+IsReadFault left reading.OutOfMemory = ⊤
+IsReadFault left (reading.Io reader.OutOfMemory) = is_steady left ≡ false
+IsReadFault left (reading.Io (reader.Io e)) = (left.never_fails ≡ false) × (0 < left.failures)
+IsReadFault left _ = ⊥
+
+-- So, of what any reader has: where a front reads, reading it was refused for memory or by the device.
+abbrev pub RecodeInputRefused : KnownShape → ReaderState → RelayError → Type 0
+RecodeInputRefused shape old (relay.Read e) = (left : ReaderState) × SchemaReadRefused (read_of shape) old left e
+    × (IsTrue old.is_known → length old.rest < 2 ^ 64 → (text : List ℕ) → IsRecodedAs shape old.rest text → IsReadFault left e)
+RecodeInputRefused shape old (relay.Write e) = IsTrue old.is_known → ((text : List ℕ) × IsRecodedAs shape old.rest text) × (e ≡ writing.OutOfMemory)
+RecodeInputRefused shape old _ = ⊥
+
 -- ---- a shape's word
 
 -- the word is a shape's, and the encoding is that of the shape's value at the front of the input; but for a map, it is that
@@ -95,6 +112,18 @@ RelayRefused word input left old new (relay.Read e) = IsKnown word × Keeps old 
 RelayRefused word input left old new (relay.Write e) = IsKnown word × Keeps old new × IfSome input (λ bytes. RecodeRefused word bytes (relay.Write e))
 RelayRefused word input left old new (relay.Output e) = IsKnown word × IfSome input (λ bytes. (text : List ℕ) × IsRecoded word bytes text)
 RelayRefused word input left old new relay.OutOfMemory = IsKnown word × Keeps old new
+
+-- what comes of a source was recoded, where it is known, and its encoding and nothing else was written
+abbrev pub IsStreamRelayed : List ℕ → SourceState → Option (List ℕ) → Option (List ℕ) → Type 0
+IsStreamRelayed word source old new = IsKnown word × (IsTrue source.is_known → (text : List ℕ) × IsRecoded word source.coming text × Appends old new text)
+
+-- Why relaying a source was refused, and that but for an output that failed nothing was written.
+abbrev pub StreamRelayRefused : List ℕ → SourceState → Option (List ℕ) → Option (List ℕ) → RelayError → Type 0
+StreamRelayRefused word source old new relay.UnknownShape = (IsKnown word → ⊥) × Keeps old new
+StreamRelayRefused word source old new (relay.Input e) = ⊥
+StreamRelayRefused word source old new (relay.Output e) = IsKnown word × (IsTrue source.is_known → (text : List ℕ) × IsRecoded word source.coming text)
+StreamRelayRefused word source old new relay.OutOfMemory = IsKnown word × Keeps old new
+StreamRelayRefused word source old new e = Keeps old new × ((shape : KnownShape) × (word ≡ word_of shape) × RecodeInputRefused shape (streaming [] source) e)
 
 -- the input failed, or memory was wanted
 abbrev pub GatherRefused : RelayError → Type 0

@@ -1,6 +1,6 @@
 //! Recoding: a value read from bytes and written again.
 ghost use Rattle.std.specs.Prelude.{◌≡◌, IfOk, IfErr, IsTrue, MatchOption};
-ghost use Rattle.wincode_show.specs.Recoding.{Reread, RereadRefused, IsRecodedAs, IsKept, RecodeAsRefused, IsRecoded, RecodeRefused, status_of};
+ghost use Rattle.wincode_show.specs.Recoding.{Reread, RereadRefused, IsRecodedAs, IsKept, RecodeAsRefused, RecodeInputRefused, IsRecoded, RecodeRefused, status_of};
 ghost use Rattle.wincode_show.specs.Shapes.{IsKnown, word_of};
 
 use std::alloc::Global;
@@ -94,20 +94,33 @@ where
     }
 }
 
-/// Reads one value of the shape from the front of the bytes, and forms its encoding again. What follows the
+/// Reads one value of the shape from the front of the input, and forms its encoding again. What follows the
 /// value is never looked at.
+pub fn recode_input<I: Input>(
+    alloc: Global,
+    shape: KnownShape,
+    input: I,
+) -> Result<Vec<u8>, RelayError>
+    ensures ok { IfOk result (λ text. IsTrue (I.begins input).is_known → IsRecodedAs shape (I.begins input).rest text.items) }
+    ensures kept { IfOk result (λ text. IsTrue (I.begins input).is_known → IsKept shape (I.begins input).rest text.items) }
+    ensures err { IfErr result (RecodeInputRefused shape (I.begins input)) }
+{
+    match shape {
+        KnownShape::Nested => recode_by::<I, Vec<Vec<u64>>>(alloc, input),
+        KnownShape::Text => recode_by::<I, String>(alloc, input),
+        KnownShape::Short => recode_by::<I, containers::Vec<u8, ShortU16Len>>(alloc, input),
+        KnownShape::Record => recode_by::<I, (u64, bool, [u8; 32])>(alloc, input),
+        KnownShape::Pairs => recode_by::<I, BTreeMap<u8, u8>>(alloc, input),
+    }
+}
+
+/// As `recode_input`, of bytes in memory.
 pub fn recode_as(alloc: Global, shape: KnownShape, bytes: &[u8]) -> Result<Vec<u8>, RelayError>
     ensures ok { IfOk result (λ text. IsRecodedAs shape bytes.now text.items) }
     ensures kept { IfOk result (λ text. IsKept shape bytes.now text.items) }
     ensures err { IfErr result (RecodeAsRefused shape bytes.now) }
 {
-    match shape {
-        KnownShape::Nested => recode_by::<&[u8], Vec<Vec<u64>>>(alloc, bytes),
-        KnownShape::Text => recode_by::<&[u8], String>(alloc, bytes),
-        KnownShape::Short => recode_by::<&[u8], containers::Vec<u8, ShortU16Len>>(alloc, bytes),
-        KnownShape::Record => recode_by::<&[u8], (u64, bool, [u8; 32])>(alloc, bytes),
-        KnownShape::Pairs => recode_by::<&[u8], BTreeMap<u8, u8>>(alloc, bytes),
-    }
+    recode_input::<&[u8]>(alloc, shape, bytes)
 }
 
 /// Reads one value of the shape that the word names from the front of the bytes, and forms its encoding again.

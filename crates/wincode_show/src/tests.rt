@@ -3,6 +3,7 @@ mod explaining;
 mod program;
 mod relaying;
 mod shapes;
+mod streaming;
 
 use super::relaying::relay;
 use std::test::Fail;

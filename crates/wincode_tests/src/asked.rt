@@ -5,8 +5,8 @@ ghost use Rattle.wincode_io.specs.Readers.{memory, nothing};
 use std::marker::Model;
 use wincode::io::{Lifetime, ReadError, ReadResult, ReadWindow, Reader, TrustedSliceReader};
 
-/// Reads bytes from their front, and keeps how many bytes from the beginning it was asked for at the most. Whoever
-/// asks a pipe for more than a value needs waits for bytes that may not come. It lends nothing.
+/// Reads bytes from their front, and keeps how many bytes from the beginning it was asked for, or gave, at the most.
+/// Whoever asks a pipe for more than a value needs waits for bytes that may not come. It lends nothing.
 #[derive(Drop)]
 pub struct AskedReader<'a> {
     rest: &'a [u8],
@@ -39,7 +39,7 @@ impl<'a> AskedReader<'a> {
         self.rest.len()
     }
 
-    /// How many bytes from the beginning it was asked for at the most.
+    /// How many bytes from the beginning it was asked for, or gave, at the most.
     pub fn furthest(&self) -> usize {
         self.furthest
     }
@@ -60,6 +60,7 @@ impl<'a> Reader<Lifetime<'a>> for AskedReader<'a> {
     fn consume_unchecked(&mut self, n: usize) {
         let all = self.rest;
         self.gone = self.gone.saturating_add(n);
+        self.furthest = self.furthest.max(self.gone);
         self.rest = &all[n..];
     }
 

@@ -38,6 +38,19 @@ pub fn split_lines(alloc: Global, bytes: &[u8]) -> ReadResult<Vec<Line>> {
     Ok(lines)
 }
 
+/// How many bytes the texts of a log have together. The log is read as it comes, a line at a time.
+pub fn total_length<S: Source + Drop>(alloc: Global, source: S) -> ReadResult<u64> {
+    let mut lines = Messages::<S, Line>::new(alloc, source)?;
+    let mut total = 0u64;
+    for _ in 0..u64::MAX {
+        let Some(line) = lines.next() else {
+            break;
+        };
+        total = total.saturating_add(line?.1.len() as u64);
+    }
+    Ok(total)
+}
+
 /// What a file of settings holds: a version, a flag and a name.
 pub type Settings = (u32, bool, String);
 

@@ -1,13 +1,14 @@
 //! How values of a type are written.
-ghost use Rattle.std.specs.Prelude.{◌≡◌, map, IfOk, IfErr};
+ghost use Rattle.std.specs.Prelude.{◌≡◌, map, IfSome, IsTrue, IfOk, IfErr};
 ghost use Rattle.wincode_io.specs.Joins.{Each};
 ghost use Rattle.wincode_base.specs.Grammar.{WriteGrammar, WriteLaws};
 ghost use Rattle.wincode_base.specs.Lists.{items_write};
-ghost use Rattle.wincode_base.specs.Outcomes.{IsSized, SizeRefused, WriteOutcome};
+ghost use Rattle.wincode_base.specs.Outcomes.{IsSized, IsEncoded, SizeRefused, WriteOutcome};
 
 mod arrays;
 mod as_forms;
 mod boxes;
+mod encoded;
 mod heaps;
 mod in_window;
 mod leaves;
@@ -26,7 +27,13 @@ use wincode_base::error::WriteResult;
 use wincode_base::meta::TypeMeta;
 use wincode_io::Writer;
 
+/// The longest encoding, in bytes, that is put together before it is written.
+const LONGEST: usize = 64;
+
 /// Writes the values of a type.
+///
+/// An implementation writes `type_meta`, `size_of` and `write`. The others have bodies. `known_size`, `encode` and
+/// `encode_items` are for speed alone: what they don't do, `size_of` and `write` do.
 pub trait SchemaWrite {
     type Src;
 
@@ -62,12 +69,65 @@ pub trait SchemaWrite {
 
     /// Writes one encoding of each item, one after another. Refused, where all of them can be written, it
     /// has added a beginning of these encodings joined.
+    #[inline]
     fn write_items<W: Writer>(writer: &mut W, items: &[Self::Src]) -> WriteResult<()>
         ensures { WriteOutcome (items_write writing) (W.state writer.old) (W.state writer.new) (map model items.now) (Each is_valid items.now) result }
     {
+        let size = match Self::type_meta() {
+            TypeMeta::Static { size, .. } => size,
+            TypeMeta::Dynamic => usize::MAX,
+        };
+        let mut block = [0; LONGEST];
+        let bytes = &mut block[..size.min(LONGEST)];
         for item in items {
-            Self::write(writer, item)?;
+            if size <= LONGEST && Self::encode(item, bytes) {
+                writer.write(bytes)?;
+            } else {
+                Self::write(writer, item)?;
+            }
         }
         Ok(())
+    }
+
+    /// The size, in bytes, of every encoding of every value, where each value can be written and this is known
+    /// without looking at it.
+    #[inline(always)]
+    fn known_size() -> Option<usize>
+        ensures { IfSome result (λ n. (x : Self.Src) → IsSized writing (model x) n) }
+    {
+        None
+    }
+
+    /// Puts an encoding of the value over all of the bytes, where it has as many; or answers `false`, and may
+    /// have put any bytes there.
+    #[inline(always)]
+    fn encode(src: &Self::Src, dst: &mut [u8]) -> bool
+        ensures { IsTrue result → IsEncoded writing (model src.now) dst.new × is_valid src.now }
+    {
+        let _ = src;
+        let _len = dst.len();
+        false
+    }
+
+    /// Puts an encoding of each item, one after another, over all of the bytes, where they have as many; or
+    /// answers `false`, and may have put any bytes there.
+    #[inline(always)]
+    fn encode_items(items: &[Self::Src], dst: &mut [u8]) -> bool
+        ensures { IsTrue result → IsEncoded (items_write writing) (map model items.now) dst.new × Each is_valid items.now }
+    {
+        let size = match Self::type_meta() {
+            TypeMeta::Static { size, .. } => size,
+            TypeMeta::Dynamic => return false,
+        };
+        if items.len().checked_mul(size) != Some(dst.len()) {
+            return false;
+        }
+        for i in 0..items.len() {
+            let at = i * size;
+            if !Self::encode(&items[i], &mut dst[at..at + size]) {
+                return false;
+            }
+        }
+        true
     }
 }

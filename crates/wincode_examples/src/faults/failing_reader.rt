@@ -1,6 +1,6 @@
 //! A reader whose device fails.
 ghost use Rattle.std.specs.Prelude.{◌≡◌, OnOk, IfOk, IfErr};
-ghost use Rattle.wincode_io.specs.Readers.{Readies, Windowed, IsShort, BytesReadRefused};
+ghost use Rattle.wincode_io.specs.Readers.{Readies, Windowed, WindowRefused, BytesReadRefused};
 ghost use Rattle.wincode_io.specs.Windows.{window_state};
 ghost use Rattle.wincode_examples.specs.Faults.{HasServed, AskedReadRefused, over_device};
 
@@ -76,7 +76,7 @@ impl<'a> Reader<Lifetime<'a>> for FailingReader<'a> {
 
     fn as_trusted_for(&mut self, n: usize) -> ReadResult<ReadWindow<Lifetime<'a>>>
         ensures ok { IfOk result (λ w. Windowed n (over_device self.old) (over_device self.new) (window_state w)) }
-        ensures err { IfErr result (BytesReadRefused (IsShort n (over_device self.old)) ⊥ n (over_device self.old) (over_device self.new)) }
+        ensures err { IfErr result (WindowRefused n (over_device self.old) (over_device self.new)) }
         ensures served { OnOk result (HasServed self.old.device self.new.device) }
         ensures failed { IfErr result (AskedReadRefused self.old.device self.new.device) }
     {

@@ -38,6 +38,20 @@ fn write_blocks<W: Writer, T: ZeroCopy>(writer: &mut W, values: &[T])
     }
 }
 
+/// Writes the forms, of at most 128 bytes in all, for which room was made: they are put together at once.
+fn write_few<W: Writer, T: ZeroCopy>(writer: &mut W, values: &[T], total: usize)
+    requires room { length values.now * T.size ≤ (W.state writer.old).ready }
+    requires total { total ≡ length values.now * T.size }
+    requires few { total ≤ 128 }
+    ensures took { Took (flat_map T.form values.now) (W.state writer.old) (W.state writer.new) }
+    ensures is_valid { All T.is_valid values.now }
+{
+    let mut bytes = [0u8; 128];
+    let forms = &mut bytes[..total];
+    put_forms(values, forms);
+    writer.write_ready(forms);
+}
+
 /// Writes the forms of the values, one after another, all or nothing. Where the room is less it is
 /// `WriteSizeLimit` of the size of all in bytes, or of `usize::MAX` where the size is more.
 pub fn write_forms<W: Writer, T: ZeroCopy>(writer: &mut W, values: &[T]) -> WriteResult<()>
@@ -52,16 +66,21 @@ pub fn write_forms<W: Writer, T: ZeroCopy>(writer: &mut W, values: &[T]) -> Writ
         return Err(WriteError::WriteSizeLimit(usize::MAX));
     };
     writer.make_room(total)?;
-    write_ready_forms(writer, values);
+    write_ready_forms(writer, values, total);
     Ok(())
 }
 
-/// Writes the forms, for which room was made.
-fn write_ready_forms<W: Writer, T: ZeroCopy>(writer: &mut W, values: &[T])
-    requires { length values.now * T.size ≤ (W.state writer.old).ready }
+/// Writes the forms, of so many bytes in all, for which room was made.
+fn write_ready_forms<W: Writer, T: ZeroCopy>(writer: &mut W, values: &[T], total: usize)
+    requires room { length values.now * T.size ≤ (W.state writer.old).ready }
+    requires total { total ≡ length values.now * T.size }
     ensures took { Took (flat_map T.form values.now) (W.state writer.old) (W.state writer.new) }
     ensures is_valid { All T.is_valid values.now }
 {
+    if total <= 128 {
+        write_few(writer, values, total);
+        return;
+    }
     match T::form_size() {
         Some(size) if size <= 16 => write_blocks(writer, values),
         _ => write_each(writer, values),

@@ -1,14 +1,15 @@
 //! Windows as readers.
-ghost use Rattle.wincode_io.specs.Readers.{memory, nothing, shared, for_writing};
+ghost use Rattle.wincode_io.specs.Readers.{memory, counted, nothing, shared, for_writing};
 ghost use Rattle.wincode_io.specs.Windows.{window_state};
 
 use super::super::error::{ReadError, ReadResult};
 use super::super::lending::Lending;
 use super::super::reader::Reader;
 use super::{
-    ReadWindow, TrustedSliceReader, TrustedSliceReaderZeroCopy, TrustedSliceReaderZeroCopyMut,
-    between,
+    CountedSliceReader, ReadWindow, TrustedSliceReader, TrustedSliceReaderZeroCopy,
+    TrustedSliceReaderZeroCopyMut, between,
 };
+use std::sync::Arc;
 
 impl<L: Lending> Reader<L> for TrustedSliceReaderZeroCopy<L> {
     ghost state = { λ w. memory shared w };
@@ -130,6 +131,45 @@ impl<L: Lending> Reader<L> for TrustedSliceReader<L> {
     }
 }
 
+impl<L: Lending> Reader<L> for CountedSliceReader {
+    ghost state = { counted };
+
+    fn fill(&mut self, _n: usize) -> ReadResult<()> {
+        Ok(())
+    }
+
+    fn at_hand(&self) -> &[u8] {
+        let (place, end) = (self.place, self.end);
+        let all = self.all.as_slice();
+        &all[place..end]
+    }
+
+    fn consume_unchecked(&mut self, n: usize) {
+        self.place += n;
+    }
+
+    fn borrow_exact(&mut self, _size: usize) -> ReadResult<L::Bytes> {
+        Err(ReadError::UnsupportedZeroCopy)
+    }
+
+    fn borrow_exact_mut(&mut self, _size: usize) -> ReadResult<L::BytesMut> {
+        Err(ReadError::UnsupportedZeroCopy)
+    }
+
+    fn as_trusted_for(&mut self, n: usize) -> ReadResult<ReadWindow<L>> {
+        let place = self.place;
+        if self.end - place < n {
+            return Err(ReadError::ReadSizeLimit(n));
+        }
+        let Ok(all) = Arc::try_clone(&self.all) else {
+            return Err(ReadError::OutOfMemory);
+        };
+        let end = place + n;
+        self.place = end;
+        Ok(ReadWindow::Counted(CountedSliceReader { all, place, end }))
+    }
+}
+
 impl<L: Lending> Reader<L> for ReadWindow<L> {
     ghost state = { window_state };
 
@@ -142,6 +182,7 @@ impl<L: Lending> Reader<L> for ReadWindow<L> {
             ReadWindow::Shared(w) => w.at_hand(),
             ReadWindow::Writing(w) => w.at_hand(),
             ReadWindow::Plain(w) => w.at_hand(),
+            ReadWindow::Counted(w) => <CountedSliceReader as Reader<L>>::at_hand(w),
         }
     }
 
@@ -150,6 +191,7 @@ impl<L: Lending> Reader<L> for ReadWindow<L> {
             ReadWindow::Shared(w) => w.consume_unchecked(n),
             ReadWindow::Writing(w) => w.consume_unchecked(n),
             ReadWindow::Plain(w) => w.consume_unchecked(n),
+            ReadWindow::Counted(w) => <CountedSliceReader as Reader<L>>::consume_unchecked(w, n),
         }
     }
 
@@ -158,6 +200,7 @@ impl<L: Lending> Reader<L> for ReadWindow<L> {
             ReadWindow::Shared(w) => w.borrow_exact(n),
             ReadWindow::Writing(w) => w.borrow_exact(n),
             ReadWindow::Plain(w) => w.borrow_exact(n),
+            ReadWindow::Counted(w) => <CountedSliceReader as Reader<L>>::borrow_exact(w, n),
         }
     }
 
@@ -166,6 +209,7 @@ impl<L: Lending> Reader<L> for ReadWindow<L> {
             ReadWindow::Shared(w) => w.borrow_exact_mut(n),
             ReadWindow::Writing(w) => w.borrow_exact_mut(n),
             ReadWindow::Plain(w) => w.borrow_exact_mut(n),
+            ReadWindow::Counted(w) => <CountedSliceReader as Reader<L>>::borrow_exact_mut(w, n),
         }
     }
 
@@ -174,6 +218,7 @@ impl<L: Lending> Reader<L> for ReadWindow<L> {
             ReadWindow::Shared(w) => w.as_trusted_for(n),
             ReadWindow::Writing(w) => w.as_trusted_for(n),
             ReadWindow::Plain(w) => w.as_trusted_for(n),
+            ReadWindow::Counted(w) => <CountedSliceReader as Reader<L>>::as_trusted_for(w, n),
         }
     }
 }

@@ -63,6 +63,28 @@ fn read_array<L: Lending, T: SchemaRead<L>, R: Reader<L>, const N: usize>(
     result
 }
 
+/// There is no value to begin with.
+#[derive(Drop)]
+struct NoBlank;
+
+/// Values to begin with, one after another.
+#[derive(Drop)]
+struct Blanks<L, T> {
+    of: PhantomData<(L, T)>,
+}
+
+impl<L: Lending, T: SchemaRead<L>> ItemSource<T::Dst, NoBlank> for Blanks<L, T> {
+    ghost gives = { λ s r t. Unit {0} };
+
+    #[inline(always)]
+    fn next(&mut self) -> Result<T::Dst, NoBlank> {
+        match T::blank() {
+            Some(value) => Ok(value),
+            None => Err(NoBlank),
+        }
+    }
+}
+
 impl<L: Lending, T: SchemaRead<L>, const N: usize> SchemaRead<L> for Items<T, N> {
     type Dst = [T::Dst; N];
 
@@ -88,6 +110,19 @@ impl<L: Lending, T: SchemaRead<L>, const N: usize> SchemaRead<L> for Items<T, N>
         dst: &mut Option<[T::Dst; N]>,
     ) -> ReadResult<()> {
         read_array::<L, T, R, N>(alloc, reader, dst)
+    }
+
+    #[inline(always)]
+    fn blank() -> Option<[T::Dst; N]> {
+        let mut places = None;
+        let mut blanks = Sourced::new(Blanks::<L, T> { of: PhantomData });
+        let _ = blanks.fill(&mut places);
+        places
+    }
+
+    #[inline(always)]
+    fn decode(bytes: &[u8], place: &mut [T::Dst; N]) -> bool {
+        T::decode_over(bytes, place.as_mut_slice())
     }
 
     ghost read_laws = { array_read_laws N T.is_valid T.reading T.read_laws };
@@ -127,6 +162,26 @@ impl<L: Lending, T: SchemaRead<L>, const N: usize> SchemaRead<L> for [T; N] {
         into: &mut Vec<[T::Dst; N]>,
     ) -> ReadResult<()> {
         <Items<T, N> as SchemaRead<L>>::read_items::<R>(alloc, reader, n, into)
+    }
+
+    #[inline(always)]
+    fn blank() -> Option<[T::Dst; N]> {
+        <Items<T, N> as SchemaRead<L>>::blank()
+    }
+
+    #[inline(always)]
+    fn decode(bytes: &[u8], place: &mut [T::Dst; N]) -> bool {
+        <Items<T, N> as SchemaRead<L>>::decode(bytes, place)
+    }
+
+    #[inline(always)]
+    fn decode_over(bytes: &[u8], places: &mut [[T::Dst; N]]) -> bool {
+        <Items<T, N> as SchemaRead<L>>::decode_over(bytes, places)
+    }
+
+    #[inline(always)]
+    fn decode_items(bytes: &[u8], n: usize, into: &mut Vec<[T::Dst; N]>) -> bool {
+        <Items<T, N> as SchemaRead<L>>::decode_items(bytes, n, into)
     }
 
     ghost read_laws = { windowed_read_laws (array_read_laws N T.is_valid T.reading T.read_laws) };

@@ -1,12 +1,12 @@
-//! Many values at once, as their byte forms.
-ghost use Rattle.std.specs.Prelude.{◌≡◌, ◌*◌, false, IfErr, OnOk, OnErr};
+//! Values as their byte forms, one or many at once.
+ghost use Rattle.std.specs.Prelude.{◌≡◌, ◌*◌, false, IsTrue, IfErr, OnOk, OnErr};
 ghost use Rattle.wincode_io.specs.Joins.{AreItems};
 ghost use Rattle.wincode_base.specs.AsForms.{reads_form, BulkReadRefused};
 ghost use Rattle.wincode_base.specs.Outcomes.{Adds, ReadRefused};
 
 use wincode_base::error::{ReadError, ReadResult, read_length_encoding_overflow};
 use wincode_io::bulk::add_forms;
-use wincode_io::{Lending, Reader, ZeroCopy, total_size};
+use wincode_io::{Lending, Reader, ZeroCopy, see_bytes, total_size};
 
 /// Reads `n` forms at once, and adds their values to the list. Where fewer bytes are left it is
 /// `ReadSizeLimit` of the size of all, in bytes; `LengthEncodingOverflow` where that is past
@@ -32,4 +32,19 @@ pub(crate) fn read_all<L: Lending, R: Reader<L>, T: ZeroCopy>(
     }
     reader.consume_unchecked(total);
     Ok(())
+}
+
+/// Puts the value of the form that the bytes are into the place, where they are as many as a form has.
+#[inline(always)]
+pub(crate) fn decode_form<T: ZeroCopy>(bytes: &[u8], place: &mut T) -> bool
+    ensures { IsTrue result → reads_form T.is_valid T.form bytes.now place.new }
+{
+    match T::form_size() {
+        Some(size) if size == bytes.len() => {
+            see_bytes(bytes);
+            *place = T::of_form(bytes);
+            true
+        }
+        _ => false,
+    }
 }

@@ -172,6 +172,7 @@ impl<L: Lending, A: Eq + Hash + Drop, T: SchemaRead<L, Dst = A>> FromItems<L, T>
 }
 
 /// Reads `n` items of this size, through one window of all of them where it is known.
+#[inline]
 fn get_run<C: FromItems<L, T>, L: Lending, T: SchemaRead<L>, R: Reader<L>>(
     alloc: Global,
     reader: &mut R,
@@ -195,6 +196,7 @@ fn get_run<C: FromItems<L, T>, L: Lending, T: SchemaRead<L>, R: Reader<L>>(
 
 /// Reads a list behind its length, of items of this size. Where the size is known, one window of all
 /// items is taken before memory for them is asked for.
+#[inline]
 pub(crate) fn get_list_of<
     C: FromItems<L, T>,
     Len: SeqLen,
@@ -210,6 +212,7 @@ pub(crate) fn get_list_of<
 }
 
 /// Reads a list behind its length.
+#[inline]
 pub fn get_list<C: FromItems<L, T>, Len: SeqLen, L: Lending, T: SchemaRead<L>, R: Reader<L>>(
     alloc: Global,
     reader: &mut R,

@@ -7,7 +7,7 @@ ghost use Rattle.wincode_base.specs.LeafLaws.{bool_read_laws, unit_read_laws, nu
 ghost use Rattle.wincode_base.specs.Leaves.{number_read, signed_read, bool_read, unit_read};
 
 use crate::schema::SchemaRead;
-use crate::schema::as_forms::read_all;
+use crate::schema::as_forms::{decode_form, read_all};
 use std::alloc::Global;
 use std::marker::PhantomData;
 use wincode_base::error::{ReadError, ReadResult, invalid_bool_encoding};
@@ -61,6 +61,25 @@ impl<L: Lending> SchemaRead<L> for u8 {
         Ok(())
     }
 
+    #[inline(always)]
+    fn blank() -> Option<u8> {
+        Some(0)
+    }
+
+    #[inline(always)]
+    fn decode(bytes: &[u8], place: &mut u8) -> bool {
+        decode_form(bytes, place)
+    }
+
+    #[inline(always)]
+    fn decode_over(bytes: &[u8], places: &mut [u8]) -> bool {
+        if bytes.len() != places.len() {
+            return false;
+        }
+        places.copy_from_slice(bytes);
+        true
+    }
+
     ghost read_laws = { number_read_laws 1 true (lit≤ tt) };
 }
 
@@ -103,6 +122,16 @@ impl<L: Lending> SchemaRead<L> for u16 {
         ensures { ReadAtOnce 2 n (number_read 2 true) (λ v. v) (R.state reader.old) (R.state reader.new) into.old.items into.new.items result }
     {
         read_all::<L, R, u16>(reader, n, into)
+    }
+
+    #[inline(always)]
+    fn blank() -> Option<u16> {
+        Some(0)
+    }
+
+    #[inline(always)]
+    fn decode(bytes: &[u8], place: &mut u16) -> bool {
+        decode_form(bytes, place)
     }
 
     ghost read_laws = { number_read_laws 2 true (lit≤ tt) };
@@ -149,6 +178,16 @@ impl<L: Lending> SchemaRead<L> for u32 {
         read_all::<L, R, u32>(reader, n, into)
     }
 
+    #[inline(always)]
+    fn blank() -> Option<u32> {
+        Some(0)
+    }
+
+    #[inline(always)]
+    fn decode(bytes: &[u8], place: &mut u32) -> bool {
+        decode_form(bytes, place)
+    }
+
     ghost read_laws = { number_read_laws 4 true (lit≤ tt) };
 }
 
@@ -191,6 +230,16 @@ impl<L: Lending> SchemaRead<L> for u64 {
         ensures { ReadAtOnce 8 n (number_read 8 true) (λ v. v) (R.state reader.old) (R.state reader.new) into.old.items into.new.items result }
     {
         read_all::<L, R, u64>(reader, n, into)
+    }
+
+    #[inline(always)]
+    fn blank() -> Option<u64> {
+        Some(0)
+    }
+
+    #[inline(always)]
+    fn decode(bytes: &[u8], place: &mut u64) -> bool {
+        decode_form(bytes, place)
     }
 
     ghost read_laws = { number_read_laws 8 true (lit≤ tt) };
@@ -241,6 +290,16 @@ impl<L: Lending> SchemaRead<L> for u128 {
         read_all::<L, R, u128>(reader, n, into)
     }
 
+    #[inline(always)]
+    fn blank() -> Option<u128> {
+        Some(0)
+    }
+
+    #[inline(always)]
+    fn decode(bytes: &[u8], place: &mut u128) -> bool {
+        decode_form(bytes, place)
+    }
+
     ghost read_laws = { number_read_laws 16 true (lit≤ tt) };
 }
 
@@ -274,6 +333,21 @@ impl<L: Lending> SchemaRead<L> for usize {
         let bytes = take_array::<L, R, 8>(reader)?;
         *dst = Some(usize::from_le_bytes(bytes));
         Ok(())
+    }
+
+    #[inline(always)]
+    fn blank() -> Option<usize> {
+        Some(0)
+    }
+
+    #[inline(always)]
+    fn decode(bytes: &[u8], place: &mut usize) -> bool {
+        let mut number = 0u64;
+        if !decode_form(bytes, &mut number) {
+            return false;
+        }
+        *place = number as usize;
+        true
     }
 
     ghost read_laws = { number_read_laws 8 false (lit≤ tt) };
@@ -320,6 +394,16 @@ impl<L: Lending> SchemaRead<L> for i8 {
         read_all::<L, R, i8>(reader, n, into)
     }
 
+    #[inline(always)]
+    fn blank() -> Option<i8> {
+        Some(0)
+    }
+
+    #[inline(always)]
+    fn decode(bytes: &[u8], place: &mut i8) -> bool {
+        decode_form(bytes, place)
+    }
+
     ghost read_laws = { signed_read_laws w8 refl true (lit≤ tt) };
 }
 
@@ -362,6 +446,16 @@ impl<L: Lending> SchemaRead<L> for i16 {
         ensures { ReadAtOnce 2 n (signed_read w16 true) (λ v. v) (R.state reader.old) (R.state reader.new) into.old.items into.new.items result }
     {
         read_all::<L, R, i16>(reader, n, into)
+    }
+
+    #[inline(always)]
+    fn blank() -> Option<i16> {
+        Some(0)
+    }
+
+    #[inline(always)]
+    fn decode(bytes: &[u8], place: &mut i16) -> bool {
+        decode_form(bytes, place)
     }
 
     ghost read_laws = { signed_read_laws w16 refl true (lit≤ tt) };
@@ -408,6 +502,16 @@ impl<L: Lending> SchemaRead<L> for i32 {
         read_all::<L, R, i32>(reader, n, into)
     }
 
+    #[inline(always)]
+    fn blank() -> Option<i32> {
+        Some(0)
+    }
+
+    #[inline(always)]
+    fn decode(bytes: &[u8], place: &mut i32) -> bool {
+        decode_form(bytes, place)
+    }
+
     ghost read_laws = { signed_read_laws w32 refl true (lit≤ tt) };
 }
 
@@ -450,6 +554,16 @@ impl<L: Lending> SchemaRead<L> for i64 {
         ensures { ReadAtOnce 8 n (signed_read w64 true) (λ v. v) (R.state reader.old) (R.state reader.new) into.old.items into.new.items result }
     {
         read_all::<L, R, i64>(reader, n, into)
+    }
+
+    #[inline(always)]
+    fn blank() -> Option<i64> {
+        Some(0)
+    }
+
+    #[inline(always)]
+    fn decode(bytes: &[u8], place: &mut i64) -> bool {
+        decode_form(bytes, place)
     }
 
     ghost read_laws = { signed_read_laws w64 refl true (lit≤ tt) };
@@ -500,6 +614,16 @@ impl<L: Lending> SchemaRead<L> for i128 {
         read_all::<L, R, i128>(reader, n, into)
     }
 
+    #[inline(always)]
+    fn blank() -> Option<i128> {
+        Some(0)
+    }
+
+    #[inline(always)]
+    fn decode(bytes: &[u8], place: &mut i128) -> bool {
+        decode_form(bytes, place)
+    }
+
     ghost read_laws = { signed_read_laws w128 refl true (lit≤ tt) };
 }
 
@@ -533,6 +657,21 @@ impl<L: Lending> SchemaRead<L> for isize {
         let bytes = take_array::<L, R, 8>(reader)?;
         *dst = Some(isize::from_le_bytes(bytes));
         Ok(())
+    }
+
+    #[inline(always)]
+    fn blank() -> Option<isize> {
+        Some(0)
+    }
+
+    #[inline(always)]
+    fn decode(bytes: &[u8], place: &mut isize) -> bool {
+        let mut number = 0i64;
+        if !decode_form(bytes, &mut number) {
+            return false;
+        }
+        *place = number as isize;
+        true
     }
 
     ghost read_laws = { signed_read_laws w64 refl false (lit≤ tt) };
@@ -575,6 +714,21 @@ impl<L: Lending> SchemaRead<L> for bool {
         Ok(())
     }
 
+    #[inline(always)]
+    fn blank() -> Option<bool> {
+        Some(false)
+    }
+
+    #[inline(always)]
+    fn decode(bytes: &[u8], place: &mut bool) -> bool {
+        if bytes.len() != 1 {
+            return false;
+        }
+        let byte = bytes[0];
+        *place = byte == 1;
+        byte <= 1
+    }
+
     ghost read_laws = { bool_read_laws };
 }
 
@@ -604,6 +758,16 @@ impl<L: Lending> SchemaRead<L> for () {
     fn read<R: Reader<L>>(_alloc: Global, _reader: &mut R, dst: &mut Option<()>) -> ReadResult<()> {
         *dst = Some(());
         Ok(())
+    }
+
+    #[inline(always)]
+    fn blank() -> Option<()> {
+        Some(())
+    }
+
+    #[inline(always)]
+    fn decode(bytes: &[u8], _place: &mut ()) -> bool {
+        bytes.is_empty()
     }
 
     ghost read_laws = { unit_read_laws };
@@ -639,6 +803,16 @@ impl<L: Lending, T> SchemaRead<L> for PhantomData<T> {
     ) -> ReadResult<()> {
         *dst = Some(PhantomData);
         Ok(())
+    }
+
+    #[inline(always)]
+    fn blank() -> Option<PhantomData<T>> {
+        Some(PhantomData)
+    }
+
+    #[inline(always)]
+    fn decode(bytes: &[u8], _place: &mut PhantomData<T>) -> bool {
+        bytes.is_empty()
     }
 
     ghost read_laws = { unit_read_laws };

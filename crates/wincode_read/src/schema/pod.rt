@@ -6,7 +6,7 @@ ghost use Rattle.wincode_base.specs.ViewLaws.{form_prealloc_some, form_read_laws
 ghost use Rattle.wincode_base.specs.Views.{form_prealloc, pod_read};
 
 use crate::schema::SchemaRead;
-use crate::schema::as_forms::read_all;
+use crate::schema::as_forms::{decode_form, read_all};
 use std::alloc::Global;
 use wincode_base::error::{ReadResult, read_length_encoding_overflow};
 use wincode_base::meta::TypeMeta;
@@ -71,6 +71,20 @@ impl<L: Lending, T: ZeroCopy> SchemaRead<L> for Pod<T> {
             None if n == 0 => Ok(()),
             None => Err(read_length_encoding_overflow("usize::MAX")),
         }
+    }
+
+    /// That of zeros, where a form has at most 64 bytes.
+    #[inline(always)]
+    fn blank() -> Option<T> {
+        match T::form_size() {
+            Some(size) if size <= 64 => Some(T::of_form(&[0u8; 64][..size])),
+            _ => None,
+        }
+    }
+
+    #[inline(always)]
+    fn decode(bytes: &[u8], place: &mut T) -> bool {
+        decode_form(bytes, place)
     }
 
     ghost read_laws = { form_read_laws T.byte_form true (form_prealloc T.size) 0 (form_prealloc_some T.size) };

@@ -80,6 +80,7 @@ impl<L: Lending> SchemaRead<L> for char {
 
 /// A copy of the next `n` bytes, which stay and are at hand. Too few are refused before memory is
 /// asked for.
+#[inline(always)]
 fn copy_bytes<L: Lending, R: Reader<L>>(
     alloc: Global,
     reader: &mut R,
@@ -96,6 +97,7 @@ fn copy_bytes<L: Lending, R: Reader<L>>(
 }
 
 /// The text of the next `n` bytes, which are then gone.
+#[inline(always)]
 fn take_text<L: Lending, R: Reader<L>>(
     alloc: Global,
     reader: &mut R,
@@ -112,6 +114,7 @@ fn take_text<L: Lending, R: Reader<L>>(
 }
 
 /// A text behind its length.
+#[inline(always)]
 fn get_text<L: Lending, R: Reader<L>>(alloc: Global, reader: &mut R) -> ReadResult<String>
     ensures { GetOutcome (str_read 24 0 false) (λ s. string_bytes s) (R.state reader.old) (R.state reader.new) result }
 {

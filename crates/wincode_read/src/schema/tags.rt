@@ -1,12 +1,14 @@
 //! Schemas of a tag and then what it names.
 ghost use Rattle.std.proofs.Common.{lit≤};
 ghost use Rattle.std.specs.Option.{option_map};
-ghost use Rattle.std.specs.Prelude.{Option, Result};
+ghost use Rattle.std.specs.Prelude.{Option, Result, IsTrue};
 ghost use Rattle.std.specs.Result.{result_map_both};
 ghost use Rattle.wincode_base.specs.Outcomes.{GetOutcome};
 ghost use Rattle.wincode_base.specs.TagLaws.{option_read_laws, result_read_laws};
 ghost use Rattle.wincode_base.specs.Tags.{option_read, IfPart, result_read, IfSide};
 
+use crate::schema::as_forms::decode_form;
+use crate::schema::at_hand::decoded;
 use crate::schema::{SchemaGet, SchemaRead};
 use std::alloc::Global;
 use wincode_base::error::{ReadResult, invalid_tag_encoding};
@@ -51,6 +53,41 @@ pub fn get_result<Tag: TagCode, L: Lending, T: SchemaRead<L>, E: SchemaRead<L>, 
             Ok(Err(error))
         }
         _ => Err(invalid_tag_encoding(side)),
+    }
+}
+
+/// Puts the side that the number in front names into the place, where its bytes are all that stand behind.
+#[inline(always)]
+fn decode_result<L: Lending, T: SchemaRead<L>, E: SchemaRead<L>>(
+    bytes: &[u8],
+    place: &mut Result<T::Dst, E::Dst>,
+) -> bool
+    ensures { IsTrue result → (result_read 4 T.reading E.reading).reads bytes.now (result_map_both T.model E.model place.new) }
+{
+    if bytes.len() < 4 {
+        return false;
+    }
+    let (front, back) = bytes.split_at(4);
+    let mut side = 0u32;
+    if !decode_form(front, &mut side) {
+        return false;
+    }
+    match side {
+        0 => {
+            let Some(value) = decoded::<L, T>(back) else {
+                return false;
+            };
+            *place = Ok(value);
+            true
+        }
+        1 => {
+            let Some(error) = decoded::<L, E>(back) else {
+                return false;
+            };
+            *place = Err(error);
+            true
+        }
+        _ => false,
     }
 }
 
@@ -115,6 +152,17 @@ impl<L: Lending, T: SchemaRead<L>, E: SchemaRead<L>> SchemaRead<L> for Result<T,
     ) -> ReadResult<()> {
         *dst = Some(get_result::<u32, L, T, E, R>(alloc, reader)?);
         Ok(())
+    }
+
+    #[inline(always)]
+    fn blank() -> Option<Result<T::Dst, E::Dst>> {
+        let value = T::blank()?;
+        Some(Ok(value))
+    }
+
+    #[inline(always)]
+    fn decode(bytes: &[u8], place: &mut Result<T::Dst, E::Dst>) -> bool {
+        decode_result::<L, T, E>(bytes, place)
     }
 
     ghost read_laws = { result_read_laws 4 (lit≤ tt) T.is_valid E.is_valid T.reading E.reading T.read_laws E.read_laws };

@@ -3,7 +3,7 @@
 //! Where all members have one size, the tuple is read through one window of the sum, in bytes: fewer bytes are
 //! `Io(ReadSizeLimit)` of the sum, and stay; where a member is refused, the bytes of the whole tuple are gone.
 //! Other tuples go member by member, and a refusal leaves what is behind the members before it.
-ghost use Rattle.std.specs.Prelude.{◌≡◌};
+ghost use Rattle.std.specs.Prelude.{◌≡◌, IsTrue};
 ghost use Rattle.wincode_base.specs.InWindow.{windowed_read};
 ghost use Rattle.wincode_base.specs.Outcomes.{ReadOutcome};
 ghost use Rattle.wincode_base.specs.PairLaws.{pair_read_laws, windowed_read_laws};
@@ -31,6 +31,7 @@ trait FromPairs<P> {
 }
 
 /// As `read_in_window`, for what is made of what `T` reads.
+#[inline]
 fn read_pairs<L: Lending, T: SchemaRead<L>, D: FromPairs<T::Dst> + Drop, R: Reader<L>>(
     alloc: Global,
     reader: &mut R,
@@ -40,6 +41,201 @@ fn read_pairs<L: Lending, T: SchemaRead<L>, D: FromPairs<T::Dst> + Drop, R: Read
 {
     *dst = Some(D::from_pairs(get_in_window::<L, T, R>(alloc, reader)?));
     Ok(())
+}
+
+/// A value to begin with, of the members'.
+#[inline(always)]
+fn blank_pairs<L: Lending, T: SchemaRead<L>, D: FromPairs<T::Dst>>() -> Option<D> {
+    let pairs = T::blank()?;
+    Some(D::from_pairs(pairs))
+}
+
+/// Puts the values of 2 members that stand one after another over those in the places, where these bytes are all of
+/// them.
+#[inline(always)]
+fn decode_2<L: Lending, A: SchemaRead<L>, B: SchemaRead<L>>(
+    bytes: &[u8],
+    a: &mut A::Dst,
+    b: &mut B::Dst,
+) -> bool
+    ensures { IsTrue result → ⟦<Members2<A, B> as SchemaRead<L>>⟧.reading.reads bytes.now (A.model a.new, B.model b.new) }
+{
+    match A::type_meta() {
+        TypeMeta::Static { size, .. } if size <= bytes.len() => {
+            let (front, back) = bytes.split_at(size);
+            A::decode(front, a) && B::decode(back, b)
+        }
+        _ => false,
+    }
+}
+
+/// Puts the values of 3 members that stand one after another over those in the places, where these bytes are all of
+/// them.
+#[inline(always)]
+fn decode_3<L: Lending, A: SchemaRead<L>, B: SchemaRead<L>, C: SchemaRead<L>>(
+    bytes: &[u8],
+    a: &mut A::Dst,
+    b: &mut B::Dst,
+    c: &mut C::Dst,
+) -> bool
+    ensures { IsTrue result → ⟦<Members3<A, B, C> as SchemaRead<L>>⟧.reading.reads bytes.now (A.model a.new, (B.model b.new, C.model c.new)) }
+{
+    match A::type_meta() {
+        TypeMeta::Static { size, .. } if size <= bytes.len() => {
+            let (front, back) = bytes.split_at(size);
+            A::decode(front, a) && decode_2::<L, B, C>(back, b, c)
+        }
+        _ => false,
+    }
+}
+
+/// Puts the values of 4 members that stand one after another over those in the places, where these bytes are all of
+/// them.
+#[inline(always)]
+fn decode_4<L: Lending, A: SchemaRead<L>, B: SchemaRead<L>, C: SchemaRead<L>, D: SchemaRead<L>>(
+    bytes: &[u8],
+    a: &mut A::Dst,
+    b: &mut B::Dst,
+    c: &mut C::Dst,
+    d: &mut D::Dst,
+) -> bool
+    ensures { IsTrue result → ⟦<Members4<A, B, C, D> as SchemaRead<L>>⟧.reading.reads bytes.now (A.model a.new, (B.model b.new, (C.model c.new, D.model d.new))) }
+{
+    match A::type_meta() {
+        TypeMeta::Static { size, .. } if size <= bytes.len() => {
+            let (front, back) = bytes.split_at(size);
+            A::decode(front, a) && decode_3::<L, B, C, D>(back, b, c, d)
+        }
+        _ => false,
+    }
+}
+
+/// Puts the values of 5 members that stand one after another over those in the places, where these bytes are all of
+/// them.
+#[inline(always)]
+fn decode_5<
+    L: Lending,
+    A: SchemaRead<L>,
+    B: SchemaRead<L>,
+    C: SchemaRead<L>,
+    D: SchemaRead<L>,
+    E: SchemaRead<L>,
+>(
+    bytes: &[u8],
+    a: &mut A::Dst,
+    b: &mut B::Dst,
+    c: &mut C::Dst,
+    d: &mut D::Dst,
+    e: &mut E::Dst,
+) -> bool
+    ensures { IsTrue result → ⟦<Members5<A, B, C, D, E> as SchemaRead<L>>⟧.reading.reads bytes.now (A.model a.new, (B.model b.new, (C.model c.new, (D.model d.new, E.model e.new)))) }
+{
+    match A::type_meta() {
+        TypeMeta::Static { size, .. } if size <= bytes.len() => {
+            let (front, back) = bytes.split_at(size);
+            A::decode(front, a) && decode_4::<L, B, C, D, E>(back, b, c, d, e)
+        }
+        _ => false,
+    }
+}
+
+/// Puts the values of 6 members that stand one after another over those in the places, where these bytes are all of
+/// them.
+#[inline(always)]
+fn decode_6<
+    L: Lending,
+    A: SchemaRead<L>,
+    B: SchemaRead<L>,
+    C: SchemaRead<L>,
+    D: SchemaRead<L>,
+    E: SchemaRead<L>,
+    F: SchemaRead<L>,
+>(
+    bytes: &[u8],
+    a: &mut A::Dst,
+    b: &mut B::Dst,
+    c: &mut C::Dst,
+    d: &mut D::Dst,
+    e: &mut E::Dst,
+    f: &mut F::Dst,
+) -> bool
+    ensures { IsTrue result → ⟦<Members6<A, B, C, D, E, F> as SchemaRead<L>>⟧.reading.reads bytes.now (A.model a.new, (B.model b.new, (C.model c.new, (D.model d.new, (E.model e.new, F.model f.new))))) }
+{
+    match A::type_meta() {
+        TypeMeta::Static { size, .. } if size <= bytes.len() => {
+            let (front, back) = bytes.split_at(size);
+            A::decode(front, a) && decode_5::<L, B, C, D, E, F>(back, b, c, d, e, f)
+        }
+        _ => false,
+    }
+}
+
+/// Puts the values of 7 members that stand one after another over those in the places, where these bytes are all of
+/// them.
+#[inline(always)]
+fn decode_7<
+    L: Lending,
+    A: SchemaRead<L>,
+    B: SchemaRead<L>,
+    C: SchemaRead<L>,
+    D: SchemaRead<L>,
+    E: SchemaRead<L>,
+    F: SchemaRead<L>,
+    G: SchemaRead<L>,
+>(
+    bytes: &[u8],
+    a: &mut A::Dst,
+    b: &mut B::Dst,
+    c: &mut C::Dst,
+    d: &mut D::Dst,
+    e: &mut E::Dst,
+    f: &mut F::Dst,
+    g: &mut G::Dst,
+) -> bool
+    ensures { IsTrue result → ⟦<Members7<A, B, C, D, E, F, G> as SchemaRead<L>>⟧.reading.reads bytes.now (A.model a.new, (B.model b.new, (C.model c.new, (D.model d.new, (E.model e.new, (F.model f.new, G.model g.new)))))) }
+{
+    match A::type_meta() {
+        TypeMeta::Static { size, .. } if size <= bytes.len() => {
+            let (front, back) = bytes.split_at(size);
+            A::decode(front, a) && decode_6::<L, B, C, D, E, F, G>(back, b, c, d, e, f, g)
+        }
+        _ => false,
+    }
+}
+
+/// Puts the values of 8 members that stand one after another over those in the places, where these bytes are all of
+/// them.
+#[inline(always)]
+pub(crate) fn decode_8<
+    L: Lending,
+    A: SchemaRead<L>,
+    B: SchemaRead<L>,
+    C: SchemaRead<L>,
+    D: SchemaRead<L>,
+    E: SchemaRead<L>,
+    F: SchemaRead<L>,
+    G: SchemaRead<L>,
+    H: SchemaRead<L>,
+>(
+    bytes: &[u8],
+    a: &mut A::Dst,
+    b: &mut B::Dst,
+    c: &mut C::Dst,
+    d: &mut D::Dst,
+    e: &mut E::Dst,
+    f: &mut F::Dst,
+    g: &mut G::Dst,
+    h: &mut H::Dst,
+) -> bool
+    ensures { IsTrue result → ⟦<Members8<A, B, C, D, E, F, G, H> as SchemaRead<L>>⟧.reading.reads bytes.now (A.model a.new, (B.model b.new, (C.model c.new, (D.model d.new, (E.model e.new, (F.model f.new, (G.model g.new, H.model h.new))))))) }
+{
+    match A::type_meta() {
+        TypeMeta::Static { size, .. } if size <= bytes.len() => {
+            let (front, back) = bytes.split_at(size);
+            A::decode(front, a) && decode_7::<L, B, C, D, E, F, G, H>(back, b, c, d, e, f, g, h)
+        }
+        _ => false,
+    }
 }
 
 impl<L: Lending, A: SchemaRead<L>, B: SchemaRead<L>> SchemaRead<L> for Members2<A, B> {
@@ -61,6 +257,7 @@ impl<L: Lending, A: SchemaRead<L>, B: SchemaRead<L>> SchemaRead<L> for Members2<
         A::prealloc_size().saturating_add(B::prealloc_size())
     }
 
+    #[inline]
     fn read<R: Reader<L>>(
         alloc: Global,
         reader: &mut R,
@@ -70,6 +267,18 @@ impl<L: Lending, A: SchemaRead<L>, B: SchemaRead<L>> SchemaRead<L> for Members2<
         let second = B::get(alloc, reader)?;
         *dst = Some((first, second));
         Ok(())
+    }
+
+    #[inline(always)]
+    fn blank() -> Option<(A::Dst, B::Dst)> {
+        let first = A::blank()?;
+        let second = B::blank()?;
+        Some((first, second))
+    }
+
+    #[inline(always)]
+    fn decode(bytes: &[u8], place: &mut (A::Dst, B::Dst)) -> bool {
+        decode_2::<L, A, B>(bytes, &mut place.0, &mut place.1)
     }
 
     ghost read_laws = { pair_read_laws A.read_laws B.read_laws };
@@ -94,12 +303,23 @@ impl<L: Lending, A: SchemaRead<L>, B: SchemaRead<L>> SchemaRead<L> for (A, B) {
         A::prealloc_size().saturating_add(B::prealloc_size())
     }
 
+    #[inline]
     fn read<R: Reader<L>>(
         alloc: Global,
         reader: &mut R,
         dst: &mut Option<Self::Dst>,
     ) -> ReadResult<()> {
         read_in_window::<L, Members2<A, B>, R>(alloc, reader, dst)
+    }
+
+    #[inline(always)]
+    fn blank() -> Option<(A::Dst, B::Dst)> {
+        <Members2<A, B> as SchemaRead<L>>::blank()
+    }
+
+    #[inline(always)]
+    fn decode(bytes: &[u8], place: &mut (A::Dst, B::Dst)) -> bool {
+        decode_2::<L, A, B>(bytes, &mut place.0, &mut place.1)
     }
 
     ghost read_laws = { windowed_read_laws (pair_read_laws A.read_laws B.read_laws) };
@@ -133,12 +353,23 @@ impl<L: Lending, A: SchemaRead<L>, B: SchemaRead<L>, C: SchemaRead<L>> SchemaRea
         A::prealloc_size().saturating_add(<(B, C) as SchemaRead<L>>::prealloc_size())
     }
 
+    #[inline]
     fn read<R: Reader<L>>(
         alloc: Global,
         reader: &mut R,
         dst: &mut Option<Self::Dst>,
     ) -> ReadResult<()> {
         read_pairs::<L, Members3<A, B, C>, Self::Dst, R>(alloc, reader, dst)
+    }
+
+    #[inline(always)]
+    fn blank() -> Option<Self::Dst> {
+        blank_pairs::<L, Members3<A, B, C>, Self::Dst>()
+    }
+
+    #[inline(always)]
+    fn decode(bytes: &[u8], place: &mut Self::Dst) -> bool {
+        decode_3::<L, A, B, C>(bytes, &mut place.0, &mut place.1, &mut place.2)
     }
 
     ghost read_laws = { windowed_read_laws (pair_read_laws A.read_laws (pair_read_laws B.read_laws C.read_laws)) };
@@ -174,12 +405,29 @@ impl<L: Lending, A: SchemaRead<L>, B: SchemaRead<L>, C: SchemaRead<L>, D: Schema
         A::prealloc_size().saturating_add(<(B, C, D) as SchemaRead<L>>::prealloc_size())
     }
 
+    #[inline]
     fn read<R: Reader<L>>(
         alloc: Global,
         reader: &mut R,
         dst: &mut Option<Self::Dst>,
     ) -> ReadResult<()> {
         read_pairs::<L, Members4<A, B, C, D>, Self::Dst, R>(alloc, reader, dst)
+    }
+
+    #[inline(always)]
+    fn blank() -> Option<Self::Dst> {
+        blank_pairs::<L, Members4<A, B, C, D>, Self::Dst>()
+    }
+
+    #[inline(always)]
+    fn decode(bytes: &[u8], place: &mut Self::Dst) -> bool {
+        decode_4::<L, A, B, C, D>(
+            bytes,
+            &mut place.0,
+            &mut place.1,
+            &mut place.2,
+            &mut place.3,
+        )
     }
 
     ghost read_laws = { windowed_read_laws (pair_read_laws A.read_laws (pair_read_laws B.read_laws (pair_read_laws C.read_laws D.read_laws))) };
@@ -220,12 +468,30 @@ impl<
         A::prealloc_size().saturating_add(<(B, C, D, E) as SchemaRead<L>>::prealloc_size())
     }
 
+    #[inline]
     fn read<R: Reader<L>>(
         alloc: Global,
         reader: &mut R,
         dst: &mut Option<Self::Dst>,
     ) -> ReadResult<()> {
         read_pairs::<L, Members5<A, B, C, D, E>, Self::Dst, R>(alloc, reader, dst)
+    }
+
+    #[inline(always)]
+    fn blank() -> Option<Self::Dst> {
+        blank_pairs::<L, Members5<A, B, C, D, E>, Self::Dst>()
+    }
+
+    #[inline(always)]
+    fn decode(bytes: &[u8], place: &mut Self::Dst) -> bool {
+        decode_5::<L, A, B, C, D, E>(
+            bytes,
+            &mut place.0,
+            &mut place.1,
+            &mut place.2,
+            &mut place.3,
+            &mut place.4,
+        )
     }
 
     ghost read_laws = { windowed_read_laws (pair_read_laws A.read_laws (pair_read_laws B.read_laws (pair_read_laws C.read_laws (pair_read_laws D.read_laws E.read_laws)))) };
@@ -270,12 +536,31 @@ impl<
         A::prealloc_size().saturating_add(<(B, C, D, E, F) as SchemaRead<L>>::prealloc_size())
     }
 
+    #[inline]
     fn read<R: Reader<L>>(
         alloc: Global,
         reader: &mut R,
         dst: &mut Option<Self::Dst>,
     ) -> ReadResult<()> {
         read_pairs::<L, Members6<A, B, C, D, E, F>, Self::Dst, R>(alloc, reader, dst)
+    }
+
+    #[inline(always)]
+    fn blank() -> Option<Self::Dst> {
+        blank_pairs::<L, Members6<A, B, C, D, E, F>, Self::Dst>()
+    }
+
+    #[inline(always)]
+    fn decode(bytes: &[u8], place: &mut Self::Dst) -> bool {
+        decode_6::<L, A, B, C, D, E, F>(
+            bytes,
+            &mut place.0,
+            &mut place.1,
+            &mut place.2,
+            &mut place.3,
+            &mut place.4,
+            &mut place.5,
+        )
     }
 
     ghost read_laws = { windowed_read_laws (pair_read_laws A.read_laws (pair_read_laws B.read_laws (pair_read_laws C.read_laws (pair_read_laws D.read_laws (pair_read_laws E.read_laws F.read_laws))))) };
@@ -321,12 +606,32 @@ impl<
         A::prealloc_size().saturating_add(<(B, C, D, E, F, G) as SchemaRead<L>>::prealloc_size())
     }
 
+    #[inline]
     fn read<R: Reader<L>>(
         alloc: Global,
         reader: &mut R,
         dst: &mut Option<Self::Dst>,
     ) -> ReadResult<()> {
         read_pairs::<L, Members7<A, B, C, D, E, F, G>, Self::Dst, R>(alloc, reader, dst)
+    }
+
+    #[inline(always)]
+    fn blank() -> Option<Self::Dst> {
+        blank_pairs::<L, Members7<A, B, C, D, E, F, G>, Self::Dst>()
+    }
+
+    #[inline(always)]
+    fn decode(bytes: &[u8], place: &mut Self::Dst) -> bool {
+        decode_7::<L, A, B, C, D, E, F, G>(
+            bytes,
+            &mut place.0,
+            &mut place.1,
+            &mut place.2,
+            &mut place.3,
+            &mut place.4,
+            &mut place.5,
+            &mut place.6,
+        )
     }
 
     ghost read_laws = { windowed_read_laws (pair_read_laws A.read_laws (pair_read_laws B.read_laws (pair_read_laws C.read_laws (pair_read_laws D.read_laws (pair_read_laws E.read_laws (pair_read_laws F.read_laws G.read_laws)))))) };
@@ -383,12 +688,33 @@ impl<
         A::prealloc_size().saturating_add(<(B, C, D, E, F, G, H) as SchemaRead<L>>::prealloc_size())
     }
 
+    #[inline]
     fn read<R: Reader<L>>(
         alloc: Global,
         reader: &mut R,
         dst: &mut Option<Self::Dst>,
     ) -> ReadResult<()> {
         read_pairs::<L, Members8<A, B, C, D, E, F, G, H>, Self::Dst, R>(alloc, reader, dst)
+    }
+
+    #[inline(always)]
+    fn blank() -> Option<Self::Dst> {
+        blank_pairs::<L, Members8<A, B, C, D, E, F, G, H>, Self::Dst>()
+    }
+
+    #[inline(always)]
+    fn decode(bytes: &[u8], place: &mut Self::Dst) -> bool {
+        decode_8::<L, A, B, C, D, E, F, G, H>(
+            bytes,
+            &mut place.0,
+            &mut place.1,
+            &mut place.2,
+            &mut place.3,
+            &mut place.4,
+            &mut place.5,
+            &mut place.6,
+            &mut place.7,
+        )
     }
 
     ghost read_laws = { windowed_read_laws (pair_read_laws A.read_laws (pair_read_laws B.read_laws (pair_read_laws C.read_laws (pair_read_laws D.read_laws (pair_read_laws E.read_laws (pair_read_laws F.read_laws (pair_read_laws G.read_laws H.read_laws))))))) };

@@ -102,7 +102,7 @@ fn the_program(rt: HostRuntime) -> Result<(), Fail> {
     let alloc = rt.alloc();
     let mut record = [0u8; 41];
     record[8] = 2;
-    let rows: [(&[&'static str], &[u8], u8, &[u8], &str); 10] = [
+    let rows: [(&[&'static str], &[u8], u8, &[u8], &str); 13] = [
         (&["show", "nested"], &NESTED, 0, &NESTED, ""),
         (
             &["show", "nested"],
@@ -144,6 +144,27 @@ fn the_program(rt: HostRuntime) -> Result<(), Fail> {
         ),
         (
             &["show", "explain", "nested", "nested"],
+            &NESTED,
+            2,
+            &[],
+            "unknown shape\n",
+        ),
+        (
+            &["show", "relay", "--stream", "nested"],
+            &NESTED,
+            0,
+            &NESTED,
+            "",
+        ),
+        (
+            &["show", "relay", "--stream", "nested"],
+            &[],
+            1,
+            &[],
+            "Attempting to read 8 bytes\n",
+        ),
+        (
+            &["show", "relay", "nested", "--stream"],
             &NESTED,
             2,
             &[],

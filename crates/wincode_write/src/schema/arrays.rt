@@ -43,6 +43,15 @@ impl<T: SchemaWrite, const N: usize> SchemaWrite for Items<T, N> {
         }
     }
 
+    fn known_size() -> Option<usize> {
+        None
+    }
+
+    #[inline(always)]
+    fn encode(src: &[T::Src; N], dst: &mut [u8]) -> bool {
+        T::encode_items(src.as_slice(), dst)
+    }
+
     ghost write_laws = { array_write_laws N T.is_valid T.model T.writing T.write_laws };
 }
 
@@ -71,6 +80,20 @@ impl<T: SchemaWrite, const N: usize> SchemaWrite for [T; N] {
 
     fn write_items<W: Writer>(writer: &mut W, items: &[[T::Src; N]]) -> WriteResult<()> {
         <Items<T, N> as SchemaWrite>::write_items::<W>(writer, items)
+    }
+
+    fn known_size() -> Option<usize> {
+        None
+    }
+
+    #[inline(always)]
+    fn encode(src: &[T::Src; N], dst: &mut [u8]) -> bool {
+        <Items<T, N> as SchemaWrite>::encode(src, dst)
+    }
+
+    #[inline(always)]
+    fn encode_items(items: &[[T::Src; N]], dst: &mut [u8]) -> bool {
+        <Items<T, N> as SchemaWrite>::encode_items(items, dst)
     }
 
     ghost write_laws = { windowed_write_laws ⟦<Items<T, N> as SchemaWrite>⟧.write_laws };

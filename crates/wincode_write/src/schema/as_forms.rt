@@ -1,7 +1,8 @@
 //! Many values at once, as their byte forms.
-ghost use Rattle.std.specs.Prelude.{length, map};
+ghost use Rattle.std.specs.Prelude.{IsTrue, length, map};
 ghost use Rattle.wincode_io.specs.Joins.{Each};
 ghost use Rattle.wincode_base.specs.AsForms.{writes_form, WrittenAtOnce};
+ghost use Rattle.wincode_base.specs.Outcomes.{IsEncoded};
 
 use wincode_base::error::WriteResult;
 use wincode_io::bulk::write_forms;
@@ -14,4 +15,19 @@ pub(crate) fn write_all<T: ZeroCopy, W: Writer>(writer: &mut W, items: &[T]) -> 
 {
     write_forms(writer, items)?;
     Ok(())
+}
+
+/// Puts the form of the value over all of the bytes, where it has as many.
+#[inline(always)]
+pub(crate) fn encode_form<T: ZeroCopy>(src: &T, dst: &mut [u8]) -> bool
+    ensures { IsTrue result → IsEncoded (writes_form T.size T.form) src.now dst.new × T.is_valid src.now }
+{
+    let is_long = match T::form_size() {
+        Some(size) => size == dst.len(),
+        None => false,
+    };
+    if is_long {
+        src.put_form(dst);
+    }
+    is_long
 }

@@ -7,7 +7,7 @@ ghost use Rattle.wincode_base.specs.LeafLaws.{bool_write_laws, unit_write_laws, 
 ghost use Rattle.wincode_base.specs.Leaves.{number_write, signed_write, bool_write, unit_write};
 
 use crate::schema::SchemaWrite;
-use crate::schema::as_forms::write_all;
+use crate::schema::as_forms::{encode_form, write_all};
 use std::marker::PhantomData;
 use wincode_base::error::WriteResult;
 use wincode_base::meta::TypeMeta;
@@ -48,6 +48,25 @@ impl SchemaWrite for u8 {
         Ok(())
     }
 
+    #[inline(always)]
+    fn known_size() -> Option<usize> {
+        Some(1)
+    }
+
+    #[inline(always)]
+    fn encode(src: &u8, dst: &mut [u8]) -> bool {
+        encode_form::<u8>(src, dst)
+    }
+
+    #[inline(always)]
+    fn encode_items(items: &[u8], dst: &mut [u8]) -> bool {
+        if items.len() != dst.len() {
+            return false;
+        }
+        dst.copy_from_slice(items);
+        true
+    }
+
     ghost write_laws = { number_write_laws 1 true };
 }
 
@@ -83,6 +102,16 @@ impl SchemaWrite for u16 {
         ensures { WrittenAtOnce 2 (length items.now) (number_write 2 true) (W.state writer.old) (W.state writer.new) (map (λ v. v) items.now) (Each (λ v. v < 256 ^ 2) items.now) result }
     {
         write_all::<u16, W>(writer, items)
+    }
+
+    #[inline(always)]
+    fn known_size() -> Option<usize> {
+        Some(2)
+    }
+
+    #[inline(always)]
+    fn encode(src: &u16, dst: &mut [u8]) -> bool {
+        encode_form::<u16>(src, dst)
     }
 
     ghost write_laws = { number_write_laws 2 true };
@@ -122,6 +151,16 @@ impl SchemaWrite for u32 {
         write_all::<u32, W>(writer, items)
     }
 
+    #[inline(always)]
+    fn known_size() -> Option<usize> {
+        Some(4)
+    }
+
+    #[inline(always)]
+    fn encode(src: &u32, dst: &mut [u8]) -> bool {
+        encode_form::<u32>(src, dst)
+    }
+
     ghost write_laws = { number_write_laws 4 true };
 }
 
@@ -157,6 +196,16 @@ impl SchemaWrite for u64 {
         ensures { WrittenAtOnce 8 (length items.now) (number_write 8 true) (W.state writer.old) (W.state writer.new) (map (λ v. v) items.now) (Each (λ v. v < 256 ^ 8) items.now) result }
     {
         write_all::<u64, W>(writer, items)
+    }
+
+    #[inline(always)]
+    fn known_size() -> Option<usize> {
+        Some(8)
+    }
+
+    #[inline(always)]
+    fn encode(src: &u64, dst: &mut [u8]) -> bool {
+        encode_form::<u64>(src, dst)
     }
 
     ghost write_laws = { number_write_laws 8 true };
@@ -196,6 +245,16 @@ impl SchemaWrite for u128 {
         write_all::<u128, W>(writer, items)
     }
 
+    #[inline(always)]
+    fn known_size() -> Option<usize> {
+        Some(16)
+    }
+
+    #[inline(always)]
+    fn encode(src: &u128, dst: &mut [u8]) -> bool {
+        encode_form::<u128>(src, dst)
+    }
+
     ghost write_laws = { number_write_laws 16 true };
 }
 
@@ -224,6 +283,16 @@ impl SchemaWrite for usize {
     fn write<W: Writer>(writer: &mut W, src: &usize) -> WriteResult<()> {
         writer.write(&src.to_le_bytes())?;
         Ok(())
+    }
+
+    #[inline(always)]
+    fn known_size() -> Option<usize> {
+        Some(8)
+    }
+
+    #[inline(always)]
+    fn encode(src: &usize, dst: &mut [u8]) -> bool {
+        u64::encode(&(*src as u64), dst)
     }
 
     ghost write_laws = { number_write_laws 8 false };
@@ -263,6 +332,16 @@ impl SchemaWrite for i8 {
         write_all::<i8, W>(writer, items)
     }
 
+    #[inline(always)]
+    fn known_size() -> Option<usize> {
+        Some(1)
+    }
+
+    #[inline(always)]
+    fn encode(src: &i8, dst: &mut [u8]) -> bool {
+        encode_form::<i8>(src, dst)
+    }
+
     ghost write_laws = { signed_write_laws w8 true };
 }
 
@@ -298,6 +377,16 @@ impl SchemaWrite for i16 {
         ensures { WrittenAtOnce 2 (length items.now) (signed_write w16 true) (W.state writer.old) (W.state writer.new) (map (λ v. v) items.now) (Each (FitsSigned w16) items.now) result }
     {
         write_all::<i16, W>(writer, items)
+    }
+
+    #[inline(always)]
+    fn known_size() -> Option<usize> {
+        Some(2)
+    }
+
+    #[inline(always)]
+    fn encode(src: &i16, dst: &mut [u8]) -> bool {
+        encode_form::<i16>(src, dst)
     }
 
     ghost write_laws = { signed_write_laws w16 true };
@@ -337,6 +426,16 @@ impl SchemaWrite for i32 {
         write_all::<i32, W>(writer, items)
     }
 
+    #[inline(always)]
+    fn known_size() -> Option<usize> {
+        Some(4)
+    }
+
+    #[inline(always)]
+    fn encode(src: &i32, dst: &mut [u8]) -> bool {
+        encode_form::<i32>(src, dst)
+    }
+
     ghost write_laws = { signed_write_laws w32 true };
 }
 
@@ -372,6 +471,16 @@ impl SchemaWrite for i64 {
         ensures { WrittenAtOnce 8 (length items.now) (signed_write w64 true) (W.state writer.old) (W.state writer.new) (map (λ v. v) items.now) (Each (FitsSigned w64) items.now) result }
     {
         write_all::<i64, W>(writer, items)
+    }
+
+    #[inline(always)]
+    fn known_size() -> Option<usize> {
+        Some(8)
+    }
+
+    #[inline(always)]
+    fn encode(src: &i64, dst: &mut [u8]) -> bool {
+        encode_form::<i64>(src, dst)
     }
 
     ghost write_laws = { signed_write_laws w64 true };
@@ -411,6 +520,16 @@ impl SchemaWrite for i128 {
         write_all::<i128, W>(writer, items)
     }
 
+    #[inline(always)]
+    fn known_size() -> Option<usize> {
+        Some(16)
+    }
+
+    #[inline(always)]
+    fn encode(src: &i128, dst: &mut [u8]) -> bool {
+        encode_form::<i128>(src, dst)
+    }
+
     ghost write_laws = { signed_write_laws w128 true };
 }
 
@@ -439,6 +558,16 @@ impl SchemaWrite for isize {
     fn write<W: Writer>(writer: &mut W, src: &isize) -> WriteResult<()> {
         writer.write(&src.to_le_bytes())?;
         Ok(())
+    }
+
+    #[inline(always)]
+    fn known_size() -> Option<usize> {
+        Some(8)
+    }
+
+    #[inline(always)]
+    fn encode(src: &isize, dst: &mut [u8]) -> bool {
+        i64::encode(&(*src as i64), dst)
     }
 
     ghost write_laws = { signed_write_laws w64 false };
@@ -472,6 +601,20 @@ impl SchemaWrite for bool {
         Ok(())
     }
 
+    #[inline(always)]
+    fn known_size() -> Option<usize> {
+        Some(1)
+    }
+
+    #[inline(always)]
+    fn encode(src: &bool, dst: &mut [u8]) -> bool {
+        if dst.len() != 1 {
+            return false;
+        }
+        dst[0] = if *src { 1 } else { 0 };
+        true
+    }
+
     ghost write_laws = { bool_write_laws };
 }
 
@@ -503,6 +646,16 @@ impl SchemaWrite for () {
         Ok(())
     }
 
+    #[inline(always)]
+    fn known_size() -> Option<usize> {
+        Some(0)
+    }
+
+    #[inline(always)]
+    fn encode(_src: &(), dst: &mut [u8]) -> bool {
+        dst.is_empty()
+    }
+
     ghost write_laws = { unit_write_laws };
 }
 
@@ -532,6 +685,16 @@ impl<T> SchemaWrite for PhantomData<T> {
         // No effect at run time: the proof reads what it holds from this use of it.
         let _ = &*writer;
         Ok(())
+    }
+
+    #[inline(always)]
+    fn known_size() -> Option<usize> {
+        Some(0)
+    }
+
+    #[inline(always)]
+    fn encode(_src: &PhantomData<T>, dst: &mut [u8]) -> bool {
+        dst.is_empty()
     }
 
     ghost write_laws = { unit_write_laws };

@@ -129,5 +129,17 @@ impl<'a, U: 'a, T: SchemaWrite<Src = U>> SchemaWrite for &'a [T] {
         Ok(())
     }
 
+    fn encode(src: &&'a [U], dst: &mut [u8]) -> bool {
+        let _items = src.len();
+        let _len = dst.len();
+        false
+    }
+
+    fn encode_items(items: &[&'a [U]], dst: &mut [u8]) -> bool {
+        let _items = items.len();
+        let _len = dst.len();
+        false
+    }
+
     ghost write_laws = { list_write_laws (bincode byte_limit) 16 (λ s. s.now) T.is_valid T.model T.writing T.write_laws };
 }

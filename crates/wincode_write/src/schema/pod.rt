@@ -6,6 +6,7 @@ ghost use Rattle.wincode_base.specs.ViewLaws.{form_write_laws};
 ghost use Rattle.wincode_base.specs.Views.{form_prealloc, form_write};
 
 use crate::schema::SchemaWrite;
+use crate::schema::as_forms::encode_form;
 use wincode_base::error::{WriteResult, write_length_encoding_overflow};
 use wincode_base::meta::TypeMeta;
 use wincode_base::parts::Pod;
@@ -54,6 +55,11 @@ impl<T: ZeroCopy> SchemaWrite for Pod<T> {
         }
         write_forms(writer, items)?;
         Ok(())
+    }
+
+    #[inline(always)]
+    fn encode(src: &T, dst: &mut [u8]) -> bool {
+        encode_form::<T>(src, dst)
     }
 
     ghost write_laws = { form_write_laws T.byte_form (λ v. v) true (form_prealloc T.size) };

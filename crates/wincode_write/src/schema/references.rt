@@ -44,5 +44,16 @@ impl<'a, U: 'a, T: SchemaWrite<Src = U>> SchemaWrite for &'a T {
         Ok(())
     }
 
+    #[inline(always)]
+    fn encode(src: &&'a U, dst: &mut [u8]) -> bool {
+        T::encode(*src, dst)
+    }
+
+    fn encode_items(items: &[&'a U], dst: &mut [u8]) -> bool {
+        let _items = items.len();
+        let _len = dst.len();
+        false
+    }
+
     ghost write_laws = { reference_write_laws T.is_valid T.model (λ r. r.now) T.writing T.write_laws };
 }

@@ -45,6 +45,7 @@ impl SchemaWrite for char {
 }
 
 /// The size of a text with its length.
+#[inline(always)]
 fn size_of_text(text: &str) -> WriteResult<usize>
     ensures ok { IfOk result (λ n. (str_write 24).can text.now × (n ≡ (str_write 24).size text.now)) }
     ensures err { IfErr result (SizeRefused (str_write 24) text.now) }
@@ -56,6 +57,7 @@ fn size_of_text(text: &str) -> WriteResult<usize>
 }
 
 /// Writes the length of a text, and then its bytes.
+#[inline(always)]
 fn write_text<W: Writer>(writer: &mut W, text: &str) -> WriteResult<()>
     ensures { WriteOutcome (str_write 24) (W.state writer.old) (W.state writer.new) text.now (Unit {0}) result }
 {
@@ -80,10 +82,12 @@ impl SchemaWrite for String {
         TypeMeta::Dynamic
     }
 
+    #[inline(always)]
     fn size_of(src: &String) -> WriteResult<usize> {
         size_of_text(src.as_str())
     }
 
+    #[inline(always)]
     fn write<W: Writer>(writer: &mut W, src: &String) -> WriteResult<()> {
         write_text::<W>(writer, src.as_str())
     }
@@ -109,10 +113,12 @@ impl<'a> SchemaWrite for &'a str {
         TypeMeta::Dynamic
     }
 
+    #[inline(always)]
     fn size_of(src: &&'a str) -> WriteResult<usize> {
         size_of_text(*src)
     }
 
+    #[inline(always)]
     fn write<W: Writer>(writer: &mut W, src: &&'a str) -> WriteResult<()> {
         write_text::<W>(writer, *src)
     }

@@ -124,5 +124,17 @@ impl<T: SchemaWrite, E: SchemaWrite> SchemaWrite for Result<T, E> {
         write_result::<u32, T, E, W>(writer, src)
     }
 
+    #[inline(always)]
+    fn encode(src: &Result<T::Src, E::Src>, dst: &mut [u8]) -> bool {
+        if dst.len() < 4 {
+            return false;
+        }
+        let (tag, rest) = dst.split_at_mut(4);
+        match src {
+            Ok(value) => u32::encode(&0, tag) && T::encode(value, rest),
+            Err(error) => u32::encode(&1, tag) && E::encode(error, rest),
+        }
+    }
+
     ghost write_laws = { result_write_laws 4 T.is_valid E.is_valid T.model E.model T.writing E.writing T.write_laws E.write_laws };
 }

@@ -4,21 +4,22 @@ ghost use Rattle.std.specs.BinaryHeap.{heap_items};
 ghost use Rattle.std.specs.HashMap.{IsUnique};
 ghost use Rattle.std.specs.List.{IsDistinct};
 ghost use Rattle.std.specs.List.Sorted.{IsStrictlySortedBy};
-ghost use Rattle.std.specs.Prelude.{◌≡◌, ◌+◌, List, length, map, IfOk, IfErr};
+ghost use Rattle.std.specs.Prelude.{◌≡◌, ◌+◌, List, length, map, IfSome, IfOk, IfErr};
 ghost use Rattle.wincode_io.specs.Joins.{Each, total};
-ghost use Rattle.wincode_base.specs.Lists.{items_write, each_write, parts_write, list_write_of, list_write, SizesRefused};
+ghost use Rattle.wincode_base.specs.Lists.{item_write, items_write, each_write, parts_write, list_write_of, list_write, SizesRefused};
 ghost use Rattle.wincode_base.specs.Outcomes.{IsSized, SizeRefused, WriteOutcome};
 ghost use Rattle.wincode_base.specs.Pairs.{pair_write};
 ghost use Rattle.wincode_base.specs.ItemSizes.{IsWriteItemSize};
 
 use crate::schema::SchemaWrite;
+use crate::schema::encoded::write_item;
 use crate::schema::tuples::size_of_members_2;
 use std::collections::{BTreeMap, BTreeSet, BinaryHeap, HashMap, HashSet, LinkedList, VecDeque};
 use std::hash::Hash;
 use wincode_base::error::{WriteResult, write_length_encoding_overflow};
 use wincode_base::len::SeqLen;
-use wincode_base::parts::Members2;
-use wincode_base::sizes::ItemSize;
+use wincode_base::parts::{Member, Members2};
+use wincode_base::sizes::{ItemSize, checked_sum};
 use wincode_io::{WriteWindow, Writer};
 
 /// Items that are gone over in order, by reference.
@@ -44,11 +45,30 @@ pub trait ToItems<T: SchemaWrite> {
         ensures { WriteOutcome (items_write T.writing) (W.state writer.old) (W.state writer.new) (map T.model (listed self.now)) (Each T.is_valid (listed self.now)) result };
 }
 
+/// The sizes of `n` items, added to the size of what stands before them, where they are known without
+/// looking at the items.
+#[inline(always)]
+fn sizes_alike<T: SchemaWrite>(before: usize, n: usize) -> Option<WriteResult<usize>>
+    ensures { IfSome result (λ r. (items : List T.Src) → length items ≡ n
+        → IfOk r (λ m. Each T.writing.can (map T.model items) × (m ≡ before + total T.writing.size (map T.model items)))
+        × IfErr r (SizesRefused before T.writing (map T.model items))) }
+{
+    let size = T::known_size()?;
+    match n.checked_mul(size) {
+        Some(total) => Some(checked_sum(before, total)),
+        None => Some(Err(write_length_encoding_overflow("usize::MAX"))),
+    }
+}
+
 /// The sizes of items, added to the size of what stands before them.
+#[inline]
 pub(crate) fn add_sizes<T: SchemaWrite>(before: usize, items: &[T::Src]) -> WriteResult<usize>
     ensures ok { IfOk result (λ n. Each T.writing.can (map T.model items.now) × (n ≡ before + total T.writing.size (map T.model items.now))) }
     ensures err { IfErr result (SizesRefused before T.writing (map T.model items.now)) }
 {
+    if let Some(sum) = sizes_alike::<T>(before, items.len()) {
+        return sum;
+    }
     let mut sum = before;
     for item in items {
         let size = T::size_of(item)?;
@@ -138,7 +158,7 @@ impl<U, T: SchemaWrite<Src = U>> ToItems<T> for LinkedList<U> {
 
     fn write_to<W: Writer>(&self, writer: &mut W) -> WriteResult<()> {
         for item in self {
-            T::write(writer, item)?;
+            write_item::<T, W>(writer, item)?;
         }
         Ok(())
     }
@@ -175,6 +195,9 @@ impl<A: Ord, B, K: SchemaWrite<Src = A>, V: SchemaWrite<Src = B>> ToItems<Member
     }
 
     fn add_sizes(&self, before: usize) -> WriteResult<usize> {
+        if let Some(sum) = sizes_alike::<Members2<K, V>>(before, self.len()) {
+            return sum;
+        }
         let mut sum = before;
         for (key, value) in self {
             let size = size_of_members_2::<K, V>(key, value)?;
@@ -205,6 +228,9 @@ impl<A: Eq + Hash, B, K: SchemaWrite<Src = A>, V: SchemaWrite<Src = B>> ToItems<
     }
 
     fn add_sizes(&self, before: usize) -> WriteResult<usize> {
+        if let Some(sum) = sizes_alike::<Members2<K, V>>(before, self.len()) {
+            return sum;
+        }
         let mut sum = before;
         for (key, value) in self {
             let size = size_of_members_2::<K, V>(key, value)?;
@@ -248,7 +274,7 @@ impl<A: Ord, K: SchemaWrite<Src = A>> ToItems<K> for BTreeSet<A> {
 
     fn write_to<W: Writer>(&self, writer: &mut W) -> WriteResult<()> {
         for key in self {
-            K::write(writer, key)?;
+            write_item::<K, W>(writer, key)?;
         }
         Ok(())
     }
@@ -277,26 +303,39 @@ impl<A: Eq + Hash, K: SchemaWrite<Src = A>> ToItems<K> for HashSet<A> {
 
     fn write_to<W: Writer>(&self, writer: &mut W) -> WriteResult<()> {
         for key in self {
-            K::write(writer, key)?;
+            write_item::<K, W>(writer, key)?;
         }
         Ok(())
     }
 }
 
 /// Writes a key, and then its value, through no window of their own.
+#[inline(always)]
 fn write_pair<K: SchemaWrite, V: SchemaWrite, W: Writer>(
     writer: &mut W,
     key: &K::Src,
     value: &V::Src,
 ) -> WriteResult<()>
-    ensures { WriteOutcome (pair_write K.writing V.writing) (W.state writer.old) (W.state writer.new) (K.model key.now, V.model value.now) (K.is_valid key.now × V.is_valid value.now) result }
+    ensures { WriteOutcome (item_write (pair_write K.writing V.writing)) (W.state writer.old) (W.state writer.new) (K.model key.now, V.model value.now) (K.is_valid key.now × V.is_valid value.now) result }
 {
-    K::write(writer, key)?;
-    V::write(writer, value)
+    write_members::<&Member<K>, &Member<V>, W>(writer, &(key, value))
+}
+
+/// Writes a pair, through no window of its own.
+#[inline(always)]
+fn write_members<A: SchemaWrite, B: SchemaWrite, W: Writer>(
+    writer: &mut W,
+    src: &(A::Src, B::Src),
+) -> WriteResult<()>
+    ensures { let members = ⟦<Members2<A, B> as SchemaWrite>⟧ in
+        WriteOutcome (item_write members.writing) (W.state writer.old) (W.state writer.new) (members.model src.now) (members.is_valid src.now) result }
+{
+    write_item::<Members2<A, B>, W>(writer, src)
 }
 
 /// The size of a list of these items, in bytes. `COUNT` is what a list counts against the limit of a
 /// list of lists.
+#[inline]
 pub fn size_of_list<Len: SeqLen, T: SchemaWrite, C: ToItems<T>, const COUNT: usize>(
     src: &C,
 ) -> WriteResult<usize>
@@ -308,6 +347,7 @@ pub fn size_of_list<Len: SeqLen, T: SchemaWrite, C: ToItems<T>, const COUNT: usi
 }
 
 /// Writes the length of a list, and then its items.
+#[inline]
 fn write_parts<Len: SeqLen, T: SchemaWrite, C: ToItems<T>, W: Writer, const COUNT: usize>(
     writer: &mut W,
     src: &C,
@@ -321,6 +361,7 @@ fn write_parts<Len: SeqLen, T: SchemaWrite, C: ToItems<T>, W: Writer, const COUN
 
 /// Writes a list of items of this size, through one window of all of it where the size is known: then
 /// it asks for the length's encoding, for the total and for the room, in this order.
+#[inline]
 pub(crate) fn write_list_of<
     Len: SeqLen,
     T: SchemaWrite,
@@ -349,6 +390,7 @@ pub(crate) fn write_list_of<
 }
 
 /// Writes a list.
+#[inline]
 pub fn write_list<Len: SeqLen, T: SchemaWrite, C: ToItems<T>, W: Writer, const COUNT: usize>(
     writer: &mut W,
     src: &C,

@@ -3,9 +3,9 @@
 //! Where all members have one size, the tuple is written through one window of the sum, in bytes: less room is
 //! `Io(WriteSizeLimit)` of the sum, and nothing is written. Other tuples go member by member, and a refusal
 //! leaves what the members before it wrote.
-ghost use Rattle.std.specs.Prelude.{◌≡◌, IfOk, IfErr};
+ghost use Rattle.std.specs.Prelude.{◌≡◌, IsTrue, IfOk, IfErr};
 ghost use Rattle.wincode_base.specs.InWindow.{windowed_write};
-ghost use Rattle.wincode_base.specs.Outcomes.{IsSized, SizeRefused, WriteOutcome};
+ghost use Rattle.wincode_base.specs.Outcomes.{IsSized, IsEncoded, SizeRefused, WriteOutcome};
 ghost use Rattle.wincode_base.specs.PairLaws.{pair_write_laws, write_laws_by, windowed_write_laws};
 ghost use Rattle.wincode_base.specs.Pairs.{pair_write};
 
@@ -14,8 +14,9 @@ mod longer;
 use crate::schema::SchemaWrite;
 use crate::schema::in_window::write_in_window;
 pub use crate::schema::tuples::longer::{
-    size_of_members_9, size_of_members_10, size_of_members_11, size_of_members_12, write_members_9,
-    write_members_10, write_members_11, write_members_12,
+    encode_members_9, encode_members_10, encode_members_11, encode_members_12, size_of_members_9,
+    size_of_members_10, size_of_members_11, size_of_members_12, write_members_9, write_members_10,
+    write_members_11, write_members_12,
 };
 use wincode_base::error::WriteResult;
 use wincode_base::meta::TypeMeta;
@@ -47,6 +48,27 @@ impl<A: SchemaWrite, B: SchemaWrite> SchemaWrite for Members2<A, B> {
     fn write<W: Writer>(writer: &mut W, src: &(A::Src, B::Src)) -> WriteResult<()> {
         A::write(writer, &src.0)?;
         B::write(writer, &src.1)
+    }
+
+    #[inline(always)]
+    fn known_size() -> Option<usize> {
+        match (A::known_size(), B::known_size()) {
+            (Some(a), Some(b)) => a.checked_add(b),
+            _ => None,
+        }
+    }
+
+    #[inline(always)]
+    fn encode(src: &(A::Src, B::Src), dst: &mut [u8]) -> bool {
+        let size = match A::type_meta() {
+            TypeMeta::Static { size, .. } => size,
+            TypeMeta::Dynamic => return false,
+        };
+        if size > dst.len() {
+            return false;
+        }
+        let (first, second) = dst.split_at_mut(size);
+        A::encode(&src.0, first) && B::encode(&src.1, second)
     }
 
     ghost write_laws = { pair_write_laws A.write_laws B.write_laws };
@@ -84,10 +106,22 @@ impl<'a, U: 'a, T: SchemaWrite<Src = U>> SchemaWrite for &'a Member<T> {
         Ok(())
     }
 
+    #[inline(always)]
+    fn encode(src: &&'a U, dst: &mut [u8]) -> bool {
+        T::encode(*src, dst)
+    }
+
+    fn encode_items(items: &[&'a U], dst: &mut [u8]) -> bool {
+        let _items = items.len();
+        let _len = dst.len();
+        false
+    }
+
     ghost write_laws = { write_laws_by (λ r. r.now) T.write_laws };
 }
 
 /// The size of 2 members, each seen by a schema of its own: that of a tuple of them.
+#[inline]
 pub fn size_of_members_2<A: SchemaWrite, B: SchemaWrite>(
     a: &A::Src,
     b: &B::Src,
@@ -101,6 +135,7 @@ pub fn size_of_members_2<A: SchemaWrite, B: SchemaWrite>(
 }
 
 /// Writes 2 members through one window where all have one size.
+#[inline]
 fn write_2<A: SchemaWrite, B: SchemaWrite, W: Writer>(
     writer: &mut W,
     src: &(A::Src, B::Src),
@@ -111,7 +146,31 @@ fn write_2<A: SchemaWrite, B: SchemaWrite, W: Writer>(
     write_in_window::<Members2<A, B>, W>(writer, src)
 }
 
+/// Puts an encoding of 2 members over all of the bytes.
+#[inline(always)]
+fn encode_2<A: SchemaWrite, B: SchemaWrite>(src: &(A::Src, B::Src), dst: &mut [u8]) -> bool
+    ensures { let members = ⟦<Members2<A, B> as SchemaWrite>⟧ in
+        IsTrue result → IsEncoded members.writing (members.model src.now) dst.new × members.is_valid src.now }
+{
+    <Members2<A, B> as SchemaWrite>::encode(src, dst)
+}
+
+/// Puts an encoding of 2 members over all of the bytes, each by a schema of its own, as `encode` does of a
+/// tuple of them.
+#[inline(always)]
+pub fn encode_members_2<A: SchemaWrite, B: SchemaWrite>(
+    a: &A::Src,
+    b: &B::Src,
+    dst: &mut [u8],
+) -> bool
+    ensures { let tuple = ⟦<(A, B) as SchemaWrite>⟧ in
+        IsTrue result → IsEncoded tuple.writing (tuple.model (a.now, b.now)) dst.new × tuple.is_valid (a.now, b.now) }
+{
+    encode_2::<&Member<A>, &Member<B>>(&(a, b), dst)
+}
+
 /// Writes 2 members, each by a schema of its own, as a tuple of them is written.
+#[inline]
 pub fn write_members_2<A: SchemaWrite, B: SchemaWrite, W: Writer>(
     writer: &mut W,
     a: &A::Src,
@@ -142,8 +201,14 @@ impl<A: SchemaWrite, B: SchemaWrite> SchemaWrite for (A, B) {
         size_of_members_2::<A, B>(&src.0, &src.1)
     }
 
+    #[inline]
     fn write<W: Writer>(writer: &mut W, src: &Self::Src) -> WriteResult<()> {
         write_members_2::<A, B, W>(writer, &src.0, &src.1)
+    }
+
+    #[inline(always)]
+    fn encode(src: &Self::Src, dst: &mut [u8]) -> bool {
+        <Members2<A, B> as SchemaWrite>::encode(src, dst)
     }
 
     ghost write_laws = { write_laws_by (λ t. (t.0, t.1))
@@ -151,6 +216,7 @@ impl<A: SchemaWrite, B: SchemaWrite> SchemaWrite for (A, B) {
 }
 
 /// The size of 3 members, each seen by a schema of its own: that of a tuple of them.
+#[inline]
 pub fn size_of_members_3<A: SchemaWrite, B: SchemaWrite, C: SchemaWrite>(
     a: &A::Src,
     b: &B::Src,
@@ -165,6 +231,7 @@ pub fn size_of_members_3<A: SchemaWrite, B: SchemaWrite, C: SchemaWrite>(
 }
 
 /// Writes 3 members through one window where all have one size.
+#[inline]
 fn write_3<A: SchemaWrite, B: SchemaWrite, C: SchemaWrite, W: Writer>(
     writer: &mut W,
     src: &(A::Src, (B::Src, C::Src)),
@@ -175,7 +242,35 @@ fn write_3<A: SchemaWrite, B: SchemaWrite, C: SchemaWrite, W: Writer>(
     write_in_window::<Members3<A, B, C>, W>(writer, src)
 }
 
+/// Puts an encoding of 3 members over all of the bytes.
+#[inline(always)]
+fn encode_3<A: SchemaWrite, B: SchemaWrite, C: SchemaWrite>(
+    src: &(A::Src, (B::Src, C::Src)),
+    dst: &mut [u8],
+) -> bool
+    ensures { let members = ⟦<Members3<A, B, C> as SchemaWrite>⟧ in
+        IsTrue result → IsEncoded members.writing (members.model src.now) dst.new × members.is_valid src.now }
+{
+    <Members3<A, B, C> as SchemaWrite>::encode(src, dst)
+}
+
+/// Puts an encoding of 3 members over all of the bytes, each by a schema of its own, as `encode` does of a
+/// tuple of them.
+#[inline(always)]
+pub fn encode_members_3<A: SchemaWrite, B: SchemaWrite, C: SchemaWrite>(
+    a: &A::Src,
+    b: &B::Src,
+    c: &C::Src,
+    dst: &mut [u8],
+) -> bool
+    ensures { let tuple = ⟦<(A, B, C) as SchemaWrite>⟧ in
+        IsTrue result → IsEncoded tuple.writing (tuple.model (a.now, b.now, c.now)) dst.new × tuple.is_valid (a.now, b.now, c.now) }
+{
+    encode_3::<&Member<A>, &Member<B>, &Member<C>>(&(a, (b, c)), dst)
+}
+
 /// Writes 3 members, each by a schema of its own, as a tuple of them is written.
+#[inline]
 pub fn write_members_3<A: SchemaWrite, B: SchemaWrite, C: SchemaWrite, W: Writer>(
     writer: &mut W,
     a: &A::Src,
@@ -207,8 +302,14 @@ impl<A: SchemaWrite, B: SchemaWrite, C: SchemaWrite> SchemaWrite for (A, B, C) {
         size_of_members_3::<A, B, C>(&src.0, &src.1, &src.2)
     }
 
+    #[inline]
     fn write<W: Writer>(writer: &mut W, src: &Self::Src) -> WriteResult<()> {
         write_members_3::<A, B, C, W>(writer, &src.0, &src.1, &src.2)
+    }
+
+    #[inline(always)]
+    fn encode(src: &Self::Src, dst: &mut [u8]) -> bool {
+        encode_members_3::<A, B, C>(&src.0, &src.1, &src.2, dst)
     }
 
     ghost write_laws = { write_laws_by (λ t. (t.0, (t.1, t.2)))
@@ -216,6 +317,7 @@ impl<A: SchemaWrite, B: SchemaWrite, C: SchemaWrite> SchemaWrite for (A, B, C) {
 }
 
 /// The size of 4 members, each seen by a schema of its own: that of a tuple of them.
+#[inline]
 pub fn size_of_members_4<A: SchemaWrite, B: SchemaWrite, C: SchemaWrite, D: SchemaWrite>(
     a: &A::Src,
     b: &B::Src,
@@ -231,6 +333,7 @@ pub fn size_of_members_4<A: SchemaWrite, B: SchemaWrite, C: SchemaWrite, D: Sche
 }
 
 /// Writes 4 members through one window where all have one size.
+#[inline]
 fn write_4<A: SchemaWrite, B: SchemaWrite, C: SchemaWrite, D: SchemaWrite, W: Writer>(
     writer: &mut W,
     src: &(A::Src, (B::Src, (C::Src, D::Src))),
@@ -241,7 +344,36 @@ fn write_4<A: SchemaWrite, B: SchemaWrite, C: SchemaWrite, D: SchemaWrite, W: Wr
     write_in_window::<Members4<A, B, C, D>, W>(writer, src)
 }
 
+/// Puts an encoding of 4 members over all of the bytes.
+#[inline(always)]
+fn encode_4<A: SchemaWrite, B: SchemaWrite, C: SchemaWrite, D: SchemaWrite>(
+    src: &(A::Src, (B::Src, (C::Src, D::Src))),
+    dst: &mut [u8],
+) -> bool
+    ensures { let members = ⟦<Members4<A, B, C, D> as SchemaWrite>⟧ in
+        IsTrue result → IsEncoded members.writing (members.model src.now) dst.new × members.is_valid src.now }
+{
+    <Members4<A, B, C, D> as SchemaWrite>::encode(src, dst)
+}
+
+/// Puts an encoding of 4 members over all of the bytes, each by a schema of its own, as `encode` does of a
+/// tuple of them.
+#[inline(always)]
+pub fn encode_members_4<A: SchemaWrite, B: SchemaWrite, C: SchemaWrite, D: SchemaWrite>(
+    a: &A::Src,
+    b: &B::Src,
+    c: &C::Src,
+    d: &D::Src,
+    dst: &mut [u8],
+) -> bool
+    ensures { let tuple = ⟦<(A, B, C, D) as SchemaWrite>⟧ in
+        IsTrue result → IsEncoded tuple.writing (tuple.model (a.now, b.now, c.now, d.now)) dst.new × tuple.is_valid (a.now, b.now, c.now, d.now) }
+{
+    encode_4::<&Member<A>, &Member<B>, &Member<C>, &Member<D>>(&(a, (b, (c, d))), dst)
+}
+
 /// Writes 4 members, each by a schema of its own, as a tuple of them is written.
+#[inline]
 pub fn write_members_4<A: SchemaWrite, B: SchemaWrite, C: SchemaWrite, D: SchemaWrite, W: Writer>(
     writer: &mut W,
     a: &A::Src,
@@ -274,8 +406,14 @@ impl<A: SchemaWrite, B: SchemaWrite, C: SchemaWrite, D: SchemaWrite> SchemaWrite
         size_of_members_4::<A, B, C, D>(&src.0, &src.1, &src.2, &src.3)
     }
 
+    #[inline]
     fn write<W: Writer>(writer: &mut W, src: &Self::Src) -> WriteResult<()> {
         write_members_4::<A, B, C, D, W>(writer, &src.0, &src.1, &src.2, &src.3)
+    }
+
+    #[inline(always)]
+    fn encode(src: &Self::Src, dst: &mut [u8]) -> bool {
+        encode_members_4::<A, B, C, D>(&src.0, &src.1, &src.2, &src.3, dst)
     }
 
     ghost write_laws = { write_laws_by (λ t. (t.0, (t.1, (t.2, t.3))))
@@ -283,6 +421,7 @@ impl<A: SchemaWrite, B: SchemaWrite, C: SchemaWrite, D: SchemaWrite> SchemaWrite
 }
 
 /// The size of 5 members, each seen by a schema of its own: that of a tuple of them.
+#[inline]
 pub fn size_of_members_5<
     A: SchemaWrite,
     B: SchemaWrite,
@@ -299,6 +438,7 @@ pub fn size_of_members_5<
 }
 
 /// Writes 5 members through one window where all have one size.
+#[inline]
 fn write_5<
     A: SchemaWrite,
     B: SchemaWrite,
@@ -313,7 +453,39 @@ fn write_5<
     write_in_window::<Members5<A, B, C, D, E>, W>(writer, src)
 }
 
+/// Puts an encoding of 5 members over all of the bytes.
+#[inline(always)]
+fn encode_5<A: SchemaWrite, B: SchemaWrite, C: SchemaWrite, D: SchemaWrite, E: SchemaWrite>(
+    src: &(A::Src, (B::Src, (C::Src, (D::Src, E::Src)))),
+    dst: &mut [u8],
+) -> bool
+    ensures { let members = ⟦<Members5<A, B, C, D, E> as SchemaWrite>⟧ in
+        IsTrue result → IsEncoded members.writing (members.model src.now) dst.new × members.is_valid src.now }
+{
+    <Members5<A, B, C, D, E> as SchemaWrite>::encode(src, dst)
+}
+
+/// Puts an encoding of 5 members over all of the bytes, each by a schema of its own, as `encode` does of a
+/// tuple of them.
+#[inline(always)]
+pub fn encode_members_5<
+    A: SchemaWrite,
+    B: SchemaWrite,
+    C: SchemaWrite,
+    D: SchemaWrite,
+    E: SchemaWrite,
+>(a: &A::Src, b: &B::Src, c: &C::Src, d: &D::Src, e: &E::Src, dst: &mut [u8]) -> bool
+    ensures { let tuple = ⟦<(A, B, C, D, E) as SchemaWrite>⟧ in
+        IsTrue result → IsEncoded tuple.writing (tuple.model (a.now, b.now, c.now, d.now, e.now)) dst.new × tuple.is_valid (a.now, b.now, c.now, d.now, e.now) }
+{
+    encode_5::<&Member<A>, &Member<B>, &Member<C>, &Member<D>, &Member<E>>(
+        &(a, (b, (c, (d, e)))),
+        dst,
+    )
+}
+
 /// Writes 5 members, each by a schema of its own, as a tuple of them is written.
+#[inline]
 pub fn write_members_5<
     A: SchemaWrite,
     B: SchemaWrite,
@@ -351,8 +523,14 @@ impl<A: SchemaWrite, B: SchemaWrite, C: SchemaWrite, D: SchemaWrite, E: SchemaWr
         size_of_members_5::<A, B, C, D, E>(&src.0, &src.1, &src.2, &src.3, &src.4)
     }
 
+    #[inline]
     fn write<W: Writer>(writer: &mut W, src: &Self::Src) -> WriteResult<()> {
         write_members_5::<A, B, C, D, E, W>(writer, &src.0, &src.1, &src.2, &src.3, &src.4)
+    }
+
+    #[inline(always)]
+    fn encode(src: &Self::Src, dst: &mut [u8]) -> bool {
+        encode_members_5::<A, B, C, D, E>(&src.0, &src.1, &src.2, &src.3, &src.4, dst)
     }
 
     ghost write_laws = { write_laws_by (λ t. (t.0, (t.1, (t.2, (t.3, t.4)))))
@@ -360,6 +538,7 @@ impl<A: SchemaWrite, B: SchemaWrite, C: SchemaWrite, D: SchemaWrite, E: SchemaWr
 }
 
 /// The size of 6 members, each seen by a schema of its own: that of a tuple of them.
+#[inline]
 pub fn size_of_members_6<
     A: SchemaWrite,
     B: SchemaWrite,
@@ -380,6 +559,7 @@ pub fn size_of_members_6<
 }
 
 /// Writes 6 members through one window where all have one size.
+#[inline]
 fn write_6<
     A: SchemaWrite,
     B: SchemaWrite,
@@ -395,7 +575,44 @@ fn write_6<
     write_in_window::<Members6<A, B, C, D, E, F>, W>(writer, src)
 }
 
+/// Puts an encoding of 6 members over all of the bytes.
+#[inline(always)]
+fn encode_6<
+    A: SchemaWrite,
+    B: SchemaWrite,
+    C: SchemaWrite,
+    D: SchemaWrite,
+    E: SchemaWrite,
+    F: SchemaWrite,
+>(src: &(A::Src, (B::Src, (C::Src, (D::Src, (E::Src, F::Src))))), dst: &mut [u8]) -> bool
+    ensures { let members = ⟦<Members6<A, B, C, D, E, F> as SchemaWrite>⟧ in
+        IsTrue result → IsEncoded members.writing (members.model src.now) dst.new × members.is_valid src.now }
+{
+    <Members6<A, B, C, D, E, F> as SchemaWrite>::encode(src, dst)
+}
+
+/// Puts an encoding of 6 members over all of the bytes, each by a schema of its own, as `encode` does of a
+/// tuple of them.
+#[inline(always)]
+pub fn encode_members_6<
+    A: SchemaWrite,
+    B: SchemaWrite,
+    C: SchemaWrite,
+    D: SchemaWrite,
+    E: SchemaWrite,
+    F: SchemaWrite,
+>(a: &A::Src, b: &B::Src, c: &C::Src, d: &D::Src, e: &E::Src, f: &F::Src, dst: &mut [u8]) -> bool
+    ensures { let tuple = ⟦<(A, B, C, D, E, F) as SchemaWrite>⟧ in
+        IsTrue result → IsEncoded tuple.writing (tuple.model (a.now, b.now, c.now, d.now, e.now, f.now)) dst.new × tuple.is_valid (a.now, b.now, c.now, d.now, e.now, f.now) }
+{
+    encode_6::<&Member<A>, &Member<B>, &Member<C>, &Member<D>, &Member<E>, &Member<F>>(
+        &(a, (b, (c, (d, (e, f))))),
+        dst,
+    )
+}
+
 /// Writes 6 members, each by a schema of its own, as a tuple of them is written.
+#[inline]
 pub fn write_members_6<
     A: SchemaWrite,
     B: SchemaWrite,
@@ -451,10 +668,16 @@ impl<
         size_of_members_6::<A, B, C, D, E, F>(&src.0, &src.1, &src.2, &src.3, &src.4, &src.5)
     }
 
+    #[inline]
     fn write<W: Writer>(writer: &mut W, src: &Self::Src) -> WriteResult<()> {
         write_members_6::<A, B, C, D, E, F, W>(
             writer, &src.0, &src.1, &src.2, &src.3, &src.4, &src.5,
         )
+    }
+
+    #[inline(always)]
+    fn encode(src: &Self::Src, dst: &mut [u8]) -> bool {
+        encode_members_6::<A, B, C, D, E, F>(&src.0, &src.1, &src.2, &src.3, &src.4, &src.5, dst)
     }
 
     ghost write_laws = { write_laws_by (λ t. (t.0, (t.1, (t.2, (t.3, (t.4, t.5))))))
@@ -462,6 +685,7 @@ impl<
 }
 
 /// The size of 7 members, each seen by a schema of its own: that of a tuple of them.
+#[inline]
 pub fn size_of_members_7<
     A: SchemaWrite,
     B: SchemaWrite,
@@ -491,6 +715,7 @@ pub fn size_of_members_7<
 }
 
 /// Writes 7 members through one window where all have one size.
+#[inline]
 fn write_7<
     A: SchemaWrite,
     B: SchemaWrite,
@@ -513,7 +738,61 @@ fn write_7<
     write_in_window::<Members7<A, B, C, D, E, F, G>, W>(writer, src)
 }
 
+/// Puts an encoding of 7 members over all of the bytes.
+#[inline(always)]
+fn encode_7<
+    A: SchemaWrite,
+    B: SchemaWrite,
+    C: SchemaWrite,
+    D: SchemaWrite,
+    E: SchemaWrite,
+    F: SchemaWrite,
+    G: SchemaWrite,
+>(
+    src: &(
+        A::Src,
+        (B::Src, (C::Src, (D::Src, (E::Src, (F::Src, G::Src))))),
+    ),
+    dst: &mut [u8],
+) -> bool
+    ensures { let members = ⟦<Members7<A, B, C, D, E, F, G> as SchemaWrite>⟧ in
+        IsTrue result → IsEncoded members.writing (members.model src.now) dst.new × members.is_valid src.now }
+{
+    <Members7<A, B, C, D, E, F, G> as SchemaWrite>::encode(src, dst)
+}
+
+/// Puts an encoding of 7 members over all of the bytes, each by a schema of its own, as `encode` does of a
+/// tuple of them.
+#[inline(always)]
+pub fn encode_members_7<
+    A: SchemaWrite,
+    B: SchemaWrite,
+    C: SchemaWrite,
+    D: SchemaWrite,
+    E: SchemaWrite,
+    F: SchemaWrite,
+    G: SchemaWrite,
+>(
+    a: &A::Src,
+    b: &B::Src,
+    c: &C::Src,
+    d: &D::Src,
+    e: &E::Src,
+    f: &F::Src,
+    g: &G::Src,
+    dst: &mut [u8],
+) -> bool
+    ensures { let tuple = ⟦<(A, B, C, D, E, F, G) as SchemaWrite>⟧ in
+        IsTrue result → IsEncoded tuple.writing (tuple.model (a.now, b.now, c.now, d.now, e.now, f.now, g.now)) dst.new × tuple.is_valid (a.now, b.now, c.now, d.now, e.now, f.now, g.now) }
+{
+    encode_7::<&Member<A>, &Member<B>, &Member<C>, &Member<D>, &Member<E>, &Member<F>, &Member<G>>(
+        &(a, (b, (c, (d, (e, (f, g)))))),
+        dst,
+    )
+}
+
 /// Writes 7 members, each by a schema of its own, as a tuple of them is written.
+#[inline]
 pub fn write_members_7<
     A: SchemaWrite,
     B: SchemaWrite,
@@ -580,9 +859,29 @@ impl<
         )
     }
 
+    #[inline]
     fn write<W: Writer>(writer: &mut W, src: &Self::Src) -> WriteResult<()> {
         write_members_7::<A, B, C, D, E, F, G, W>(
             writer, &src.0, &src.1, &src.2, &src.3, &src.4, &src.5, &src.6,
+        )
+    }
+
+    #[inline(always)]
+    fn encode(src: &Self::Src, dst: &mut [u8]) -> bool {
+        encode_7::<
+            &Member<A>,
+            &Member<B>,
+            &Member<C>,
+            &Member<D>,
+            &Member<E>,
+            &Member<F>,
+            &Member<G>,
+        >(
+            &(
+                &src.0,
+                (&src.1, (&src.2, (&src.3, (&src.4, (&src.5, &src.6))))),
+            ),
+            dst,
         )
     }
 
@@ -591,6 +890,7 @@ impl<
 }
 
 /// The size of 8 members, each seen by a schema of its own: that of a tuple of them.
+#[inline]
 pub fn size_of_members_8<
     A: SchemaWrite,
     B: SchemaWrite,
@@ -622,6 +922,7 @@ pub fn size_of_members_8<
 }
 
 /// Writes 8 members through one window where all have one size.
+#[inline]
 fn write_8<
     A: SchemaWrite,
     B: SchemaWrite,
@@ -648,7 +949,73 @@ fn write_8<
     write_in_window::<Members8<A, B, C, D, E, F, G, H>, W>(writer, src)
 }
 
+/// Puts an encoding of 8 members over all of the bytes.
+#[inline(always)]
+fn encode_8<
+    A: SchemaWrite,
+    B: SchemaWrite,
+    C: SchemaWrite,
+    D: SchemaWrite,
+    E: SchemaWrite,
+    F: SchemaWrite,
+    G: SchemaWrite,
+    H: SchemaWrite,
+>(
+    src: &(
+        A::Src,
+        (
+            B::Src,
+            (C::Src, (D::Src, (E::Src, (F::Src, (G::Src, H::Src))))),
+        ),
+    ),
+    dst: &mut [u8],
+) -> bool
+    ensures { let members = ⟦<Members8<A, B, C, D, E, F, G, H> as SchemaWrite>⟧ in
+        IsTrue result → IsEncoded members.writing (members.model src.now) dst.new × members.is_valid src.now }
+{
+    <Members8<A, B, C, D, E, F, G, H> as SchemaWrite>::encode(src, dst)
+}
+
+/// Puts an encoding of 8 members over all of the bytes, each by a schema of its own, as `encode` does of a
+/// tuple of them.
+#[inline(always)]
+pub fn encode_members_8<
+    A: SchemaWrite,
+    B: SchemaWrite,
+    C: SchemaWrite,
+    D: SchemaWrite,
+    E: SchemaWrite,
+    F: SchemaWrite,
+    G: SchemaWrite,
+    H: SchemaWrite,
+>(
+    a: &A::Src,
+    b: &B::Src,
+    c: &C::Src,
+    d: &D::Src,
+    e: &E::Src,
+    f: &F::Src,
+    g: &G::Src,
+    h: &H::Src,
+    dst: &mut [u8],
+) -> bool
+    ensures { let tuple = ⟦<(A, B, C, D, E, F, G, H) as SchemaWrite>⟧ in
+        IsTrue result → IsEncoded tuple.writing (tuple.model (a.now, b.now, c.now, d.now, e.now, f.now, g.now, h.now)) dst.new × tuple.is_valid (a.now, b.now, c.now, d.now, e.now, f.now, g.now, h.now) }
+{
+    encode_8::<
+        &Member<A>,
+        &Member<B>,
+        &Member<C>,
+        &Member<D>,
+        &Member<E>,
+        &Member<F>,
+        &Member<G>,
+        &Member<H>,
+    >(&(a, (b, (c, (d, (e, (f, (g, h))))))), dst)
+}
+
 /// Writes 8 members, each by a schema of its own, as a tuple of them is written.
+#[inline]
 pub fn write_members_8<
     A: SchemaWrite,
     B: SchemaWrite,
@@ -728,9 +1095,33 @@ impl<
         )
     }
 
+    #[inline]
     fn write<W: Writer>(writer: &mut W, src: &Self::Src) -> WriteResult<()> {
         write_members_8::<A, B, C, D, E, F, G, H, W>(
             writer, &src.0, &src.1, &src.2, &src.3, &src.4, &src.5, &src.6, &src.7,
+        )
+    }
+
+    #[inline(always)]
+    fn encode(src: &Self::Src, dst: &mut [u8]) -> bool {
+        encode_8::<
+            &Member<A>,
+            &Member<B>,
+            &Member<C>,
+            &Member<D>,
+            &Member<E>,
+            &Member<F>,
+            &Member<G>,
+            &Member<H>,
+        >(
+            &(
+                &src.0,
+                (
+                    &src.1,
+                    (&src.2, (&src.3, (&src.4, (&src.5, (&src.6, &src.7))))),
+                ),
+            ),
+            dst,
         )
     }
 

@@ -16,8 +16,8 @@ returns-in_err-window-clause-succeeds c = λ some front. absurd (record_served _
 pub returns-clause-gave : goal.returns-clause-gave
 returns-clause-gave c =
     let w = c.in_ok-window.ensures.ok in
-    get_map record_read _ record_read _ c.get.result (λ d x. record_gives w d.0 d.1 d.2 x) (λ e x. record_refused w e x) c.get.ensures
+    get_map record_read _ record_read _ c.get.result (λ d x. record_gives w d.0 d.1 d.2 x) (λ e x. record_refused w e refl x) c.get.ensures
 
 pub returns-clause-succeeds : goal.returns-clause-succeeds
 returns-clause-succeeds c =
-    λ some front. ok_by c.get.result (λ e r. record_read_through c.in_ok-window.ensures.ok e refl front r) c.get.ensures.refused
+    λ some front. ok_by c.get.result (λ e r. record_read_through c.in_ok-window.ensures.ok e refl refl front r) c.get.ensures.refused

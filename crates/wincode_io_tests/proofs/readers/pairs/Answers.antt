@@ -1,6 +1,6 @@
-use Rattle.std.proofs.Common.{◌≡◌, ℕ, ◌≤◌, length, take, List, ◌++◌, arith, lit≤}
+use Rattle.std.proofs.Common.{rules, ◌∙◌, sym, ◌≡◌, ℕ, ◌≤◌, length, take, List, ◌++◌, arith, lit≤}
 use Rattle.std.proofs.lemmas.Grind.{common_steps}
-use Rattle.wincode_io.proofs.Served.{windowed, lost, served}
+use Rattle.wincode_io.proofs.Served.{windowed, lost, served, window_served}
 use Rattle.wincode_io_tests.proofs.readers.pairs.Goals as goal
 
 -- a front and a front of what comes after it
@@ -18,8 +18,12 @@ pub returns-in_err-inner-clause-err : goal.returns-in_err-inner-clause-err
 returns-in_err-inner-clause-err g c =
     let refused = c.in_err-inner.ensures.err in
     let taken = c.in_ok-copy_into_array.ensures.ok in
-    let outer = lost (windowed c.in_ok-outer.ensures.ok) taken.loses in
-    absurd (served 4 _ _ _ outer (lit≤ tt) refused.0 refused.1)
+    let window = c.in_ok-outer.ensures.ok in
+    let outer = lost (windowed window) taken.loses in
+    let h = window_served 4 _ _ _ outer (lit≤ tt) refused.0 refused.1 in
+    let counts = sym (refused.0.kept.counts_windows ∙ taken.loses.kept.counts_windows ∙ window.counts_windows) ∙ h.0 in
+    let lost_all = window.takes.loses in
+    let full = h.1 in search (rules, counts, lost_all, full)
 
 pub returns-in_err-copy_into_slice-clause-err : goal.returns-in_err-copy_into_slice-clause-err
 returns-in_err-copy_into_slice-clause-err g c =

@@ -1,15 +1,182 @@
 //! Schemas of tuples of 9 to 12 members.
+ghost use Rattle.std.specs.Prelude.{IsTrue};
 ghost use Rattle.wincode_base.specs.InWindow.{windowed_read};
 ghost use Rattle.wincode_base.specs.PairLaws.{pair_read_laws, windowed_read_laws};
 
 use crate::schema::SchemaRead;
-use crate::schema::tuples::{FromPairs, read_pairs};
+use crate::schema::tuples::{FromPairs, blank_pairs, decode_8, read_pairs};
 use std::alloc::Global;
 use wincode_base::error::ReadResult;
 use wincode_base::meta::TypeMeta;
 use wincode_base::parts::{Members9, Members10, Members11, Members12};
 use wincode_base::sizes::joined_meta;
 use wincode_io::{Lending, Reader};
+
+/// Puts the values of 9 members that stand one after another over those in the places, where these bytes are all of
+/// them.
+#[inline(always)]
+fn decode_9<
+    L: Lending,
+    A: SchemaRead<L>,
+    B: SchemaRead<L>,
+    C: SchemaRead<L>,
+    D: SchemaRead<L>,
+    E: SchemaRead<L>,
+    F: SchemaRead<L>,
+    G: SchemaRead<L>,
+    H: SchemaRead<L>,
+    I: SchemaRead<L>,
+>(
+    bytes: &[u8],
+    a: &mut A::Dst,
+    b: &mut B::Dst,
+    c: &mut C::Dst,
+    d: &mut D::Dst,
+    e: &mut E::Dst,
+    f: &mut F::Dst,
+    g: &mut G::Dst,
+    h: &mut H::Dst,
+    i: &mut I::Dst,
+) -> bool
+    ensures { IsTrue result → ⟦<Members9<A, B, C, D, E, F, G, H, I> as SchemaRead<L>>⟧.reading.reads bytes.now (A.model a.new, (B.model b.new, (C.model c.new, (D.model d.new, (E.model e.new, (F.model f.new, (G.model g.new, (H.model h.new, I.model i.new)))))))) }
+{
+    match A::type_meta() {
+        TypeMeta::Static { size, .. } if size <= bytes.len() => {
+            let (front, back) = bytes.split_at(size);
+            A::decode(front, a)
+                && decode_8::<L, B, C, D, E, F, G, H, I>(back, b, c, d, e, f, g, h, i)
+        }
+        _ => false,
+    }
+}
+
+/// Puts the values of 10 members that stand one after another over those in the places, where these bytes are all of
+/// them.
+#[inline(always)]
+fn decode_10<
+    L: Lending,
+    A: SchemaRead<L>,
+    B: SchemaRead<L>,
+    C: SchemaRead<L>,
+    D: SchemaRead<L>,
+    E: SchemaRead<L>,
+    F: SchemaRead<L>,
+    G: SchemaRead<L>,
+    H: SchemaRead<L>,
+    I: SchemaRead<L>,
+    J: SchemaRead<L>,
+>(
+    bytes: &[u8],
+    a: &mut A::Dst,
+    b: &mut B::Dst,
+    c: &mut C::Dst,
+    d: &mut D::Dst,
+    e: &mut E::Dst,
+    f: &mut F::Dst,
+    g: &mut G::Dst,
+    h: &mut H::Dst,
+    i: &mut I::Dst,
+    j: &mut J::Dst,
+) -> bool
+    ensures { IsTrue result → ⟦<Members10<A, B, C, D, E, F, G, H, I, J> as SchemaRead<L>>⟧.reading.reads bytes.now (A.model a.new, (B.model b.new, (C.model c.new, (D.model d.new, (E.model e.new, (F.model f.new, (G.model g.new, (H.model h.new, (I.model i.new, J.model j.new))))))))) }
+{
+    match A::type_meta() {
+        TypeMeta::Static { size, .. } if size <= bytes.len() => {
+            let (front, back) = bytes.split_at(size);
+            A::decode(front, a)
+                && decode_9::<L, B, C, D, E, F, G, H, I, J>(back, b, c, d, e, f, g, h, i, j)
+        }
+        _ => false,
+    }
+}
+
+/// Puts the values of 11 members that stand one after another over those in the places, where these bytes are all of
+/// them.
+#[inline(always)]
+fn decode_11<
+    L: Lending,
+    A: SchemaRead<L>,
+    B: SchemaRead<L>,
+    C: SchemaRead<L>,
+    D: SchemaRead<L>,
+    E: SchemaRead<L>,
+    F: SchemaRead<L>,
+    G: SchemaRead<L>,
+    H: SchemaRead<L>,
+    I: SchemaRead<L>,
+    J: SchemaRead<L>,
+    K: SchemaRead<L>,
+>(
+    bytes: &[u8],
+    a: &mut A::Dst,
+    b: &mut B::Dst,
+    c: &mut C::Dst,
+    d: &mut D::Dst,
+    e: &mut E::Dst,
+    f: &mut F::Dst,
+    g: &mut G::Dst,
+    h: &mut H::Dst,
+    i: &mut I::Dst,
+    j: &mut J::Dst,
+    k: &mut K::Dst,
+) -> bool
+    ensures { IsTrue result → ⟦<Members11<A, B, C, D, E, F, G, H, I, J, K> as SchemaRead<L>>⟧.reading.reads bytes.now (A.model a.new, (B.model b.new, (C.model c.new, (D.model d.new, (E.model e.new, (F.model f.new, (G.model g.new, (H.model h.new, (I.model i.new, (J.model j.new, K.model k.new)))))))))) }
+{
+    match A::type_meta() {
+        TypeMeta::Static { size, .. } if size <= bytes.len() => {
+            let (front, back) = bytes.split_at(size);
+            A::decode(front, a)
+                && decode_10::<L, B, C, D, E, F, G, H, I, J, K>(back, b, c, d, e, f, g, h, i, j, k)
+        }
+        _ => false,
+    }
+}
+
+/// Puts the values of 12 members that stand one after another over those in the places, where these bytes are all of
+/// them.
+#[inline(always)]
+fn decode_12<
+    L: Lending,
+    A: SchemaRead<L>,
+    B: SchemaRead<L>,
+    C: SchemaRead<L>,
+    D: SchemaRead<L>,
+    E: SchemaRead<L>,
+    F: SchemaRead<L>,
+    G: SchemaRead<L>,
+    H: SchemaRead<L>,
+    I: SchemaRead<L>,
+    J: SchemaRead<L>,
+    K: SchemaRead<L>,
+    M: SchemaRead<L>,
+>(
+    bytes: &[u8],
+    a: &mut A::Dst,
+    b: &mut B::Dst,
+    c: &mut C::Dst,
+    d: &mut D::Dst,
+    e: &mut E::Dst,
+    f: &mut F::Dst,
+    g: &mut G::Dst,
+    h: &mut H::Dst,
+    i: &mut I::Dst,
+    j: &mut J::Dst,
+    k: &mut K::Dst,
+    m: &mut M::Dst,
+) -> bool
+    ensures { IsTrue result → ⟦<Members12<A, B, C, D, E, F, G, H, I, J, K, M> as SchemaRead<L>>⟧.reading.reads bytes.now (A.model a.new, (B.model b.new, (C.model c.new, (D.model d.new, (E.model e.new, (F.model f.new, (G.model g.new, (H.model h.new, (I.model i.new, (J.model j.new, (K.model k.new, M.model m.new))))))))))) }
+{
+    match A::type_meta() {
+        TypeMeta::Static { size, .. } if size <= bytes.len() => {
+            let (front, back) = bytes.split_at(size);
+            A::decode(front, a)
+                && decode_11::<L, B, C, D, E, F, G, H, I, J, K, M>(
+                    back, b, c, d, e, f, g, h, i, j, k, m,
+                )
+        }
+        _ => false,
+    }
+}
 
 impl<A, B, C, D, E, F, G, H, I> FromPairs<(A, (B, (C, (D, (E, (F, (G, (H, I))))))))>
     for (A, B, C, D, E, F, G, H, I) {
@@ -66,12 +233,34 @@ impl<
         >>::prealloc_size())
     }
 
+    #[inline]
     fn read<R: Reader<L>>(
         alloc: Global,
         reader: &mut R,
         dst: &mut Option<Self::Dst>,
     ) -> ReadResult<()> {
         read_pairs::<L, Members9<A, B, C, D, E, F, G, H, I>, Self::Dst, R>(alloc, reader, dst)
+    }
+
+    #[inline(always)]
+    fn blank() -> Option<Self::Dst> {
+        blank_pairs::<L, Members9<A, B, C, D, E, F, G, H, I>, Self::Dst>()
+    }
+
+    #[inline(always)]
+    fn decode(bytes: &[u8], place: &mut Self::Dst) -> bool {
+        decode_9::<L, A, B, C, D, E, F, G, H, I>(
+            bytes,
+            &mut place.0,
+            &mut place.1,
+            &mut place.2,
+            &mut place.3,
+            &mut place.4,
+            &mut place.5,
+            &mut place.6,
+            &mut place.7,
+            &mut place.8,
+        )
     }
 
     ghost read_laws = { windowed_read_laws (pair_read_laws A.read_laws (pair_read_laws B.read_laws (pair_read_laws C.read_laws (pair_read_laws D.read_laws (pair_read_laws E.read_laws (pair_read_laws F.read_laws (pair_read_laws G.read_laws (pair_read_laws H.read_laws I.read_laws)))))))) };
@@ -136,12 +325,35 @@ impl<
         >>::prealloc_size())
     }
 
+    #[inline]
     fn read<R: Reader<L>>(
         alloc: Global,
         reader: &mut R,
         dst: &mut Option<Self::Dst>,
     ) -> ReadResult<()> {
         read_pairs::<L, Members10<A, B, C, D, E, F, G, H, I, J>, Self::Dst, R>(alloc, reader, dst)
+    }
+
+    #[inline(always)]
+    fn blank() -> Option<Self::Dst> {
+        blank_pairs::<L, Members10<A, B, C, D, E, F, G, H, I, J>, Self::Dst>()
+    }
+
+    #[inline(always)]
+    fn decode(bytes: &[u8], place: &mut Self::Dst) -> bool {
+        decode_10::<L, A, B, C, D, E, F, G, H, I, J>(
+            bytes,
+            &mut place.0,
+            &mut place.1,
+            &mut place.2,
+            &mut place.3,
+            &mut place.4,
+            &mut place.5,
+            &mut place.6,
+            &mut place.7,
+            &mut place.8,
+            &mut place.9,
+        )
     }
 
     ghost read_laws = { windowed_read_laws (pair_read_laws A.read_laws (pair_read_laws B.read_laws (pair_read_laws C.read_laws (pair_read_laws D.read_laws (pair_read_laws E.read_laws (pair_read_laws F.read_laws (pair_read_laws G.read_laws (pair_read_laws H.read_laws (pair_read_laws I.read_laws J.read_laws))))))))) };
@@ -208,6 +420,7 @@ impl<
         >>::prealloc_size())
     }
 
+    #[inline]
     fn read<R: Reader<L>>(
         alloc: Global,
         reader: &mut R,
@@ -215,6 +428,29 @@ impl<
     ) -> ReadResult<()> {
         read_pairs::<L, Members11<A, B, C, D, E, F, G, H, I, J, K>, Self::Dst, R>(
             alloc, reader, dst,
+        )
+    }
+
+    #[inline(always)]
+    fn blank() -> Option<Self::Dst> {
+        blank_pairs::<L, Members11<A, B, C, D, E, F, G, H, I, J, K>, Self::Dst>()
+    }
+
+    #[inline(always)]
+    fn decode(bytes: &[u8], place: &mut Self::Dst) -> bool {
+        decode_11::<L, A, B, C, D, E, F, G, H, I, J, K>(
+            bytes,
+            &mut place.0,
+            &mut place.1,
+            &mut place.2,
+            &mut place.3,
+            &mut place.4,
+            &mut place.5,
+            &mut place.6,
+            &mut place.7,
+            &mut place.8,
+            &mut place.9,
+            &mut place.10,
         )
     }
 
@@ -285,6 +521,7 @@ impl<
         >>::prealloc_size())
     }
 
+    #[inline]
     fn read<R: Reader<L>>(
         alloc: Global,
         reader: &mut R,
@@ -292,6 +529,30 @@ impl<
     ) -> ReadResult<()> {
         read_pairs::<L, Members12<A, B, C, D, E, F, G, H, I, J, K, M>, Self::Dst, R>(
             alloc, reader, dst,
+        )
+    }
+
+    #[inline(always)]
+    fn blank() -> Option<Self::Dst> {
+        blank_pairs::<L, Members12<A, B, C, D, E, F, G, H, I, J, K, M>, Self::Dst>()
+    }
+
+    #[inline(always)]
+    fn decode(bytes: &[u8], place: &mut Self::Dst) -> bool {
+        decode_12::<L, A, B, C, D, E, F, G, H, I, J, K, M>(
+            bytes,
+            &mut place.0,
+            &mut place.1,
+            &mut place.2,
+            &mut place.3,
+            &mut place.4,
+            &mut place.5,
+            &mut place.6,
+            &mut place.7,
+            &mut place.8,
+            &mut place.9,
+            &mut place.10,
+            &mut place.11,
         )
     }
 

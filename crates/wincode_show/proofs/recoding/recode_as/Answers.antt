@@ -1,54 +1,15 @@
 use Rattle.std.proofs.Common.{rules, refl, ◌<◌, ◌^◌, length}
 use Rattle.std.proofs.lemmas.Result.{IfOk-weaker, IfErr-weaker}
-use Rattle.wincode_show.proofs.Shapes.{recoded, kept, unrecoded}
-use Rattle.wincode_show.specs.declared.recoding.KnownShape.TheVariants.{Nested, Text, Short, Record, Pairs}
+use Rattle.wincode_show.proofs.Shapes.{unrecoded_bytes}
 use Rattle.wincode_show.proofs.recoding.recode_as.Goals as goal
 
-pub returns-in-Nested-clause-ok : goal.returns-in-Nested-clause-ok
-returns-in-Nested-clause-ok c = rw c.in-Nested.is (IfOk-weaker c.recode_by.result _ _ (λ text r. recoded Nested _ c.args.bytes.now text.items (r refl)) c.recode_by.ensures.ok)
+pub returns-clause-ok : goal.returns-clause-ok
+returns-clause-ok c = IfOk-weaker c.recode_input.result _ _ (λ text r. r refl) c.recode_input.ensures.ok
 
-pub returns-in-Nested-clause-kept : goal.returns-in-Nested-clause-kept
-returns-in-Nested-clause-kept c = rw c.in-Nested.is (IfOk-weaker c.recode_by.result _ _ (λ text r. kept Nested _ c.args.bytes.now text.items (r refl)) c.recode_by.ensures.ok)
+pub returns-clause-kept : goal.returns-clause-kept
+returns-clause-kept c = IfOk-weaker c.recode_input.result _ _ (λ text r. r refl) c.recode_input.ensures.kept
 
-pub returns-in-Nested-clause-err : goal.returns-in-Nested-clause-err
-returns-in-Nested-clause-err c =
+pub returns-clause-err : goal.returns-clause-err
+returns-clause-err c =
     let small : length c.args.bytes.now < 2 ^ 64 = search rules in
-    rw c.in-Nested.is (IfErr-weaker c.recode_by.result _ _ (λ e u. unrecoded Nested _ c.args.bytes.now e small u) c.recode_by.ensures.err)
-
-pub returns-in-Text-clause-ok : goal.returns-in-Text-clause-ok
-returns-in-Text-clause-ok c = rw c.in-Text.is (IfOk-weaker c.recode_by-in-Text.result _ _ (λ text r. recoded Text _ c.args.bytes.now text.items (r refl)) c.recode_by-in-Text.ensures.ok)
-
-pub returns-in-Text-clause-err : goal.returns-in-Text-clause-err
-returns-in-Text-clause-err c =
-    let small : length c.args.bytes.now < 2 ^ 64 = search rules in
-    rw c.in-Text.is (IfErr-weaker c.recode_by-in-Text.result _ _ (λ e u. unrecoded Text _ c.args.bytes.now e small u) c.recode_by-in-Text.ensures.err)
-
-pub returns-in-Short-clause-ok : goal.returns-in-Short-clause-ok
-returns-in-Short-clause-ok c = rw c.in-Short.is (IfOk-weaker c.recode_by-in-Short.result _ _ (λ text r. recoded Short _ c.args.bytes.now text.items (r refl)) c.recode_by-in-Short.ensures.ok)
-
-pub returns-in-Short-clause-kept : goal.returns-in-Short-clause-kept
-returns-in-Short-clause-kept c = rw c.in-Short.is (IfOk-weaker c.recode_by-in-Short.result _ _ (λ text r. kept Short _ c.args.bytes.now text.items (r refl)) c.recode_by-in-Short.ensures.ok)
-
-pub returns-in-Short-clause-err : goal.returns-in-Short-clause-err
-returns-in-Short-clause-err c =
-    let small : length c.args.bytes.now < 2 ^ 64 = search rules in
-    rw c.in-Short.is (IfErr-weaker c.recode_by-in-Short.result _ _ (λ e u. unrecoded Short _ c.args.bytes.now e small u) c.recode_by-in-Short.ensures.err)
-
-pub returns-in-Record-clause-ok : goal.returns-in-Record-clause-ok
-returns-in-Record-clause-ok c = rw c.in-Record.is (IfOk-weaker c.recode_by-in-Record.result _ _ (λ text r. recoded Record _ c.args.bytes.now text.items (r refl)) c.recode_by-in-Record.ensures.ok)
-
-pub returns-in-Record-clause-kept : goal.returns-in-Record-clause-kept
-returns-in-Record-clause-kept c = rw c.in-Record.is (IfOk-weaker c.recode_by-in-Record.result _ _ (λ text r. kept Record _ c.args.bytes.now text.items (r refl)) c.recode_by-in-Record.ensures.ok)
-
-pub returns-in-Record-clause-err : goal.returns-in-Record-clause-err
-returns-in-Record-clause-err c =
-    let small : length c.args.bytes.now < 2 ^ 64 = search rules in
-    rw c.in-Record.is (IfErr-weaker c.recode_by-in-Record.result _ _ (λ e u. unrecoded Record _ c.args.bytes.now e small u) c.recode_by-in-Record.ensures.err)
-
-pub returns-in-Pairs-clause-ok : goal.returns-in-Pairs-clause-ok
-returns-in-Pairs-clause-ok c = rw c.in-Pairs.is (IfOk-weaker c.recode_by-in-Pairs.result _ _ (λ text r. recoded Pairs _ c.args.bytes.now text.items (r refl)) c.recode_by-in-Pairs.ensures.ok)
-
-pub returns-in-Pairs-clause-err : goal.returns-in-Pairs-clause-err
-returns-in-Pairs-clause-err c =
-    let small : length c.args.bytes.now < 2 ^ 64 = search rules in
-    rw c.in-Pairs.is (IfErr-weaker c.recode_by-in-Pairs.result _ _ (λ e u. unrecoded Pairs _ c.args.bytes.now e small u) c.recode_by-in-Pairs.ensures.err)
+    IfErr-weaker c.recode_input.result _ _ (λ e u. unrecoded_bytes c.args.shape c.args.bytes.now e small u) c.recode_input.ensures.err

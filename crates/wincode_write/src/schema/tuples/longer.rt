@@ -1,7 +1,7 @@
 //! Schemas of tuples of 9 to 12 members.
-ghost use Rattle.std.specs.Prelude.{IfOk, IfErr};
+ghost use Rattle.std.specs.Prelude.{IsTrue, IfOk, IfErr};
 ghost use Rattle.wincode_base.specs.InWindow.{windowed_write};
-ghost use Rattle.wincode_base.specs.Outcomes.{IsSized, SizeRefused, WriteOutcome};
+ghost use Rattle.wincode_base.specs.Outcomes.{IsSized, IsEncoded, SizeRefused, WriteOutcome};
 ghost use Rattle.wincode_base.specs.PairLaws.{write_laws_by, windowed_write_laws};
 
 use super::size_of_members_8;
@@ -14,6 +14,7 @@ use wincode_base::sizes::{joined_meta, joined_size};
 use wincode_io::Writer;
 
 /// The size of 9 members, each seen by a schema of its own: that of a tuple of them.
+#[inline]
 pub fn size_of_members_9<
     A: SchemaWrite,
     B: SchemaWrite,
@@ -47,6 +48,7 @@ pub fn size_of_members_9<
 }
 
 /// Writes 9 members through one window where all have one size.
+#[inline]
 fn write_9<
     A: SchemaWrite,
     B: SchemaWrite,
@@ -77,7 +79,80 @@ fn write_9<
     write_in_window::<Members9<A, B, C, D, E, F, G, H, I>, W>(writer, src)
 }
 
+/// Puts an encoding of 9 members over all of the bytes.
+#[inline(always)]
+fn encode_9<
+    A: SchemaWrite,
+    B: SchemaWrite,
+    C: SchemaWrite,
+    D: SchemaWrite,
+    E: SchemaWrite,
+    F: SchemaWrite,
+    G: SchemaWrite,
+    H: SchemaWrite,
+    I: SchemaWrite,
+>(
+    src: &(
+        A::Src,
+        (
+            B::Src,
+            (
+                C::Src,
+                (D::Src, (E::Src, (F::Src, (G::Src, (H::Src, I::Src))))),
+            ),
+        ),
+    ),
+    dst: &mut [u8],
+) -> bool
+    ensures { let members = ⟦<Members9<A, B, C, D, E, F, G, H, I> as SchemaWrite>⟧ in
+        IsTrue result → IsEncoded members.writing (members.model src.now) dst.new × members.is_valid src.now }
+{
+    <Members9<A, B, C, D, E, F, G, H, I> as SchemaWrite>::encode(src, dst)
+}
+
+/// Puts an encoding of 9 members over all of the bytes, each by a schema of its own, as `encode` does of a
+/// tuple of them.
+#[inline(always)]
+pub fn encode_members_9<
+    A: SchemaWrite,
+    B: SchemaWrite,
+    C: SchemaWrite,
+    D: SchemaWrite,
+    E: SchemaWrite,
+    F: SchemaWrite,
+    G: SchemaWrite,
+    H: SchemaWrite,
+    I: SchemaWrite,
+>(
+    a: &A::Src,
+    b: &B::Src,
+    c: &C::Src,
+    d: &D::Src,
+    e: &E::Src,
+    f: &F::Src,
+    g: &G::Src,
+    h: &H::Src,
+    i: &I::Src,
+    dst: &mut [u8],
+) -> bool
+    ensures { let tuple = ⟦<(A, B, C, D, E, F, G, H, I) as SchemaWrite>⟧ in
+        IsTrue result → IsEncoded tuple.writing (tuple.model (a.now, b.now, c.now, d.now, e.now, f.now, g.now, h.now, i.now)) dst.new × tuple.is_valid (a.now, b.now, c.now, d.now, e.now, f.now, g.now, h.now, i.now) }
+{
+    encode_9::<
+        &Member<A>,
+        &Member<B>,
+        &Member<C>,
+        &Member<D>,
+        &Member<E>,
+        &Member<F>,
+        &Member<G>,
+        &Member<H>,
+        &Member<I>,
+    >(&(a, (b, (c, (d, (e, (f, (g, (h, i)))))))), dst)
+}
+
 /// Writes 9 members, each by a schema of its own, as a tuple of them is written.
+#[inline]
 pub fn write_members_9<
     A: SchemaWrite,
     B: SchemaWrite,
@@ -162,9 +237,37 @@ impl<
         )
     }
 
+    #[inline]
     fn write<W: Writer>(writer: &mut W, src: &Self::Src) -> WriteResult<()> {
         write_members_9::<A, B, C, D, E, F, G, H, I, W>(
             writer, &src.0, &src.1, &src.2, &src.3, &src.4, &src.5, &src.6, &src.7, &src.8,
+        )
+    }
+
+    #[inline(always)]
+    fn encode(src: &Self::Src, dst: &mut [u8]) -> bool {
+        encode_9::<
+            &Member<A>,
+            &Member<B>,
+            &Member<C>,
+            &Member<D>,
+            &Member<E>,
+            &Member<F>,
+            &Member<G>,
+            &Member<H>,
+            &Member<I>,
+        >(
+            &(
+                &src.0,
+                (
+                    &src.1,
+                    (
+                        &src.2,
+                        (&src.3, (&src.4, (&src.5, (&src.6, (&src.7, &src.8))))),
+                    ),
+                ),
+            ),
+            dst,
         )
     }
 
@@ -173,6 +276,7 @@ impl<
 }
 
 /// The size of 10 members, each seen by a schema of its own: that of a tuple of them.
+#[inline]
 pub fn size_of_members_10<
     A: SchemaWrite,
     B: SchemaWrite,
@@ -208,6 +312,7 @@ pub fn size_of_members_10<
 }
 
 /// Writes 10 members through one window where all have one size.
+#[inline]
 fn write_10<
     A: SchemaWrite,
     B: SchemaWrite,
@@ -242,7 +347,87 @@ fn write_10<
     write_in_window::<Members10<A, B, C, D, E, F, G, H, I, J>, W>(writer, src)
 }
 
+/// Puts an encoding of 10 members over all of the bytes.
+#[inline(always)]
+fn encode_10<
+    A: SchemaWrite,
+    B: SchemaWrite,
+    C: SchemaWrite,
+    D: SchemaWrite,
+    E: SchemaWrite,
+    F: SchemaWrite,
+    G: SchemaWrite,
+    H: SchemaWrite,
+    I: SchemaWrite,
+    J: SchemaWrite,
+>(
+    src: &(
+        A::Src,
+        (
+            B::Src,
+            (
+                C::Src,
+                (
+                    D::Src,
+                    (E::Src, (F::Src, (G::Src, (H::Src, (I::Src, J::Src))))),
+                ),
+            ),
+        ),
+    ),
+    dst: &mut [u8],
+) -> bool
+    ensures { let members = ⟦<Members10<A, B, C, D, E, F, G, H, I, J> as SchemaWrite>⟧ in
+        IsTrue result → IsEncoded members.writing (members.model src.now) dst.new × members.is_valid src.now }
+{
+    <Members10<A, B, C, D, E, F, G, H, I, J> as SchemaWrite>::encode(src, dst)
+}
+
+/// Puts an encoding of 10 members over all of the bytes, each by a schema of its own, as `encode` does of a
+/// tuple of them.
+#[inline(always)]
+pub fn encode_members_10<
+    A: SchemaWrite,
+    B: SchemaWrite,
+    C: SchemaWrite,
+    D: SchemaWrite,
+    E: SchemaWrite,
+    F: SchemaWrite,
+    G: SchemaWrite,
+    H: SchemaWrite,
+    I: SchemaWrite,
+    J: SchemaWrite,
+>(
+    a: &A::Src,
+    b: &B::Src,
+    c: &C::Src,
+    d: &D::Src,
+    e: &E::Src,
+    f: &F::Src,
+    g: &G::Src,
+    h: &H::Src,
+    i: &I::Src,
+    j: &J::Src,
+    dst: &mut [u8],
+) -> bool
+    ensures { let tuple = ⟦<(A, B, C, D, E, F, G, H, I, J) as SchemaWrite>⟧ in
+        IsTrue result → IsEncoded tuple.writing (tuple.model (a.now, b.now, c.now, d.now, e.now, f.now, g.now, h.now, i.now, j.now)) dst.new × tuple.is_valid (a.now, b.now, c.now, d.now, e.now, f.now, g.now, h.now, i.now, j.now) }
+{
+    encode_10::<
+        &Member<A>,
+        &Member<B>,
+        &Member<C>,
+        &Member<D>,
+        &Member<E>,
+        &Member<F>,
+        &Member<G>,
+        &Member<H>,
+        &Member<I>,
+        &Member<J>,
+    >(&(a, (b, (c, (d, (e, (f, (g, (h, (i, j))))))))), dst)
+}
+
 /// Writes 10 members, each by a schema of its own, as a tuple of them is written.
+#[inline]
 pub fn write_members_10<
     A: SchemaWrite,
     B: SchemaWrite,
@@ -332,9 +517,41 @@ impl<
         )
     }
 
+    #[inline]
     fn write<W: Writer>(writer: &mut W, src: &Self::Src) -> WriteResult<()> {
         write_members_10::<A, B, C, D, E, F, G, H, I, J, W>(
             writer, &src.0, &src.1, &src.2, &src.3, &src.4, &src.5, &src.6, &src.7, &src.8, &src.9,
+        )
+    }
+
+    #[inline(always)]
+    fn encode(src: &Self::Src, dst: &mut [u8]) -> bool {
+        encode_10::<
+            &Member<A>,
+            &Member<B>,
+            &Member<C>,
+            &Member<D>,
+            &Member<E>,
+            &Member<F>,
+            &Member<G>,
+            &Member<H>,
+            &Member<I>,
+            &Member<J>,
+        >(
+            &(
+                &src.0,
+                (
+                    &src.1,
+                    (
+                        &src.2,
+                        (
+                            &src.3,
+                            (&src.4, (&src.5, (&src.6, (&src.7, (&src.8, &src.9))))),
+                        ),
+                    ),
+                ),
+            ),
+            dst,
         )
     }
 
@@ -343,6 +560,7 @@ impl<
 }
 
 /// The size of 11 members, each seen by a schema of its own: that of a tuple of them.
+#[inline]
 pub fn size_of_members_11<
     A: SchemaWrite,
     B: SchemaWrite,
@@ -380,6 +598,7 @@ pub fn size_of_members_11<
 }
 
 /// Writes 11 members through one window where all have one size.
+#[inline]
 fn write_11<
     A: SchemaWrite,
     B: SchemaWrite,
@@ -418,7 +637,94 @@ fn write_11<
     write_in_window::<Members11<A, B, C, D, E, F, G, H, I, J, K>, W>(writer, src)
 }
 
+/// Puts an encoding of 11 members over all of the bytes.
+#[inline(always)]
+fn encode_11<
+    A: SchemaWrite,
+    B: SchemaWrite,
+    C: SchemaWrite,
+    D: SchemaWrite,
+    E: SchemaWrite,
+    F: SchemaWrite,
+    G: SchemaWrite,
+    H: SchemaWrite,
+    I: SchemaWrite,
+    J: SchemaWrite,
+    K: SchemaWrite,
+>(
+    src: &(
+        A::Src,
+        (
+            B::Src,
+            (
+                C::Src,
+                (
+                    D::Src,
+                    (
+                        E::Src,
+                        (F::Src, (G::Src, (H::Src, (I::Src, (J::Src, K::Src))))),
+                    ),
+                ),
+            ),
+        ),
+    ),
+    dst: &mut [u8],
+) -> bool
+    ensures { let members = ⟦<Members11<A, B, C, D, E, F, G, H, I, J, K> as SchemaWrite>⟧ in
+        IsTrue result → IsEncoded members.writing (members.model src.now) dst.new × members.is_valid src.now }
+{
+    <Members11<A, B, C, D, E, F, G, H, I, J, K> as SchemaWrite>::encode(src, dst)
+}
+
+/// Puts an encoding of 11 members over all of the bytes, each by a schema of its own, as `encode` does of a
+/// tuple of them.
+#[inline(always)]
+pub fn encode_members_11<
+    A: SchemaWrite,
+    B: SchemaWrite,
+    C: SchemaWrite,
+    D: SchemaWrite,
+    E: SchemaWrite,
+    F: SchemaWrite,
+    G: SchemaWrite,
+    H: SchemaWrite,
+    I: SchemaWrite,
+    J: SchemaWrite,
+    K: SchemaWrite,
+>(
+    a: &A::Src,
+    b: &B::Src,
+    c: &C::Src,
+    d: &D::Src,
+    e: &E::Src,
+    f: &F::Src,
+    g: &G::Src,
+    h: &H::Src,
+    i: &I::Src,
+    j: &J::Src,
+    k: &K::Src,
+    dst: &mut [u8],
+) -> bool
+    ensures { let tuple = ⟦<(A, B, C, D, E, F, G, H, I, J, K) as SchemaWrite>⟧ in
+        IsTrue result → IsEncoded tuple.writing (tuple.model (a.now, b.now, c.now, d.now, e.now, f.now, g.now, h.now, i.now, j.now, k.now)) dst.new × tuple.is_valid (a.now, b.now, c.now, d.now, e.now, f.now, g.now, h.now, i.now, j.now, k.now) }
+{
+    encode_11::<
+        &Member<A>,
+        &Member<B>,
+        &Member<C>,
+        &Member<D>,
+        &Member<E>,
+        &Member<F>,
+        &Member<G>,
+        &Member<H>,
+        &Member<I>,
+        &Member<J>,
+        &Member<K>,
+    >(&(a, (b, (c, (d, (e, (f, (g, (h, (i, (j, k)))))))))), dst)
+}
+
 /// Writes 11 members, each by a schema of its own, as a tuple of them is written.
+#[inline]
 pub fn write_members_11<
     A: SchemaWrite,
     B: SchemaWrite,
@@ -513,10 +819,46 @@ impl<
         )
     }
 
+    #[inline]
     fn write<W: Writer>(writer: &mut W, src: &Self::Src) -> WriteResult<()> {
         write_members_11::<A, B, C, D, E, F, G, H, I, J, K, W>(
             writer, &src.0, &src.1, &src.2, &src.3, &src.4, &src.5, &src.6, &src.7, &src.8, &src.9,
             &src.10,
+        )
+    }
+
+    #[inline(always)]
+    fn encode(src: &Self::Src, dst: &mut [u8]) -> bool {
+        encode_11::<
+            &Member<A>,
+            &Member<B>,
+            &Member<C>,
+            &Member<D>,
+            &Member<E>,
+            &Member<F>,
+            &Member<G>,
+            &Member<H>,
+            &Member<I>,
+            &Member<J>,
+            &Member<K>,
+        >(
+            &(
+                &src.0,
+                (
+                    &src.1,
+                    (
+                        &src.2,
+                        (
+                            &src.3,
+                            (
+                                &src.4,
+                                (&src.5, (&src.6, (&src.7, (&src.8, (&src.9, &src.10))))),
+                            ),
+                        ),
+                    ),
+                ),
+            ),
+            dst,
         )
     }
 
@@ -525,6 +867,7 @@ impl<
 }
 
 /// The size of 12 members, each seen by a schema of its own: that of a tuple of them.
+#[inline]
 pub fn size_of_members_12<
     A: SchemaWrite,
     B: SchemaWrite,
@@ -564,6 +907,7 @@ pub fn size_of_members_12<
 }
 
 /// Writes 12 members through one window where all have one size.
+#[inline]
 fn write_12<
     A: SchemaWrite,
     B: SchemaWrite,
@@ -606,7 +950,104 @@ fn write_12<
     write_in_window::<Members12<A, B, C, D, E, F, G, H, I, J, K, M>, W>(writer, src)
 }
 
+/// Puts an encoding of 12 members over all of the bytes.
+#[inline(always)]
+fn encode_12<
+    A: SchemaWrite,
+    B: SchemaWrite,
+    C: SchemaWrite,
+    D: SchemaWrite,
+    E: SchemaWrite,
+    F: SchemaWrite,
+    G: SchemaWrite,
+    H: SchemaWrite,
+    I: SchemaWrite,
+    J: SchemaWrite,
+    K: SchemaWrite,
+    M: SchemaWrite,
+>(
+    src: &(
+        A::Src,
+        (
+            B::Src,
+            (
+                C::Src,
+                (
+                    D::Src,
+                    (
+                        E::Src,
+                        (
+                            F::Src,
+                            (G::Src, (H::Src, (I::Src, (J::Src, (K::Src, M::Src))))),
+                        ),
+                    ),
+                ),
+            ),
+        ),
+    ),
+    dst: &mut [u8],
+) -> bool
+    ensures { let members = ⟦<Members12<A, B, C, D, E, F, G, H, I, J, K, M> as SchemaWrite>⟧ in
+        IsTrue result → IsEncoded members.writing (members.model src.now) dst.new × members.is_valid src.now }
+{
+    <Members12<A, B, C, D, E, F, G, H, I, J, K, M> as SchemaWrite>::encode(src, dst)
+}
+
+/// Puts an encoding of 12 members over all of the bytes, each by a schema of its own, as `encode` does of a
+/// tuple of them.
+#[inline(always)]
+pub fn encode_members_12<
+    A: SchemaWrite,
+    B: SchemaWrite,
+    C: SchemaWrite,
+    D: SchemaWrite,
+    E: SchemaWrite,
+    F: SchemaWrite,
+    G: SchemaWrite,
+    H: SchemaWrite,
+    I: SchemaWrite,
+    J: SchemaWrite,
+    K: SchemaWrite,
+    M: SchemaWrite,
+>(
+    a: &A::Src,
+    b: &B::Src,
+    c: &C::Src,
+    d: &D::Src,
+    e: &E::Src,
+    f: &F::Src,
+    g: &G::Src,
+    h: &H::Src,
+    i: &I::Src,
+    j: &J::Src,
+    k: &K::Src,
+    m: &M::Src,
+    dst: &mut [u8],
+) -> bool
+    ensures { let tuple = ⟦<(A, B, C, D, E, F, G, H, I, J, K, M) as SchemaWrite>⟧ in
+        IsTrue result → IsEncoded tuple.writing (tuple.model (a.now, b.now, c.now, d.now, e.now, f.now, g.now, h.now, i.now, j.now, k.now, m.now)) dst.new × tuple.is_valid (a.now, b.now, c.now, d.now, e.now, f.now, g.now, h.now, i.now, j.now, k.now, m.now) }
+{
+    encode_12::<
+        &Member<A>,
+        &Member<B>,
+        &Member<C>,
+        &Member<D>,
+        &Member<E>,
+        &Member<F>,
+        &Member<G>,
+        &Member<H>,
+        &Member<I>,
+        &Member<J>,
+        &Member<K>,
+        &Member<M>,
+    >(
+        &(a, (b, (c, (d, (e, (f, (g, (h, (i, (j, (k, m))))))))))),
+        dst,
+    )
+}
+
 /// Writes 12 members, each by a schema of its own, as a tuple of them is written.
+#[inline]
 pub fn write_members_12<
     A: SchemaWrite,
     B: SchemaWrite,
@@ -710,10 +1151,50 @@ impl<
         )
     }
 
+    #[inline]
     fn write<W: Writer>(writer: &mut W, src: &Self::Src) -> WriteResult<()> {
         write_members_12::<A, B, C, D, E, F, G, H, I, J, K, M, W>(
             writer, &src.0, &src.1, &src.2, &src.3, &src.4, &src.5, &src.6, &src.7, &src.8, &src.9,
             &src.10, &src.11,
+        )
+    }
+
+    #[inline(always)]
+    fn encode(src: &Self::Src, dst: &mut [u8]) -> bool {
+        encode_12::<
+            &Member<A>,
+            &Member<B>,
+            &Member<C>,
+            &Member<D>,
+            &Member<E>,
+            &Member<F>,
+            &Member<G>,
+            &Member<H>,
+            &Member<I>,
+            &Member<J>,
+            &Member<K>,
+            &Member<M>,
+        >(
+            &(
+                &src.0,
+                (
+                    &src.1,
+                    (
+                        &src.2,
+                        (
+                            &src.3,
+                            (
+                                &src.4,
+                                (
+                                    &src.5,
+                                    (&src.6, (&src.7, (&src.8, (&src.9, (&src.10, &src.11))))),
+                                ),
+                            ),
+                        ),
+                    ),
+                ),
+            ),
+            dst,
         )
     }
 

@@ -1,7 +1,7 @@
 use Rattle.std.proofs.Common.{rules, false, ◌∙◌, sym, refl, inl, inr}
 use Rattle.wincode_io.specs.Joins.{AreItems}
 use Rattle.wincode_base.specs.declared.error.ReadError.TheVariants as reading
-use Rattle.wincode_base.specs.FixedSizeLaws.{denied_refuses}
+use Rattle.wincode_base.specs.FixedSizeLaws.{window_denied_refuses}
 use Rattle.wincode_base.specs.Lists.{items_read, run_read}
 use Rattle.wincode_base.proofs.ReadAnswers.{make_map}
 use Rattle.wincode_base.proofs.InWindow.{window_refuses}
@@ -17,7 +17,7 @@ returns-in_err-window-in-Some g c = let T = g.T.SchemaRead.reading in let S = g.
     let sized = run_encoding T c.args.n c.args.size c.in-Some.total c.requires.size is in
     let e = reading.Io c.in_err-window-in-Some.field-0.0 in
     let d = c.in_err-window-in-Some.ensures.err in
-    let h = denied_refuses (AreItems c.args.n T.reads) c.in-Some.total sized T.borrow false _ _ e d in
+    let h = window_denied_refuses (AreItems c.args.n T.reads) c.in-Some.total sized T.borrow false _ _ e d in
     let p = run_placed T c.args.n c.args.size c.in-Some.total is _ _ e (inl d) in
     record { ok = search rules; refused = search (rules, h); place = search (rules, p) }
 

@@ -19,7 +19,7 @@ returns-in-None-clause-err g c =
 pub loop-item-preserved : goal.loop-item-preserved
 loop-item-preserved g c =
     let T = g.T.SchemaWrite in
-    let sum = c.in-Some.ensures in
+    let sum = c.in-Some-checked_add.ensures in
     let size = c.in_ok-size.ensures.ok in
     let after = total_after c.args.items.now c.loop-item.item-index c.item-item.result c.loop-item-test.true c.item-item.is T.model T.writing.size in (
       each_map_after c.args.items.now c.loop-item.item-index c.item-item.result c.loop-item-test.true c.item-item.is T.model T.writing.can c.loop-item.invariant.0 size.0,

@@ -28,7 +28,7 @@ returns-in-None-2 g c =
     let vast : byte_limit < s = search rules in
     let reads = (pod_read T.is_valid s T.form).reads in
     let old = g.R.Reader.state c.args.reader.now in
-    let stays : Stays old old = record { kept = record { lends = refl; never_fails = refl; is_known = refl }; rest = λ t. refl; ready = omega arith; place = refl } in
+    let stays : Stays old old = record { kept = record { lends = refl; never_fails = refl; counts_windows = refl; is_known = refl }; rest = λ t. refl; ready = omega arith; place = refl } in
     rw c.read_length_encoding_overflow.ensures (record {
       each = record {
         ok = tt;

@@ -8,13 +8,13 @@ pub returns-in_err-size-clause-err : goal.returns-in_err-size-clause-err
 returns-in_err-size-clause-err g c =
     let K = g.K.SchemaWrite in
     let V = g.V.SchemaWrite in
-    let h = sum_refused (pair_write K.writing V.writing) (sees K.model V.model) c.args.before _ _ _ _ (c.in-Some.key.now, c.in-Some.value.now) _ c.loop-key.invariant c.in-Some.ensures.steps c.in_err-size.ensures.err in search (rules, h)
+    let h = sum_refused (pair_write K.writing V.writing) (sees K.model V.model) c.args.before _ _ _ _ (c.in-Some-2.key.now, c.in-Some-2.value.now) _ c.loop-key.invariant c.in-Some-2.ensures.steps c.in_err-size.ensures.err in search (rules, h)
 
 pub returns-in-None-checked_add-clause-err : goal.returns-in-None-checked_add-clause-err
 returns-in-None-checked_add-clause-err g c =
     let K = g.K.SchemaWrite in
     let V = g.V.SchemaWrite in (
-      sum_past (pair_write K.writing V.writing) (sees K.model V.model) c.args.before _ _ _ _ (c.in-Some.key.now, c.in-Some.value.now) c.loop-key.invariant c.in-Some.ensures.steps (rw c.in_ok-size.ensures.ok.1 at c.in-None-checked_add.ensures),
+      sum_past (pair_write K.writing V.writing) (sees K.model V.model) c.args.before _ _ _ _ (c.in-Some-2.key.now, c.in-Some-2.value.now) c.loop-key.invariant c.in-Some-2.ensures.steps (rw c.in_ok-size.ensures.ok.1 at c.in-None-checked_add.ensures),
       rw c.write_length_encoding_overflow.ensures (tt, λ builtin. inl refl),
     )
 
@@ -23,4 +23,4 @@ loop-key-preserved g c =
     let K = g.K.SchemaWrite in
     let V = g.V.SchemaWrite in
     let e = c.in-Some-checked_add.ensures in
-    sum_more (pair_write K.writing V.writing) (sees K.model V.model) c.args.before _ _ _ _ _ (c.in-Some.key.now, c.in-Some.value.now) c.loop-key.invariant c.in-Some.ensures.steps c.in_ok-size.ensures.ok.0 (e.1 ∙ ap (λ n. c.loop-key.sum + n) c.in_ok-size.ensures.ok.1)
+    sum_more (pair_write K.writing V.writing) (sees K.model V.model) c.args.before _ _ _ _ _ (c.in-Some-2.key.now, c.in-Some-2.value.now) c.loop-key.invariant c.in-Some-2.ensures.steps c.in_ok-size.ensures.ok.0 (e.1 ∙ ap (λ n. c.loop-key.sum + n) c.in_ok-size.ensures.ok.1)

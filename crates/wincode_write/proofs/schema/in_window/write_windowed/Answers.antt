@@ -3,7 +3,7 @@ use Rattle.wincode_base.proofs.WriteAnswers.{write_map}
 use Rattle.wincode_base.specs.InWindow.{windowed_write}
 use Rattle.wincode_base.proofs.InWindow.{written_size, room_unwritten, windowed_wrote, windowed_unwritten, dynamic_halted, room_halted, static_inside}
 use Rattle.wincode_base.proofs.Runs.{window_unwritten, window_stopped}
-use Rattle.wincode_write.proofs.schema.in_window.write_in_window.Goals as goal
+use Rattle.wincode_write.proofs.schema.in_window.write_windowed.Goals as goal
 
 pub returns-in_err-make_room-in-Static : goal.returns-in_err-make_room-in-Static
 returns-in_err-make_room-in-Static g c = let T = g.T.SchemaWrite.writing in let v = g.T.SchemaWrite.model c.args.src.now in let laws = g.T.SchemaWrite.write_laws in let is = sym c.type_meta.ensures ∙ c.in-Static.is in let sized = written_size _ _ T.can T.size _ _ _ laws.statics is in

@@ -1,0 +1,324 @@
+//! A buffered reader over any source.
+ghost use Rattle.std.specs.Prelude.{◌≡◌, ℕ, ◌+◌, ◌*◌, ◌<◌, ◌≤◌, false, [], length, take, IfOk, IfErr, OnOk, OnErr, IsTrue, Err};
+ghost use Rattle.wincode_io.specs.Readers.{Stays, Readies, Loses, Takes, IsShort, IsShown, IsPeeked, BytesReadRefused, Fills, Windowed, WindowRefused, counted};
+ghost use Rattle.wincode_io.specs.FormCalls.{TakesForm, TakesForms, FormReadRefused};
+ghost use Rattle.wincode_io.specs.Writers.{byte_limit};
+ghost use Rattle.wincode_io.specs.Windows.{window_state};
+ghost use Rattle.std.specs.Io.BufRead.{Rests};
+ghost use types.Logic.{sem};
+ghost use Rattle.wincode_io.specs.contracts.stream_reader.StreamReader.{the_row as stream-row};
+ghost use Rattle.wincode_io.specs.Streams.{Streamed, stream_state, IsOver, IsStepped, IsUnasked, Remembers, FailsAgain};
+
+use super::buffer::Buffer;
+use super::error::{ReadError, ReadResult};
+use super::input::Input;
+use super::lending::{Lending, Lifetime};
+use super::reader::Reader;
+use super::source::Source;
+use super::window::{CountedSliceReader, ReadWindow};
+use super::zero_copy::{ZeroCopy, read_forms, total_size};
+use std::alloc::Global;
+use std::io;
+use std::marker::Model;
+
+/// Reads from a source through a buffer, and lends nothing.
+///
+/// To contracts it is the bytes at hand, and the source. What it reads are the bytes at hand,
+/// followed by those that will come of the source. A call for `n` bytes doesn't ask the source where `n`
+/// are at hand, and never has more than 8191 further ones at hand because it asked.
+#[derive(Drop)]
+pub struct StreamReader<S: Source> {
+    source: S,
+    buffer: Buffer,
+    has_ended: bool,
+    has_failed: bool,
+}
+
+impl<S: Source> Model for StreamReader<S> {
+    ghost use Rattle.std.specs.Prelude.{ℕ, ◌<◌, IsTrue};
+    ghost use Rattle.wincode_io.specs.Streams.{Streamed, IsOver};
+
+    ghost Value = { Streamed S };
+
+    ghost view = { λ r. record { at_hand = r.buffer; source = r.source; has_failed = r.has_failed } };
+
+    ghost invariant = { λ r. (IsTrue r.has_ended → IsOver (S.state r.source)) × (IsTrue r.has_failed → 0 < (S.state r.source).failures) };
+}
+
+impl<S: Source> StreamReader<S> {
+    /// A reader of what comes of this source, of which it reads nothing yet.
+    pub fn new(alloc: Global, source: S) -> ReadResult<Self>
+    where
+        S: Drop,
+        ensures ok { IfOk result (λ r. (r.at_hand ≡ []) × (r.source ≡ source) × (r.has_failed ≡ false)) }
+        ensures err { IfErr result (λ e. e ≡ ReadError.OutOfMemory) }
+    {
+        let Ok(buffer) = Buffer::new(alloc) else {
+            return Err(ReadError::OutOfMemory);
+        };
+        Ok(StreamReader {
+            source,
+            buffer,
+            has_ended: false,
+            has_failed: false,
+        })
+    }
+
+    /// The source. The bytes at hand are dropped.
+    pub fn into_source(self) -> S
+        ensures { result ≡ self.source }
+    {
+        let StreamReader {
+            source,
+            buffer: _,
+            has_ended: _,
+            has_failed: _,
+        } = self;
+        source
+    }
+
+    /// The bytes at hand: they came from the source and were not read yet.
+    pub fn unread(&self) -> &[u8]
+        ensures { result.now ≡ self.now.at_hand }
+    {
+        self.buffer.as_slice()
+    }
+
+    /// How many bytes are at hand.
+    fn ready(&self) -> usize
+        ensures { result ≡ length self.now.at_hand }
+    {
+        self.buffer.as_slice().len()
+    }
+
+    /// Asks the source once more, and says whether bytes came. It isn't asked after its first failure
+    /// or its end.
+    fn more(&mut self) -> ReadResult<bool>
+        ensures step { length self.new.at_hand ≤ length self.old.at_hand + 8192 }
+        ensures ok { OnOk result (Stays (stream_state S.state self.old) (stream_state S.state self.new)) }
+        ensures came { IfOk result (λ came. IsTrue came → length self.old.at_hand < length self.new.at_hand) }
+        ensures ended { IfOk result (λ came. came ≡ false → IsOver (S.state self.new.source)) }
+        ensures err { IfErr result (λ e. (n : ℕ) → BytesReadRefused ⊥ ⊥ n (stream_state S.state self.old) (stream_state S.state self.new) e) }
+        ensures unasked { IsUnasked self.old self.new }
+        ensures remembered { IfErr result (Remembers self.new) }
+        ensures again { IfErr result (FailsAgain self.old) }
+        ensures sound { OnOk result ((self.old.has_failed ≡ false) × (self.new.has_failed ≡ false)) }
+    {
+        if self.has_failed {
+            return Err(ReadError::Io(io::Error::from(io::ErrorKind::Other)));
+        }
+        if self.has_ended {
+            return Ok(false);
+        }
+        match self.buffer.read(&mut self.source) {
+            Ok(0) => {
+                self.has_ended = true;
+                Ok(false)
+            }
+            Ok(_) => Ok(true),
+            Err(ReadError::Io(e)) => {
+                self.has_failed = true;
+                Err(ReadError::Io(e))
+            }
+            Err(e) => Err(e),
+        }
+    }
+
+    /// Asks the source until `n` bytes are at hand, or it has ended.
+    fn fetch(&mut self, n: usize) -> ReadResult<()>
+        ensures ok { OnOk result (Readies n (stream_state S.state self.old) (stream_state S.state self.new)) }
+        ensures err { IfErr result (BytesReadRefused ⊥ ⊥ n (stream_state S.state self.old) (stream_state S.state self.new)) }
+        ensures asked { OnErr result (length self.old.at_hand < n) }
+        ensures step { IsStepped n self.old self.new }
+        ensures served { OnOk result (IsTrue self.old.has_failed → n ≤ length self.old.at_hand) }
+        ensures unasked { IsUnasked self.old self.new }
+        ensures remembered { IfErr result (Remembers self.new) }
+        ensures again { IfErr result (FailsAgain self.old) }
+    {
+        while self.ready() < n {
+            if !self.more()? {
+                break;
+            }
+        }
+        Ok(())
+    }
+
+    /// Goes on by `n` bytes, which are at hand.
+    fn skip(&mut self, n: usize)
+        requires { n ≤ length self.old.at_hand }
+        ensures { Loses n (stream_state S.state self.old) (stream_state S.state self.new) }
+    {
+        self.buffer.consume(n);
+    }
+
+    /// A window of the first `n` bytes, which are at hand.
+    fn cut(&mut self, n: usize) -> ReadResult<CountedSliceReader>
+        requires { n ≤ length self.old.at_hand }
+        ensures ok { IfOk result (λ w. Windowed n (stream_state S.state self.old) (stream_state S.state self.new) (counted w)) }
+        ensures err { OnErr result (Stays (stream_state S.state self.old) (stream_state S.state self.new)) }
+        ensures count { IfErr result (λ e. e ≡ ReadError.OutOfMemory) }
+    {
+        let Ok(window) = self.buffer.window(n) else {
+            return Err(ReadError::OutOfMemory);
+        };
+        Ok(window)
+    }
+}
+
+/// Each call is refused as the trait says; and, where it needs no more bytes than are at hand, never by the
+/// source.
+impl<L: Lending, S: Source> Reader<L> for StreamReader<S> {
+    ghost state = { stream_state S.state };
+
+    fn fill(&mut self, n: usize) -> ReadResult<()>
+        ensures ok { OnOk result (Readies n (stream_state S.state self.old) (stream_state S.state self.new)) }
+        ensures err { IfErr result (BytesReadRefused ⊥ ⊥ n (stream_state S.state self.old) (stream_state S.state self.new)) }
+        ensures asked { OnErr result (length self.old.at_hand < n) }
+        ensures step { IsStepped n self.old self.new }
+        ensures unasked { IsUnasked self.old self.new }
+        ensures remembered { IfErr result (Remembers self.new) }
+        ensures again { IfErr result (FailsAgain self.old) }
+    {
+        self.fetch(n)
+    }
+
+    fn consume(&mut self, n: usize) -> ReadResult<()>
+        ensures ok { OnOk result (Loses n (stream_state S.state self.old) (stream_state S.state self.new)) }
+        ensures err { IfErr result (BytesReadRefused (IsShort n (stream_state S.state self.old)) ⊥ n (stream_state S.state self.old) (stream_state S.state self.new)) }
+        ensures asked { OnErr result (length self.old.at_hand < n) }
+        ensures again { IfErr result (FailsAgain self.old) }
+    {
+        self.fetch(n)?;
+        if self.ready() < n {
+            return Err(ReadError::ReadSizeLimit(n));
+        }
+        self.skip(n);
+        Ok(())
+    }
+
+    fn fill_buf(&mut self, n: usize) -> ReadResult<&[u8]>
+        ensures shown { IfOk result (λ s. IsShown n (stream_state S.state self.old) s.now) }
+        ensures asked { OnErr result (length self.old.at_hand < n) }
+        ensures again { IfErr result (FailsAgain self.old) }
+        ensures* fills { sem 𝓛 (Rests (stream-row S.row S.Source) self.entry (λ new. Fills ⊥ n (λ s. length s.now) (stream_state S.state self.old) (stream_state S.state new) result)) }
+    {
+        self.fetch(n)?;
+        let bytes = self.buffer.as_slice();
+        let shown = n.min(bytes.len());
+        Ok(&bytes[..shown])
+    }
+
+    fn fill_exact(&mut self, n: usize) -> ReadResult<&[u8]>
+        ensures shown { IfOk result (λ s. (length s.now ≡ n) × IsShown n (stream_state S.state self.old) s.now) }
+        ensures asked { OnErr result (length self.old.at_hand < n) }
+        ensures again { IfErr result (FailsAgain self.old) }
+        ensures* fills { sem 𝓛 (Rests (stream-row S.row S.Source) self.entry (λ new. Fills (IsShort n (stream_state S.state self.old)) n (λ s. length s.now) (stream_state S.state self.old) (stream_state S.state new) result)) }
+    {
+        self.fetch(n)?;
+        let bytes = self.buffer.as_slice();
+        if bytes.len() < n {
+            return Err(ReadError::ReadSizeLimit(n));
+        }
+        Ok(&bytes[..n])
+    }
+
+    fn peek(&mut self) -> ReadResult<&u8>
+        ensures shown { IfOk result (λ b. IsPeeked (stream_state S.state self.old) b.now) }
+        ensures asked { OnErr result (length self.old.at_hand < 1) }
+        ensures again { IfErr result (FailsAgain self.old) }
+        ensures* fills { sem 𝓛 (Rests (stream-row S.row S.Source) self.entry (λ new. Fills (IsShort 1 (stream_state S.state self.old)) 1 (λ s. 1) (stream_state S.state self.old) (stream_state S.state new) result)) }
+    {
+        let bytes = <Self as Reader<L>>::fill_exact(self, 1)?;
+        Ok(&bytes[0])
+    }
+
+    fn copy_into_slice(&mut self, dst: &mut [u8]) -> ReadResult<()>
+        ensures ok { OnOk result (Takes (length dst.old) (stream_state S.state self.old) (stream_state S.state self.new) dst.new) }
+        ensures unchanged { IfErr result (λ e. dst.new ≡ dst.old) }
+        ensures err { IfErr result (BytesReadRefused (IsShort (length dst.old) (stream_state S.state self.old)) ⊥ (length dst.old) (stream_state S.state self.old) (stream_state S.state self.new)) }
+        ensures asked { OnErr result (length self.old.at_hand < length dst.old) }
+        ensures again { IfErr result (FailsAgain self.old) }
+    {
+        let n = dst.len();
+        dst.copy_from_slice(<Self as Reader<L>>::fill_exact(self, n)?);
+        self.skip(n);
+        Ok(())
+    }
+
+    fn copy_into_t<T: ZeroCopy>(&mut self, dst: &mut Option<T>) -> ReadResult<()>
+        ensures ok { OnOk result (TakesForm T.size T.value (stream_state S.state self.old) (stream_state S.state self.new) dst.new) }
+        ensures unchanged { IfErr result (λ e. dst.new ≡ dst.old) }
+        ensures vast { byte_limit < T.size → result ≡ Err (ReadError.ReadSizeLimit byte_limit) }
+        ensures err { IfErr result (FormReadRefused T.size (stream_state S.state self.old) (stream_state S.state self.new)) }
+        ensures asked { OnErr result (length self.old.at_hand < T.size) }
+    {
+        let Some(size) = T::form_size() else {
+            // Fewer bytes are at hand, since their number fits.
+            let _ready = self.ready();
+            return Err(ReadError::ReadSizeLimit(usize::MAX));
+        };
+        *dst = Some(T::of_form(<Self as Reader<L>>::fill_exact(self, size)?));
+        self.skip(size);
+        Ok(())
+    }
+
+    fn copy_into_slice_t<T: ZeroCopy>(&mut self, dst: &mut [T]) -> ReadResult<()>
+        ensures ok { OnOk result (TakesForms T.size T.value (length dst.old) (stream_state S.state self.old) (stream_state S.state self.new) dst.new) }
+        ensures unchanged { IfErr result (λ e. dst.new ≡ dst.old) }
+        ensures vast { byte_limit < length dst.old * T.size → result ≡ Err (ReadError.ReadSizeLimit byte_limit) }
+        ensures err { IfErr result (FormReadRefused (length dst.old * T.size) (stream_state S.state self.old) (stream_state S.state self.new)) }
+        ensures asked { OnErr result (length self.old.at_hand < length dst.old * T.size) }
+    {
+        let Some(total) = total_size::<T>(dst.len()) else {
+            // Fewer bytes are at hand, since their number fits.
+            let _ready = self.ready();
+            return Err(ReadError::ReadSizeLimit(usize::MAX));
+        };
+        read_forms(<Self as Reader<L>>::fill_exact(self, total)?, dst);
+        self.skip(total);
+        Ok(())
+    }
+
+    fn at_hand(&self) -> &[u8] {
+        self.buffer.as_slice()
+    }
+
+    fn consume_unchecked(&mut self, n: usize) {
+        self.skip(n);
+    }
+
+    fn borrow_exact(&mut self, _n: usize) -> ReadResult<L::Bytes> {
+        Err(ReadError::UnsupportedZeroCopy)
+    }
+
+    fn borrow_exact_mut(&mut self, _n: usize) -> ReadResult<L::BytesMut> {
+        Err(ReadError::UnsupportedZeroCopy)
+    }
+
+    /// The window shares the bytes at hand. It is `OutOfMemory` too where so many windows share them that
+    /// they can't be counted.
+    fn as_trusted_for(&mut self, n: usize) -> ReadResult<ReadWindow<L>>
+        ensures ok { IfOk result (λ w. Windowed n (stream_state S.state self.old) (stream_state S.state self.new) (window_state w)) }
+        ensures err { IfErr result (WindowRefused n (stream_state S.state self.old) (stream_state S.state self.new)) }
+        ensures asked { IfErr result (λ e. n ≤ length self.old.at_hand → e ≡ ReadError.OutOfMemory) }
+    {
+        self.fetch(n)?;
+        if self.ready() < n {
+            return Err(ReadError::ReadSizeLimit(n));
+        }
+        Ok(ReadWindow::Counted(self.cut(n)?))
+    }
+}
+
+/// A value is read from the front of what it has. It lends nothing, so that the lifetime is of no moment.
+impl<S: Source + Drop> Input for StreamReader<S> {
+    type Lends = Lifetime<'static>;
+
+    type Reads = StreamReader<S>;
+
+    ghost begins = { stream_state S.state };
+
+    fn reader(self) -> StreamReader<S> {
+        self
+    }
+}
