@@ -75,7 +75,8 @@ impl<S: Source, T: SchemaReadOwned<Lifetime<'static>>> Messages<S, T> {
     /// an error, as `get` of its schema says, and so is a source that fails. After an error the next call
     /// begins where the reader then stands; after a failure of the source it fails again.
     pub fn next(&mut self) -> Option<ReadResult<T::Dst>>
-        ensures none { IsNone result → Stays (stream_state S.state self.old) (stream_state S.state self.new) × (IsTrue (stream_state S.state self.old).is_known → (stream_state S.state self.old).rest ≡ []) }
+        ensures none { IsNone result → Stays (stream_state S.state self.old) (stream_state S.state self.new)
+            × (IsTrue (stream_state S.state self.old).is_known → (stream_state S.state self.old).rest ≡ []) }
         ensures some { IfSome result (NextOutcome T.SchemaRead.reading T.SchemaRead.model (stream_state S.state self.old) (stream_state S.state self.new)) }
     {
         let filled = <StreamReader<S> as Reader<Lifetime<'static>>>::fill(&mut self.reader, 1);

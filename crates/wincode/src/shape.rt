@@ -36,7 +36,8 @@ pub trait Shape: Drop {
 
     /// Writes its parts, as `As` does.
     fn write_parts<W: Writer>(&self, writer: &mut W) -> WriteResult<()>
-        ensures { WriteOutcome Self.As.SchemaWrite.writing (W.state writer.old) (W.state writer.new) (Self.As.SchemaWrite.model (parts self.now)) (Self.As.SchemaWrite.is_valid (parts self.now)) result };
+        ensures { WriteOutcome Self.As.SchemaWrite.writing (W.state writer.old) (W.state writer.new) (Self.As.SchemaWrite.model (parts self.now))
+            (Self.As.SchemaWrite.is_valid (parts self.now)) result };
 
     /// Puts an encoding of its parts over all of the bytes, where it has as many, as `As` does; or answers
     /// `false`, and may have put any bytes there.

@@ -13,7 +13,8 @@ ghost use Rattle.wincode_base.specs.Pairs.{pair_meta};
 ghost use Rattle.wincode_base.specs.TagLaws.{sides_laws};
 ghost use Rattle.wincode_base.specs.Tags.{sides_tag, IfSide, sides_meta, sides_read, sides_write};
 ghost use Rattle.wincode_derived.specs.Sums.{WriteAnswer, part_answer, sides_answer, IsAnswer, sides_own, case_read, CaseReadRefused, IsNameless, IsTagged, enum_read, enum_write};
-ghost use Rattle.wincode_derived.specs.SumLaws.{last_answers, cases_answers, CaseLaws, CasesBack, last_case_laws, case_laws, enum_read_laws, enum_write_laws, last_back, cases_back, enum_reads_back, enum_one_text};
+ghost use Rattle.wincode_derived.specs.SumLaws.{last_answers, cases_answers, CaseLaws, CasesBack, last_case_laws, case_laws};
+ghost use Rattle.wincode_derived.specs.SumLaws.{enum_read_laws, enum_write_laws, last_back, cases_back, enum_reads_back, enum_one_text};
 
 use std::alloc::Global;
 use std::marker::PhantomData;
@@ -120,7 +121,8 @@ pub trait CasesRead<L: Lending> {
 
 /// What is written of the cases reads back.
 pub trait CasesRoundTrip<L: Lending>: CasesWrite + CasesRead<L, Dst = Self::Src> {
-    ghost back: { CasesBack Self.CasesWrite.is_valid Self.CasesWrite.model Self.CasesWrite.tag Self.CasesWrite.own Self.CasesWrite.part Self.CasesRead.model Self.CasesRead.tag Self.CasesRead.own Self.CasesRead.part };
+    ghost back: { CasesBack Self.CasesWrite.is_valid Self.CasesWrite.model Self.CasesWrite.tag Self.CasesWrite.own Self.CasesWrite.part
+        Self.CasesRead.model Self.CasesRead.tag Self.CasesRead.own Self.CasesRead.part };
 }
 
 /// Each value of the cases has one encoding behind its tag.

@@ -46,7 +46,8 @@ impl<S: Source> Model for StreamReader<S> {
 }
 
 impl<S: Source> StreamReader<S> {
-    /// A reader of what comes of this source, of which it reads nothing yet.
+    /// A reader of what comes of this source, of which it reads nothing yet. It is `OutOfMemory` where memory for a
+    /// buffer of 8192 bytes is refused, and then the source is dropped.
     pub fn new(alloc: Global, source: S) -> ReadResult<Self>
     where
         S: Drop,
@@ -212,7 +213,8 @@ impl<L: Lending, S: Source> Reader<L> for StreamReader<S> {
         ensures shown { IfOk result (λ s. (length s.now ≡ n) × IsShown n (stream_state S.state self.old) s.now) }
         ensures asked { OnErr result (length self.old.at_hand < n) }
         ensures again { IfErr result (FailsAgain self.old) }
-        ensures* fills { sem 𝓛 (Rests (stream-row S.row S.Source) self.entry (λ new. Fills (IsShort n (stream_state S.state self.old)) n (λ s. length s.now) (stream_state S.state self.old) (stream_state S.state new) result)) }
+        ensures* fills { sem 𝓛 (Rests (stream-row S.row S.Source) self.entry
+            (λ new. Fills (IsShort n (stream_state S.state self.old)) n (λ s. length s.now) (stream_state S.state self.old) (stream_state S.state new) result)) }
     {
         self.fetch(n)?;
         let bytes = self.buffer.as_slice();
@@ -226,7 +228,8 @@ impl<L: Lending, S: Source> Reader<L> for StreamReader<S> {
         ensures shown { IfOk result (λ b. IsPeeked (stream_state S.state self.old) b.now) }
         ensures asked { OnErr result (length self.old.at_hand < 1) }
         ensures again { IfErr result (FailsAgain self.old) }
-        ensures* fills { sem 𝓛 (Rests (stream-row S.row S.Source) self.entry (λ new. Fills (IsShort 1 (stream_state S.state self.old)) 1 (λ s. 1) (stream_state S.state self.old) (stream_state S.state new) result)) }
+        ensures* fills { sem 𝓛 (Rests (stream-row S.row S.Source) self.entry
+            (λ new. Fills (IsShort 1 (stream_state S.state self.old)) 1 (λ s. 1) (stream_state S.state self.old) (stream_state S.state new) result)) }
     {
         let bytes = <Self as Reader<L>>::fill_exact(self, 1)?;
         Ok(&bytes[0])

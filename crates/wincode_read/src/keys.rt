@@ -134,7 +134,8 @@ where
     C::Dst: Eq,
     D::Dst: Eq,
 {
-    ghost alike = { λ x y e. both_true (both_true (both_true (A.alike x.0 y.0 (ap (λ t. t.0) e)) (B.alike x.1 y.1 (ap (λ t. t.1.0) e))) (C.alike x.2 y.2 (ap (λ t. t.1.1.0) e))) (D.alike x.3 y.3 (ap (λ t. t.1.1.1) e)) };
+    ghost alike = { λ x y e. both_true (both_true (both_true (A.alike x.0 y.0 (ap (λ t. t.0) e)) (B.alike x.1 y.1 (ap (λ t. t.1.0) e))) (C.alike x.2 y.2 (ap (λ t. t.1.1.0) e)))
+        (D.alike x.3 y.3 (ap (λ t. t.1.1.1) e)) };
 }
 
 impl<L: Lending, A: Key<L>, B: Key<L>, C: Key<L>, D: Key<L>, E: Key<L>> Key<L> for (A, B, C, D, E)
@@ -145,7 +146,8 @@ where
     D::Dst: Eq,
     E::Dst: Eq,
 {
-    ghost alike = { λ x y e. both_true (both_true (both_true (both_true (A.alike x.0 y.0 (ap (λ t. t.0) e)) (B.alike x.1 y.1 (ap (λ t. t.1.0) e))) (C.alike x.2 y.2 (ap (λ t. t.1.1.0) e))) (D.alike x.3 y.3 (ap (λ t. t.1.1.1.0) e))) (E.alike x.4 y.4 (ap (λ t. t.1.1.1.1) e)) };
+    ghost alike = { λ x y e. both_true (both_true (both_true (both_true (A.alike x.0 y.0 (ap (λ t. t.0) e)) (B.alike x.1 y.1 (ap (λ t. t.1.0) e))) (C.alike x.2 y.2 (ap (λ t. t.1.1.0) e)))
+        (D.alike x.3 y.3 (ap (λ t. t.1.1.1.0) e))) (E.alike x.4 y.4 (ap (λ t. t.1.1.1.1) e)) };
 }
 
 impl<L: Lending, A: Key<L>, B: Key<L>, C: Key<L>, D: Key<L>, E: Key<L>, F: Key<L>> Key<L>
@@ -158,7 +160,8 @@ where
     E::Dst: Eq,
     F::Dst: Eq,
 {
-    ghost alike = { λ x y e. both_true (both_true (both_true (both_true (both_true (A.alike x.0 y.0 (ap (λ t. t.0) e)) (B.alike x.1 y.1 (ap (λ t. t.1.0) e))) (C.alike x.2 y.2 (ap (λ t. t.1.1.0) e))) (D.alike x.3 y.3 (ap (λ t. t.1.1.1.0) e))) (E.alike x.4 y.4 (ap (λ t. t.1.1.1.1.0) e))) (F.alike x.5 y.5 (ap (λ t. t.1.1.1.1.1) e)) };
+    ghost alike = { λ x y e. both_true (both_true (both_true (both_true (both_true (A.alike x.0 y.0 (ap (λ t. t.0) e)) (B.alike x.1 y.1 (ap (λ t. t.1.0) e))) (C.alike x.2 y.2 (ap (λ t. t.1.1.0) e)))
+        (D.alike x.3 y.3 (ap (λ t. t.1.1.1.0) e))) (E.alike x.4 y.4 (ap (λ t. t.1.1.1.1.0) e))) (F.alike x.5 y.5 (ap (λ t. t.1.1.1.1.1) e)) };
 }
 
 impl<L: Lending, A: Key<L>, B: Key<L>, C: Key<L>, D: Key<L>, E: Key<L>, F: Key<L>, G: Key<L>> Key<L>
@@ -172,7 +175,9 @@ where
     F::Dst: Eq,
     G::Dst: Eq,
 {
-    ghost alike = { λ x y e. both_true (both_true (both_true (both_true (both_true (both_true (A.alike x.0 y.0 (ap (λ t. t.0) e)) (B.alike x.1 y.1 (ap (λ t. t.1.0) e))) (C.alike x.2 y.2 (ap (λ t. t.1.1.0) e))) (D.alike x.3 y.3 (ap (λ t. t.1.1.1.0) e))) (E.alike x.4 y.4 (ap (λ t. t.1.1.1.1.0) e))) (F.alike x.5 y.5 (ap (λ t. t.1.1.1.1.1.0) e))) (G.alike x.6 y.6 (ap (λ t. t.1.1.1.1.1.1) e)) };
+    ghost alike = { λ x y e. both_true (both_true (both_true (both_true
+        (both_true (both_true (A.alike x.0 y.0 (ap (λ t. t.0) e)) (B.alike x.1 y.1 (ap (λ t. t.1.0) e))) (C.alike x.2 y.2 (ap (λ t. t.1.1.0) e))) (D.alike x.3 y.3 (ap (λ t. t.1.1.1.0) e)))
+        (E.alike x.4 y.4 (ap (λ t. t.1.1.1.1.0) e))) (F.alike x.5 y.5 (ap (λ t. t.1.1.1.1.1.0) e))) (G.alike x.6 y.6 (ap (λ t. t.1.1.1.1.1.1) e)) };
 }
 
 impl<
@@ -196,7 +201,9 @@ where
     G::Dst: Eq,
     H::Dst: Eq,
 {
-    ghost alike = { λ x y e. both_true (both_true (both_true (both_true (both_true (both_true (both_true (A.alike x.0 y.0 (ap (λ t. t.0) e)) (B.alike x.1 y.1 (ap (λ t. t.1.0) e))) (C.alike x.2 y.2 (ap (λ t. t.1.1.0) e))) (D.alike x.3 y.3 (ap (λ t. t.1.1.1.0) e))) (E.alike x.4 y.4 (ap (λ t. t.1.1.1.1.0) e))) (F.alike x.5 y.5 (ap (λ t. t.1.1.1.1.1.0) e))) (G.alike x.6 y.6 (ap (λ t. t.1.1.1.1.1.1.0) e))) (H.alike x.7 y.7 (ap (λ t. t.1.1.1.1.1.1.1) e)) };
+    ghost alike = { λ x y e. both_true (both_true (both_true (both_true
+        (both_true (both_true (both_true (A.alike x.0 y.0 (ap (λ t. t.0) e)) (B.alike x.1 y.1 (ap (λ t. t.1.0) e))) (C.alike x.2 y.2 (ap (λ t. t.1.1.0) e))) (D.alike x.3 y.3 (ap (λ t. t.1.1.1.0) e)))
+        (E.alike x.4 y.4 (ap (λ t. t.1.1.1.1.0) e))) (F.alike x.5 y.5 (ap (λ t. t.1.1.1.1.1.0) e))) (G.alike x.6 y.6 (ap (λ t. t.1.1.1.1.1.1.0) e))) (H.alike x.7 y.7 (ap (λ t. t.1.1.1.1.1.1.1) e)) };
 }
 
 impl<L: Lending, T: Key<L>, E: Key<L>> Key<L> for Result<T, E>
@@ -395,7 +402,8 @@ impl<
     H: Told<L>,
     I: Told<L>,
 > Told<L> for (A, B, C, D, E, F, G, H, I) {
-    ghost told = { pair_decidable A.told (pair_decidable B.told (pair_decidable C.told (pair_decidable D.told (pair_decidable E.told (pair_decidable F.told (pair_decidable G.told (pair_decidable H.told I.told))))))) };
+    ghost told = { pair_decidable A.told (pair_decidable B.told
+        (pair_decidable C.told (pair_decidable D.told (pair_decidable E.told (pair_decidable F.told (pair_decidable G.told (pair_decidable H.told I.told))))))) };
 }
 
 impl<
@@ -411,7 +419,8 @@ impl<
     I: Told<L>,
     J: Told<L>,
 > Told<L> for (A, B, C, D, E, F, G, H, I, J) {
-    ghost told = { pair_decidable A.told (pair_decidable B.told (pair_decidable C.told (pair_decidable D.told (pair_decidable E.told (pair_decidable F.told (pair_decidable G.told (pair_decidable H.told (pair_decidable I.told J.told)))))))) };
+    ghost told = { pair_decidable A.told (pair_decidable B.told
+        (pair_decidable C.told (pair_decidable D.told (pair_decidable E.told (pair_decidable F.told (pair_decidable G.told (pair_decidable H.told (pair_decidable I.told J.told)))))))) };
 }
 
 impl<
@@ -428,7 +437,9 @@ impl<
     J: Told<L>,
     K: Told<L>,
 > Told<L> for (A, B, C, D, E, F, G, H, I, J, K) {
-    ghost told = { pair_decidable A.told (pair_decidable B.told (pair_decidable C.told (pair_decidable D.told (pair_decidable E.told (pair_decidable F.told (pair_decidable G.told (pair_decidable H.told (pair_decidable I.told (pair_decidable J.told K.told))))))))) };
+    ghost told = { pair_decidable A.told (pair_decidable B.told
+        (pair_decidable C.told (pair_decidable D.told (pair_decidable E.told
+        (pair_decidable F.told (pair_decidable G.told (pair_decidable H.told (pair_decidable I.told (pair_decidable J.told K.told))))))))) };
 }
 
 impl<
@@ -446,7 +457,9 @@ impl<
     K: Told<L>,
     M: Told<L>,
 > Told<L> for (A, B, C, D, E, F, G, H, I, J, K, M) {
-    ghost told = { pair_decidable A.told (pair_decidable B.told (pair_decidable C.told (pair_decidable D.told (pair_decidable E.told (pair_decidable F.told (pair_decidable G.told (pair_decidable H.told (pair_decidable I.told (pair_decidable J.told (pair_decidable K.told M.told)))))))))) };
+    ghost told = { pair_decidable A.told (pair_decidable B.told
+        (pair_decidable C.told (pair_decidable D.told (pair_decidable E.told
+        (pair_decidable F.told (pair_decidable G.told (pair_decidable H.told (pair_decidable I.told (pair_decidable J.told (pair_decidable K.told M.told)))))))))) };
 }
 
 impl<L: Lending, T: Told<L>, E: Told<L>> Told<L> for Result<T, E> {

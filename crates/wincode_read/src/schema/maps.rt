@@ -43,7 +43,8 @@ where
 
     ghost is_valid = { Each (λ v. K.is_valid v.0 × V.is_valid v.1) };
 
-    ghost reading = { gathered_read (sees K.model V.model) (Made (IsMapOf K.Dst.cmp) (map (sees K.model V.model))) (bincode preallocation_limit) (pair_size K.reading.meta V.reading.meta) (pair_read K.reading V.reading) };
+    ghost reading = { gathered_read (sees K.model V.model) (Made (IsMapOf K.Dst.cmp) (map (sees K.model V.model))) (bincode preallocation_limit) (pair_size K.reading.meta V.reading.meta)
+        (pair_read K.reading V.reading) };
 
     fn type_meta() -> TypeMeta {
         TypeMeta::Dynamic
@@ -69,7 +70,8 @@ where
         Ok(())
     }
 
-    ghost read_laws = { map_read_laws (bincode preallocation_limit) (bincode_laws preallocation_limit) (pair_size K.reading.meta V.reading.meta) K.model V.model K.read_laws V.read_laws K.Dst.cmp K.Dst.Ord.total K.Dst.eq K.Dst.matches_eq K.alike };
+    ghost read_laws = { map_read_laws (bincode preallocation_limit) (bincode_laws preallocation_limit)
+        (pair_size K.reading.meta V.reading.meta) K.model V.model K.read_laws V.read_laws K.Dst.cmp K.Dst.Ord.total K.Dst.eq K.Dst.matches_eq K.alike };
 }
 
 impl<L: Lending, K: Key<L> + Eq + Hash, V: SchemaRead<L>> SchemaRead<L> for HashMap<K, V>
@@ -84,7 +86,8 @@ where
 
     ghost is_valid = { λ v. Unit {0} };
 
-    ghost reading = { gathered_read (sees K.model V.model) (Made (IsHashMapOf K.Dst.eq) (hash_map_sees K.Dst.eq K.model V.model)) (bincode preallocation_limit) (pair_size K.reading.meta V.reading.meta) (pair_read K.reading V.reading) };
+    ghost reading = { gathered_read (sees K.model V.model) (Made (IsHashMapOf K.Dst.eq) (hash_map_sees K.Dst.eq K.model V.model)) (bincode preallocation_limit)
+        (pair_size K.reading.meta V.reading.meta) (pair_read K.reading V.reading) };
 
     fn type_meta() -> TypeMeta {
         TypeMeta::Dynamic
@@ -110,7 +113,8 @@ where
         Ok(())
     }
 
-    ghost read_laws = { hash_map_read_laws (bincode preallocation_limit) (bincode_laws preallocation_limit) (pair_size K.reading.meta V.reading.meta) K.model V.model K.read_laws V.read_laws K.Dst.eq K.Dst.Eq.laws K.alike };
+    ghost read_laws = { hash_map_read_laws (bincode preallocation_limit) (bincode_laws preallocation_limit)
+        (pair_size K.reading.meta V.reading.meta) K.model V.model K.read_laws V.read_laws K.Dst.eq K.Dst.Eq.laws K.alike };
 }
 
 impl<L: Lending, K: Key<L> + Ord> SchemaRead<L> for BTreeSet<K>
@@ -146,7 +150,8 @@ where
         Ok(())
     }
 
-    ghost read_laws = { set_read_laws (bincode preallocation_limit) (bincode_laws preallocation_limit) (item_size K.reading.meta) K.model K.read_laws K.Dst.cmp K.Dst.Ord.total K.Dst.eq K.Dst.matches_eq K.alike };
+    ghost read_laws = { set_read_laws (bincode preallocation_limit) (bincode_laws preallocation_limit)
+        (item_size K.reading.meta) K.model K.read_laws K.Dst.cmp K.Dst.Ord.total K.Dst.eq K.Dst.matches_eq K.alike };
 }
 
 impl<L: Lending, K: Key<L> + Eq + Hash> SchemaRead<L> for HashSet<K>

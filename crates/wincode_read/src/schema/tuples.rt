@@ -159,7 +159,8 @@ fn decode_6<
     e: &mut E::Dst,
     f: &mut F::Dst,
 ) -> bool
-    ensures { IsTrue result → ⟦<Members6<A, B, C, D, E, F> as SchemaRead<L>>⟧.reading.reads bytes.now (A.model a.new, (B.model b.new, (C.model c.new, (D.model d.new, (E.model e.new, F.model f.new))))) }
+    ensures { IsTrue result → ⟦<Members6<A, B, C, D, E, F> as SchemaRead<L>>⟧.reading.reads bytes.now
+        (A.model a.new, (B.model b.new, (C.model c.new, (D.model d.new, (E.model e.new, F.model f.new))))) }
 {
     match A::type_meta() {
         TypeMeta::Static { size, .. } if size <= bytes.len() => {
@@ -192,7 +193,8 @@ fn decode_7<
     f: &mut F::Dst,
     g: &mut G::Dst,
 ) -> bool
-    ensures { IsTrue result → ⟦<Members7<A, B, C, D, E, F, G> as SchemaRead<L>>⟧.reading.reads bytes.now (A.model a.new, (B.model b.new, (C.model c.new, (D.model d.new, (E.model e.new, (F.model f.new, G.model g.new)))))) }
+    ensures { IsTrue result → ⟦<Members7<A, B, C, D, E, F, G> as SchemaRead<L>>⟧.reading.reads bytes.now
+        (A.model a.new, (B.model b.new, (C.model c.new, (D.model d.new, (E.model e.new, (F.model f.new, G.model g.new)))))) }
 {
     match A::type_meta() {
         TypeMeta::Static { size, .. } if size <= bytes.len() => {
@@ -227,7 +229,8 @@ pub(crate) fn decode_8<
     g: &mut G::Dst,
     h: &mut H::Dst,
 ) -> bool
-    ensures { IsTrue result → ⟦<Members8<A, B, C, D, E, F, G, H> as SchemaRead<L>>⟧.reading.reads bytes.now (A.model a.new, (B.model b.new, (C.model c.new, (D.model d.new, (E.model e.new, (F.model f.new, (G.model g.new, H.model h.new))))))) }
+    ensures { IsTrue result → ⟦<Members8<A, B, C, D, E, F, G, H> as SchemaRead<L>>⟧.reading.reads bytes.now
+        (A.model a.new, (B.model b.new, (C.model c.new, (D.model d.new, (E.model e.new, (F.model f.new, (G.model g.new, H.model h.new))))))) }
 {
     match A::type_meta() {
         TypeMeta::Static { size, .. } if size <= bytes.len() => {
@@ -563,7 +566,8 @@ impl<
         )
     }
 
-    ghost read_laws = { windowed_read_laws (pair_read_laws A.read_laws (pair_read_laws B.read_laws (pair_read_laws C.read_laws (pair_read_laws D.read_laws (pair_read_laws E.read_laws F.read_laws))))) };
+    ghost read_laws = { windowed_read_laws (pair_read_laws A.read_laws
+        (pair_read_laws B.read_laws (pair_read_laws C.read_laws (pair_read_laws D.read_laws (pair_read_laws E.read_laws F.read_laws))))) };
 }
 
 impl<A, B, C, D, E, F, G> FromPairs<(A, (B, (C, (D, (E, (F, G))))))> for (A, B, C, D, E, F, G) {
@@ -634,7 +638,8 @@ impl<
         )
     }
 
-    ghost read_laws = { windowed_read_laws (pair_read_laws A.read_laws (pair_read_laws B.read_laws (pair_read_laws C.read_laws (pair_read_laws D.read_laws (pair_read_laws E.read_laws (pair_read_laws F.read_laws G.read_laws)))))) };
+    ghost read_laws = { windowed_read_laws (pair_read_laws A.read_laws
+        (pair_read_laws B.read_laws (pair_read_laws C.read_laws (pair_read_laws D.read_laws (pair_read_laws E.read_laws (pair_read_laws F.read_laws G.read_laws)))))) };
 }
 
 impl<A, B, C, D, E, F, G, H> FromPairs<(A, (B, (C, (D, (E, (F, (G, H)))))))>
@@ -717,5 +722,6 @@ impl<
         )
     }
 
-    ghost read_laws = { windowed_read_laws (pair_read_laws A.read_laws (pair_read_laws B.read_laws (pair_read_laws C.read_laws (pair_read_laws D.read_laws (pair_read_laws E.read_laws (pair_read_laws F.read_laws (pair_read_laws G.read_laws H.read_laws))))))) };
+    ghost read_laws = { windowed_read_laws (pair_read_laws A.read_laws
+        (pair_read_laws B.read_laws (pair_read_laws C.read_laws (pair_read_laws D.read_laws (pair_read_laws E.read_laws (pair_read_laws F.read_laws (pair_read_laws G.read_laws H.read_laws))))))) };
 }

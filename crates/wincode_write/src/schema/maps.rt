@@ -69,7 +69,8 @@ where
         >(writer, src, size)
     }
 
-    ghost write_laws = { sounder_laws (IsOrdered K.Src.cmp) (list_write_laws_of (bincode preallocation_limit) 24 (pair_size K.writing.meta V.writing.meta) (λ m. m.entries) (λ e. K.is_valid e.0 × V.is_valid e.1) (sees K.model V.model)
+    ghost write_laws = { sounder_laws (IsOrdered K.Src.cmp) (list_write_laws_of (bincode preallocation_limit) 24 (pair_size K.writing.meta V.writing.meta) (λ m. m.entries)
+        (λ e. K.is_valid e.0 × V.is_valid e.1) (sees K.model V.model)
         (pair_write K.writing V.writing) (pair_write_laws K.write_laws V.write_laws)) };
 }
 
@@ -112,7 +113,8 @@ where
         >(writer, src, size)
     }
 
-    ghost write_laws = { sounder_laws (IsUnique K.Src.eq) (scattered_write_laws_of (bincode preallocation_limit) (pair_size K.writing.meta V.writing.meta) (λ m. m.entries) (pair_write_laws K.write_laws V.write_laws)) };
+    ghost write_laws = { sounder_laws (IsUnique K.Src.eq) (scattered_write_laws_of (bincode preallocation_limit) (pair_size K.writing.meta V.writing.meta) (λ m. m.entries)
+        (pair_write_laws K.write_laws V.write_laws)) };
 }
 
 /// A `BTreeSet` is the list of its items, in their order.

@@ -48,7 +48,8 @@ impl<T: ZeroCopy> SchemaWrite for Pod<T> {
 
     /// All at once: refused, nothing is written.
     fn write_items<W: Writer>(writer: &mut W, items: &[T]) -> WriteResult<()>
-        ensures { WrittenAtOnce T.size (length items.now) (form_write T.is_valid T.size T.form true (form_prealloc T.size)) (W.state writer.old) (W.state writer.new) (map (λ v. v) items.now) (Each T.is_valid items.now) result }
+        ensures { WrittenAtOnce T.size (length items.now) (form_write T.is_valid T.size T.form true (form_prealloc T.size)) (W.state writer.old) (W.state writer.new) (map (λ v. v) items.now)
+            (Each T.is_valid items.now) result }
     {
         if items.is_empty() {
             return Ok(());

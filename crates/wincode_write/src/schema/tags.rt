@@ -59,7 +59,8 @@ pub fn write_result<Tag: TagCode, T: SchemaWrite, E: SchemaWrite, W: Writer>(
     writer: &mut W,
     src: &Result<T::Src, E::Src>,
 ) -> WriteResult<()>
-    ensures { WriteOutcome (result_write Tag.size T.writing E.writing) (W.state writer.old) (W.state writer.new) (result_map_both T.model E.model src.now) (IfSide T.is_valid E.is_valid src.now) result }
+    ensures { WriteOutcome (result_write Tag.size T.writing E.writing) (W.state writer.old) (W.state writer.new) (result_map_both T.model E.model src.now)
+        (IfSide T.is_valid E.is_valid src.now) result }
 {
     match src {
         Ok(value) => {

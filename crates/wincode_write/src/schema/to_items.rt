@@ -316,7 +316,8 @@ fn write_pair<K: SchemaWrite, V: SchemaWrite, W: Writer>(
     key: &K::Src,
     value: &V::Src,
 ) -> WriteResult<()>
-    ensures { WriteOutcome (item_write (pair_write K.writing V.writing)) (W.state writer.old) (W.state writer.new) (K.model key.now, V.model value.now) (K.is_valid key.now × V.is_valid value.now) result }
+    ensures { WriteOutcome (item_write (pair_write K.writing V.writing)) (W.state writer.old) (W.state writer.new) (K.model key.now, V.model value.now)
+        (K.is_valid key.now × V.is_valid value.now) result }
 {
     write_members::<&Member<K>, &Member<V>, W>(writer, &(key, value))
 }
@@ -370,7 +371,8 @@ pub(crate) fn write_list_of<
     const COUNT: usize,
 >(writer: &mut W, src: &C, size: ItemSize) -> WriteResult<()>
     requires size { IsWriteItemSize T.writing size }
-    ensures outcome { WriteOutcome (list_write_of Len.scheme COUNT size T.writing) (W.state writer.old) (W.state writer.new) (map T.model (C.listed src.now)) (Each T.is_valid (C.listed src.now)) result }
+    ensures outcome { WriteOutcome (list_write_of Len.scheme COUNT size T.writing) (W.state writer.old) (W.state writer.new) (map T.model (C.listed src.now))
+        (Each T.is_valid (C.listed src.now)) result }
     ensures sound { C.sound src.now }
 {
     if let ItemSize::Unknown = size {

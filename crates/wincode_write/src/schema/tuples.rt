@@ -631,7 +631,8 @@ pub fn write_members_6<
     f: &F::Src,
 ) -> WriteResult<()>
     ensures { let tuple = ⟦<(A, B, C, D, E, F) as SchemaWrite>⟧ in
-        WriteOutcome tuple.writing (W.state writer.old) (W.state writer.new) (tuple.model (a.now, b.now, c.now, d.now, e.now, f.now)) (tuple.is_valid (a.now, b.now, c.now, d.now, e.now, f.now)) result }
+        WriteOutcome tuple.writing (W.state writer.old) (W.state writer.new) (tuple.model (a.now, b.now, c.now, d.now, e.now, f.now))
+            (tuple.is_valid (a.now, b.now, c.now, d.now, e.now, f.now)) result }
 {
     write_6::<&Member<A>, &Member<B>, &Member<C>, &Member<D>, &Member<E>, &Member<F>, W>(
         writer,
@@ -813,7 +814,8 @@ pub fn write_members_7<
     g: &G::Src,
 ) -> WriteResult<()>
     ensures { let tuple = ⟦<(A, B, C, D, E, F, G) as SchemaWrite>⟧ in
-        WriteOutcome tuple.writing (W.state writer.old) (W.state writer.new) (tuple.model (a.now, b.now, c.now, d.now, e.now, f.now, g.now)) (tuple.is_valid (a.now, b.now, c.now, d.now, e.now, f.now, g.now)) result }
+        WriteOutcome tuple.writing (W.state writer.old) (W.state writer.new) (tuple.model (a.now, b.now, c.now, d.now, e.now, f.now, g.now))
+            (tuple.is_valid (a.now, b.now, c.now, d.now, e.now, f.now, g.now)) result }
 {
     write_7::<
         &Member<A>,
@@ -1000,7 +1002,8 @@ pub fn encode_members_8<
     dst: &mut [u8],
 ) -> bool
     ensures { let tuple = ⟦<(A, B, C, D, E, F, G, H) as SchemaWrite>⟧ in
-        IsTrue result → IsEncoded tuple.writing (tuple.model (a.now, b.now, c.now, d.now, e.now, f.now, g.now, h.now)) dst.new × tuple.is_valid (a.now, b.now, c.now, d.now, e.now, f.now, g.now, h.now) }
+        IsTrue result → IsEncoded tuple.writing (tuple.model (a.now, b.now, c.now, d.now, e.now, f.now, g.now, h.now)) dst.new
+            × tuple.is_valid (a.now, b.now, c.now, d.now, e.now, f.now, g.now, h.now) }
 {
     encode_8::<
         &Member<A>,
@@ -1038,7 +1041,8 @@ pub fn write_members_8<
     h: &H::Src,
 ) -> WriteResult<()>
     ensures { let tuple = ⟦<(A, B, C, D, E, F, G, H) as SchemaWrite>⟧ in
-        WriteOutcome tuple.writing (W.state writer.old) (W.state writer.new) (tuple.model (a.now, b.now, c.now, d.now, e.now, f.now, g.now, h.now)) (tuple.is_valid (a.now, b.now, c.now, d.now, e.now, f.now, g.now, h.now)) result }
+        WriteOutcome tuple.writing (W.state writer.old) (W.state writer.new) (tuple.model (a.now, b.now, c.now, d.now, e.now, f.now, g.now, h.now))
+            (tuple.is_valid (a.now, b.now, c.now, d.now, e.now, f.now, g.now, h.now)) result }
 {
     write_8::<
         &Member<A>,

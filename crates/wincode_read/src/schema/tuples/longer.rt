@@ -38,7 +38,8 @@ fn decode_9<
     h: &mut H::Dst,
     i: &mut I::Dst,
 ) -> bool
-    ensures { IsTrue result → ⟦<Members9<A, B, C, D, E, F, G, H, I> as SchemaRead<L>>⟧.reading.reads bytes.now (A.model a.new, (B.model b.new, (C.model c.new, (D.model d.new, (E.model e.new, (F.model f.new, (G.model g.new, (H.model h.new, I.model i.new)))))))) }
+    ensures { IsTrue result → ⟦<Members9<A, B, C, D, E, F, G, H, I> as SchemaRead<L>>⟧.reading.reads bytes.now
+        (A.model a.new, (B.model b.new, (C.model c.new, (D.model d.new, (E.model e.new, (F.model f.new, (G.model g.new, (H.model h.new, I.model i.new)))))))) }
 {
     match A::type_meta() {
         TypeMeta::Static { size, .. } if size <= bytes.len() => {
@@ -78,7 +79,8 @@ fn decode_10<
     i: &mut I::Dst,
     j: &mut J::Dst,
 ) -> bool
-    ensures { IsTrue result → ⟦<Members10<A, B, C, D, E, F, G, H, I, J> as SchemaRead<L>>⟧.reading.reads bytes.now (A.model a.new, (B.model b.new, (C.model c.new, (D.model d.new, (E.model e.new, (F.model f.new, (G.model g.new, (H.model h.new, (I.model i.new, J.model j.new))))))))) }
+    ensures { IsTrue result → ⟦<Members10<A, B, C, D, E, F, G, H, I, J> as SchemaRead<L>>⟧.reading.reads bytes.now
+        (A.model a.new, (B.model b.new, (C.model c.new, (D.model d.new, (E.model e.new, (F.model f.new, (G.model g.new, (H.model h.new, (I.model i.new, J.model j.new))))))))) }
 {
     match A::type_meta() {
         TypeMeta::Static { size, .. } if size <= bytes.len() => {
@@ -120,7 +122,8 @@ fn decode_11<
     j: &mut J::Dst,
     k: &mut K::Dst,
 ) -> bool
-    ensures { IsTrue result → ⟦<Members11<A, B, C, D, E, F, G, H, I, J, K> as SchemaRead<L>>⟧.reading.reads bytes.now (A.model a.new, (B.model b.new, (C.model c.new, (D.model d.new, (E.model e.new, (F.model f.new, (G.model g.new, (H.model h.new, (I.model i.new, (J.model j.new, K.model k.new)))))))))) }
+    ensures { IsTrue result → ⟦<Members11<A, B, C, D, E, F, G, H, I, J, K> as SchemaRead<L>>⟧.reading.reads bytes.now
+        (A.model a.new, (B.model b.new, (C.model c.new, (D.model d.new, (E.model e.new, (F.model f.new, (G.model g.new, (H.model h.new, (I.model i.new, (J.model j.new, K.model k.new)))))))))) }
 {
     match A::type_meta() {
         TypeMeta::Static { size, .. } if size <= bytes.len() => {
@@ -164,7 +167,9 @@ fn decode_12<
     k: &mut K::Dst,
     m: &mut M::Dst,
 ) -> bool
-    ensures { IsTrue result → ⟦<Members12<A, B, C, D, E, F, G, H, I, J, K, M> as SchemaRead<L>>⟧.reading.reads bytes.now (A.model a.new, (B.model b.new, (C.model c.new, (D.model d.new, (E.model e.new, (F.model f.new, (G.model g.new, (H.model h.new, (I.model i.new, (J.model j.new, (K.model k.new, M.model m.new))))))))))) }
+    ensures { IsTrue result → ⟦<Members12<A, B, C, D, E, F, G, H, I, J, K, M> as SchemaRead<L>>⟧.reading.reads bytes.now
+        (A.model a.new, (B.model b.new, (C.model c.new, (D.model d.new,
+        (E.model e.new, (F.model f.new, (G.model g.new, (H.model h.new, (I.model i.new, (J.model j.new, (K.model k.new, M.model m.new))))))))))) }
 {
     match A::type_meta() {
         TypeMeta::Static { size, .. } if size <= bytes.len() => {
@@ -263,7 +268,9 @@ impl<
         )
     }
 
-    ghost read_laws = { windowed_read_laws (pair_read_laws A.read_laws (pair_read_laws B.read_laws (pair_read_laws C.read_laws (pair_read_laws D.read_laws (pair_read_laws E.read_laws (pair_read_laws F.read_laws (pair_read_laws G.read_laws (pair_read_laws H.read_laws I.read_laws)))))))) };
+    ghost read_laws = { windowed_read_laws (pair_read_laws A.read_laws
+        (pair_read_laws B.read_laws (pair_read_laws C.read_laws
+        (pair_read_laws D.read_laws (pair_read_laws E.read_laws (pair_read_laws F.read_laws (pair_read_laws G.read_laws (pair_read_laws H.read_laws I.read_laws)))))))) };
 }
 
 impl<A, B, C, D, E, F, G, H, I, J> FromPairs<(A, (B, (C, (D, (E, (F, (G, (H, (I, J)))))))))>
@@ -356,7 +363,9 @@ impl<
         )
     }
 
-    ghost read_laws = { windowed_read_laws (pair_read_laws A.read_laws (pair_read_laws B.read_laws (pair_read_laws C.read_laws (pair_read_laws D.read_laws (pair_read_laws E.read_laws (pair_read_laws F.read_laws (pair_read_laws G.read_laws (pair_read_laws H.read_laws (pair_read_laws I.read_laws J.read_laws))))))))) };
+    ghost read_laws = { windowed_read_laws (pair_read_laws A.read_laws
+        (pair_read_laws B.read_laws (pair_read_laws C.read_laws
+        (pair_read_laws D.read_laws (pair_read_laws E.read_laws (pair_read_laws F.read_laws (pair_read_laws G.read_laws (pair_read_laws H.read_laws (pair_read_laws I.read_laws J.read_laws))))))))) };
 }
 
 impl<A, B, C, D, E, F, G, H, I, J, K> FromPairs<(A, (B, (C, (D, (E, (F, (G, (H, (I, (J, K))))))))))>
@@ -454,7 +463,10 @@ impl<
         )
     }
 
-    ghost read_laws = { windowed_read_laws (pair_read_laws A.read_laws (pair_read_laws B.read_laws (pair_read_laws C.read_laws (pair_read_laws D.read_laws (pair_read_laws E.read_laws (pair_read_laws F.read_laws (pair_read_laws G.read_laws (pair_read_laws H.read_laws (pair_read_laws I.read_laws (pair_read_laws J.read_laws K.read_laws)))))))))) };
+    ghost read_laws = { windowed_read_laws (pair_read_laws A.read_laws
+        (pair_read_laws B.read_laws (pair_read_laws C.read_laws
+        (pair_read_laws D.read_laws (pair_read_laws E.read_laws
+        (pair_read_laws F.read_laws (pair_read_laws G.read_laws (pair_read_laws H.read_laws (pair_read_laws I.read_laws (pair_read_laws J.read_laws K.read_laws)))))))))) };
 }
 
 impl<A, B, C, D, E, F, G, H, I, J, K, M> FromPairs<
@@ -556,5 +568,9 @@ impl<
         )
     }
 
-    ghost read_laws = { windowed_read_laws (pair_read_laws A.read_laws (pair_read_laws B.read_laws (pair_read_laws C.read_laws (pair_read_laws D.read_laws (pair_read_laws E.read_laws (pair_read_laws F.read_laws (pair_read_laws G.read_laws (pair_read_laws H.read_laws (pair_read_laws I.read_laws (pair_read_laws J.read_laws (pair_read_laws K.read_laws M.read_laws))))))))))) };
+    ghost read_laws = { windowed_read_laws (pair_read_laws A.read_laws
+        (pair_read_laws B.read_laws (pair_read_laws C.read_laws
+        (pair_read_laws D.read_laws (pair_read_laws E.read_laws
+        (pair_read_laws F.read_laws (pair_read_laws G.read_laws
+        (pair_read_laws H.read_laws (pair_read_laws I.read_laws (pair_read_laws J.read_laws (pair_read_laws K.read_laws M.read_laws))))))))))) };
 }

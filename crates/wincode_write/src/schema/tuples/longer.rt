@@ -136,7 +136,8 @@ pub fn encode_members_9<
     dst: &mut [u8],
 ) -> bool
     ensures { let tuple = ⟦<(A, B, C, D, E, F, G, H, I) as SchemaWrite>⟧ in
-        IsTrue result → IsEncoded tuple.writing (tuple.model (a.now, b.now, c.now, d.now, e.now, f.now, g.now, h.now, i.now)) dst.new × tuple.is_valid (a.now, b.now, c.now, d.now, e.now, f.now, g.now, h.now, i.now) }
+        IsTrue result → IsEncoded tuple.writing (tuple.model (a.now, b.now, c.now, d.now, e.now, f.now, g.now, h.now, i.now)) dst.new
+            × tuple.is_valid (a.now, b.now, c.now, d.now, e.now, f.now, g.now, h.now, i.now) }
 {
     encode_9::<
         &Member<A>,
@@ -177,7 +178,8 @@ pub fn write_members_9<
     i: &I::Src,
 ) -> WriteResult<()>
     ensures { let tuple = ⟦<(A, B, C, D, E, F, G, H, I) as SchemaWrite>⟧ in
-        WriteOutcome tuple.writing (W.state writer.old) (W.state writer.new) (tuple.model (a.now, b.now, c.now, d.now, e.now, f.now, g.now, h.now, i.now)) (tuple.is_valid (a.now, b.now, c.now, d.now, e.now, f.now, g.now, h.now, i.now)) result }
+        WriteOutcome tuple.writing (W.state writer.old) (W.state writer.new) (tuple.model (a.now, b.now, c.now, d.now, e.now, f.now, g.now, h.now, i.now))
+            (tuple.is_valid (a.now, b.now, c.now, d.now, e.now, f.now, g.now, h.now, i.now)) result }
 {
     write_9::<
         &Member<A>,
@@ -410,7 +412,8 @@ pub fn encode_members_10<
     dst: &mut [u8],
 ) -> bool
     ensures { let tuple = ⟦<(A, B, C, D, E, F, G, H, I, J) as SchemaWrite>⟧ in
-        IsTrue result → IsEncoded tuple.writing (tuple.model (a.now, b.now, c.now, d.now, e.now, f.now, g.now, h.now, i.now, j.now)) dst.new × tuple.is_valid (a.now, b.now, c.now, d.now, e.now, f.now, g.now, h.now, i.now, j.now) }
+        IsTrue result → IsEncoded tuple.writing (tuple.model (a.now, b.now, c.now, d.now, e.now, f.now, g.now, h.now, i.now, j.now)) dst.new
+            × tuple.is_valid (a.now, b.now, c.now, d.now, e.now, f.now, g.now, h.now, i.now, j.now) }
 {
     encode_10::<
         &Member<A>,
@@ -454,7 +457,8 @@ pub fn write_members_10<
     j: &J::Src,
 ) -> WriteResult<()>
     ensures { let tuple = ⟦<(A, B, C, D, E, F, G, H, I, J) as SchemaWrite>⟧ in
-        WriteOutcome tuple.writing (W.state writer.old) (W.state writer.new) (tuple.model (a.now, b.now, c.now, d.now, e.now, f.now, g.now, h.now, i.now, j.now)) (tuple.is_valid (a.now, b.now, c.now, d.now, e.now, f.now, g.now, h.now, i.now, j.now)) result }
+        WriteOutcome tuple.writing (W.state writer.old) (W.state writer.new) (tuple.model (a.now, b.now, c.now, d.now, e.now, f.now, g.now, h.now, i.now, j.now))
+            (tuple.is_valid (a.now, b.now, c.now, d.now, e.now, f.now, g.now, h.now, i.now, j.now)) result }
 {
     write_10::<
         &Member<A>,
@@ -706,7 +710,8 @@ pub fn encode_members_11<
     dst: &mut [u8],
 ) -> bool
     ensures { let tuple = ⟦<(A, B, C, D, E, F, G, H, I, J, K) as SchemaWrite>⟧ in
-        IsTrue result → IsEncoded tuple.writing (tuple.model (a.now, b.now, c.now, d.now, e.now, f.now, g.now, h.now, i.now, j.now, k.now)) dst.new × tuple.is_valid (a.now, b.now, c.now, d.now, e.now, f.now, g.now, h.now, i.now, j.now, k.now) }
+        IsTrue result → IsEncoded tuple.writing (tuple.model (a.now, b.now, c.now, d.now, e.now, f.now, g.now, h.now, i.now, j.now, k.now)) dst.new
+            × tuple.is_valid (a.now, b.now, c.now, d.now, e.now, f.now, g.now, h.now, i.now, j.now, k.now) }
 {
     encode_11::<
         &Member<A>,
@@ -753,7 +758,8 @@ pub fn write_members_11<
     k: &K::Src,
 ) -> WriteResult<()>
     ensures { let tuple = ⟦<(A, B, C, D, E, F, G, H, I, J, K) as SchemaWrite>⟧ in
-        WriteOutcome tuple.writing (W.state writer.old) (W.state writer.new) (tuple.model (a.now, b.now, c.now, d.now, e.now, f.now, g.now, h.now, i.now, j.now, k.now)) (tuple.is_valid (a.now, b.now, c.now, d.now, e.now, f.now, g.now, h.now, i.now, j.now, k.now)) result }
+        WriteOutcome tuple.writing (W.state writer.old) (W.state writer.new) (tuple.model (a.now, b.now, c.now, d.now, e.now, f.now, g.now, h.now, i.now, j.now, k.now))
+            (tuple.is_valid (a.now, b.now, c.now, d.now, e.now, f.now, g.now, h.now, i.now, j.now, k.now)) result }
 {
     write_11::<
         &Member<A>,
@@ -1025,7 +1031,8 @@ pub fn encode_members_12<
     dst: &mut [u8],
 ) -> bool
     ensures { let tuple = ⟦<(A, B, C, D, E, F, G, H, I, J, K, M) as SchemaWrite>⟧ in
-        IsTrue result → IsEncoded tuple.writing (tuple.model (a.now, b.now, c.now, d.now, e.now, f.now, g.now, h.now, i.now, j.now, k.now, m.now)) dst.new × tuple.is_valid (a.now, b.now, c.now, d.now, e.now, f.now, g.now, h.now, i.now, j.now, k.now, m.now) }
+        IsTrue result → IsEncoded tuple.writing (tuple.model (a.now, b.now, c.now, d.now, e.now, f.now, g.now, h.now, i.now, j.now, k.now, m.now)) dst.new
+            × tuple.is_valid (a.now, b.now, c.now, d.now, e.now, f.now, g.now, h.now, i.now, j.now, k.now, m.now) }
 {
     encode_12::<
         &Member<A>,
@@ -1078,7 +1085,8 @@ pub fn write_members_12<
     m: &M::Src,
 ) -> WriteResult<()>
     ensures { let tuple = ⟦<(A, B, C, D, E, F, G, H, I, J, K, M) as SchemaWrite>⟧ in
-        WriteOutcome tuple.writing (W.state writer.old) (W.state writer.new) (tuple.model (a.now, b.now, c.now, d.now, e.now, f.now, g.now, h.now, i.now, j.now, k.now, m.now)) (tuple.is_valid (a.now, b.now, c.now, d.now, e.now, f.now, g.now, h.now, i.now, j.now, k.now, m.now)) result }
+        WriteOutcome tuple.writing (W.state writer.old) (W.state writer.new) (tuple.model (a.now, b.now, c.now, d.now, e.now, f.now, g.now, h.now, i.now, j.now, k.now, m.now))
+            (tuple.is_valid (a.now, b.now, c.now, d.now, e.now, f.now, g.now, h.now, i.now, j.now, k.now, m.now)) result }
 {
     write_12::<
         &Member<A>,
