@@ -19,6 +19,7 @@ ghost use Rattle.wincode_base.specs.ListLaws.{list_read_laws, list_write_laws, l
 ghost use Rattle.wincode_base.specs.ScatteredLaws.{scattered_write_laws};
 ghost use Rattle.wincode_base.specs.ItemSizes.{item_size};
 
+mod keys;
 mod tagged;
 
 use crate::io::{Lending, Reader, Writer};

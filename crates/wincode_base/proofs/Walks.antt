@@ -1,5 +1,5 @@
 -- Going over the items of a collection, in writing.
-use Rattle.std.proofs.Common.{◌≡◌, ◌∙◌, sym, ap, subst, ℕ, ◌+◌, ◌-◌, ◌<◌, ◌≤◌, ◌^◌, List, [], ◌∷◌, ◌++◌, length, map, refl, arith, append_assoc, length-append}
+use Rattle.std.proofs.Common.{◌≡◌, ◌∙◌, sym, ap, subst, ℕ, ◌+◌, ◌-◌, ◌<◌, ◌≤◌, ◌^◌, List, [], ◌∷◌, ◌++◌, length, map, refl, arith, append_assoc, append-nil, length-append}
 use Rattle.std.proofs.lemmas.List.{map-append}
 use Rattle.wincode_io.specs.Joins.{Joined, Each, total}
 use Rattle.wincode_io.specs.JoinLaws.{joined_append, each_split, each_append, total-append}
@@ -72,6 +72,10 @@ module _ {V : Type 0} (g : WriteGrammar V) (us vs : List V) where
         refused = subst (λ k. g.refused i.item k i.rest e) less i.refused;
       }
 
+nothing : {E : Type 0} (rest : List E) → length rest ≡ 0 → rest ≡ []
+nothing [] none = refl
+nothing (e ∷ rest) none = absurd (omega (arith, none))
+
 module _ {S K V E : Type 0} {put : S → List ℕ → S} {room : S → ℕ} (laws : WriterLaws put room) {g : WriteGrammar V} {P : E → Type 0} {see : E → V} (l : WriteLaws P see g) where
   pub walk_more : {old cur new : WriterState put room K} {all rest left : List E} {e : E} → WritesSoFar g see P old cur all left → left ≡ e ∷ rest → Wrote g cur new (see e) → P e → WritesSoFar g see P old new all rest
   walk_more {old} {cur} {new} {all} {rest} {left} {e} w k r h = record {
@@ -143,6 +147,33 @@ module _ {S K V E : Type 0} {put : S → List ℕ → S} {room : S → ℕ} (law
       let us = map see xs in let vs = map see ys in
       both see xs ys all e (λ ws. Stopped (items_write g) old new ws x)
       (stopped_behind (items_write_laws P see g l) laws (items_write g) (items_write g) vs (us ++ vs) r s (λ d. refused_behind g us vs r.encoding r.is_encoding (room old.content) s.added x d))
+
+  -- ---- a run of the items that are left
+
+  run_joins : {old cur : WriterState put room K} {all left : List E} (run more : List E) (w : WritesSoFar g see P old cur all left) → left ≡ run ++ more → (w.done ++ run) ++ more ≡ all
+  run_joins run more w k = append_assoc w.done run more ∙ ap (λ t. w.done ++ t) (sym k) ∙ w.joins
+
+  pub walk_run : {old cur new : WriterState put room K} {all left : List E} (run more : List E) → WritesSoFar g see P old cur all left → left ≡ run ++ more → Wrote (items_write g) cur new (map see run) → Each P run → WritesSoFar g see P old new all more
+  walk_run run more w k r h = record {
+    done = w.done ++ run;
+    joins = run_joins run more w k;
+    items = runs_wrote w.done run (w.done ++ run) refl w.items r;
+    each = each_append P w.done run w.each h;
+  }
+
+  pub walk_run_refused : {old cur new : WriterState put room K} {all left : List E} {x : WriteError} (run more : List E) → WritesSoFar g see P old cur all left → left ≡ run ++ more → WriteRefused (items_write g) cur new (map see run) x
+      → WriteRefused (items_write g) old new (map see all) x
+  walk_run_refused {all = all} run more w k u = runs_refused_first (w.done ++ run) more all (run_joins run more w k) (runs_refused_second w.done run (w.done ++ run) refl w.items u)
+
+  pub walk_run_halted : {old cur new : WriterState put room K} {all left : List E} {x : WriteError} (run more : List E) → WritesSoFar g see P old cur all left → left ≡ run ++ more → Stopped (items_write g) cur new (map see run) x
+      → Stopped (items_write g) old new (map see all) x
+  walk_run_halted {all = all} run more w k s = runs_halted_first (w.done ++ run) more all (run_joins run more w k) (runs_halted_second w.done run (w.done ++ run) refl w.items s)
+
+  -- all items were written
+  pub walk_all : {old cur : WriterState put room K} {all left : List E} (w : WritesSoFar g see P old cur all left) → length left ≡ 0 → Wrote (items_write g) old cur (map see all) × Each P all
+  walk_all {old} {cur} {all} {left} w none =
+      let done : w.done ≡ all = sym (append-nil w.done) ∙ ap (λ t. w.done ++ t) (sym (nothing left none)) ∙ w.joins in
+      (subst (λ ds. Wrote (items_write g) old cur (map see ds)) done w.items, subst (Each P) done w.each)
 
 module _ {V E : Type 0} (g : WriteGrammar V) (see : E → V) (before : ℕ) where
   pub sum_more : (sum new : ℕ) (all rest left : List E) (e : E) → SumsSoFar g see before sum all left → left ≡ e ∷ rest → g.can (see e) → new ≡ sum + g.size (see e) → SumsSoFar g see before new all rest

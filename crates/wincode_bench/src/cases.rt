@@ -8,20 +8,25 @@ use crate::arguments::Asked;
 use crate::messages::time_messages;
 use crate::records::time_records;
 use crate::samples::time_samples;
+use crate::streams::time_streams;
 use crate::timing::Failure;
-use std::rt::Clock;
+use std::rt::{Clock, Files};
 use wincode::len::BincodeLen;
 
 /// A length with a limit that holds what the default's doesn't.
-type LongLen = BincodeLen<100_000_000>;
+pub type LongLen = BincodeLen<100_000_000>;
 
 /// Times each case that was asked for.
-pub fn time_cases(rt: &(impl Clock + Print + AllocGlobal), asked: &Asked) -> Result<(), Failure> {
+pub fn time_cases(
+    rt: &(impl Clock + Files + Print + AllocGlobal),
+    asked: &Asked,
+) -> Result<(), Failure> {
     numbers::time_all(rt, asked)?;
     texts::time_all(rt, asked)?;
     maps::time_all(rt, asked)?;
     items::time_all(rt, asked)?;
     time_records(rt, asked)?;
     time_messages(rt, asked)?;
-    time_samples(rt, asked)
+    time_samples(rt, asked)?;
+    time_streams(rt, asked)
 }

@@ -4,7 +4,8 @@
 //! least time of 40 runs, in microseconds, or in tenths of a nanosecond for each of many small values, and
 //! how many hundredths of the copy of as many bytes in the same run that is. `--time WORD..` times the
 //! cases alone whose names have one of the words in them. Each run looks at what it made, and what it reads
-//! and writes is made of a number that depends on the arguments, so that no run can leave anything out.
+//! and writes is made of a number that depends on the arguments, so that no run can leave anything out. Where values
+//! are read as they come, they stand in a file that is left where the program runs.
 #![tactic(auto)]
 
 mod arguments;
@@ -14,6 +15,7 @@ mod messages;
 mod parts;
 mod records;
 mod samples;
+mod streams;
 mod timing;
 mod values;
 

@@ -71,12 +71,17 @@ pub fn list_of<T: Made>(alloc: Global, first: u64, count: u64) -> Result<Vec<T>,
     Ok(list)
 }
 
-/// So many lists of as many numbers.
-pub fn square_of(alloc: Global, first: u64, side: u64) -> Result<Vec<Vec<u64>>, Failure> {
+/// So many lists of so many numbers each.
+pub fn lists_of(
+    alloc: Global,
+    first: u64,
+    count: u64,
+    length: u64,
+) -> Result<Vec<Vec<u64>>, Failure> {
     let mut lists = Vec::new(alloc);
-    for i in 0..side {
+    for i in 0..count {
         if lists
-            .push(list_of(alloc, first.wrapping_add(i), side)?)
+            .push(list_of(alloc, first.wrapping_add(i), length)?)
             .is_err()
         {
             return Err(Failure::OutOfMemory);

@@ -18,6 +18,8 @@ pub enum Failure {
     Write,
     #[error("the clock failed")]
     Clock,
+    #[error("the file failed")]
+    File,
     #[error("printing failed")]
     Print,
     #[error("out of memory")]

@@ -18,10 +18,10 @@ pub fn encoding<S: SchemaWrite>(alloc: Global, value: &S::Src) -> Result<Vec<u8>
 
 /// Reads a value by the schema `S`, and looks at it.
 #[derive(Drop)]
-struct Reading<'a, S> {
-    text: &'a [u8],
-    due: u64,
-    of: PhantomData<S>,
+pub struct Reading<'a, S> {
+    pub text: &'a [u8],
+    pub due: u64,
+    pub of: PhantomData<S>,
 }
 
 impl<'a, T: Look, S: SchemaRead<Lifetime<'a>, Dst = T>> Work for Reading<'a, S> {

@@ -2,7 +2,13 @@
 
 use std::collections::{BTreeMap, BTreeSet, BinaryHeap, HashMap, HashSet, VecDeque};
 use std::test::Fail;
-use wincode::{deserialize, serialize};
+use wincode::io::Lifetime;
+use wincode::len::ShortU16Len;
+use wincode::{containers, deserialize, serialize};
+use wincode_uses::rewriting::rewrite;
+
+/// Lists of bytes behind a short length.
+type ShortHeap = containers::BinaryHeap<containers::Vec<u8, ShortU16Len>, ShortU16Len>;
 
 #[test]
 fn keys_of_ordered_maps(rt: HostRuntime) -> Result<(), Fail> {
@@ -38,6 +44,37 @@ fn keys_of_ordered_maps(rt: HostRuntime) -> Result<(), Fail> {
     assert_eq!(rt; serialize(alloc, &sets)?.as_slice(), due.as_slice());
     let back: BTreeMap<BTreeSet<u8>, u8> = deserialize(alloc, due.as_slice())?;
     assert!(rt; back == sets);
+    Ok(())
+}
+
+#[test]
+fn long_tuples_are_keys(rt: HostRuntime) -> Result<(), Fail> {
+    let alloc = rt.alloc();
+    let mut nines = BTreeMap::new(alloc);
+    nines.insert((1u8, 2u8, 3u8, 4u8, 5u8, 6u8, 7u8, 8u8, 9u8), 10u8)?;
+    nines.insert((1, 2, 3, 4, 5, 6, 7, 8, 0), 11)?;
+    let due = [
+        2u8, 0, 0, 0, 0, 0, 0, 0, 1, 2, 3, 4, 5, 6, 7, 8, 0, 11, 1, 2, 3, 4, 5, 6, 7, 8, 9, 10,
+    ];
+    assert_eq!(rt; serialize(alloc, &nines)?.as_slice(), due.as_slice());
+    let back: BTreeMap<(u8, u8, u8, u8, u8, u8, u8, u8, u8), u8> = deserialize(
+        alloc,
+        due.as_slice(),
+    )?;
+    assert!(rt; back == nines);
+    let mut twelves = BTreeSet::new(alloc);
+    twelves.insert((
+        1u8, 2u8, 3u8, 4u8, 5u8, 6u8, 7u8, 8u8, 9u8, 10u8, 11u8, 12u8,
+    ))?;
+    let due = [
+        1u8, 0, 0, 0, 0, 0, 0, 0, 1, 2, 3, 4, 5, 6, 7, 8, 9, 10, 11, 12,
+    ];
+    assert_eq!(rt; serialize(alloc, &twelves)?.as_slice(), due.as_slice());
+    let back: BTreeSet<(u8, u8, u8, u8, u8, u8, u8, u8, u8, u8, u8, u8)> = deserialize(
+        alloc,
+        due.as_slice(),
+    )?;
+    assert!(rt; back == twelves);
     Ok(())
 }
 
@@ -82,5 +119,9 @@ fn items_of_heaps(rt: HostRuntime) -> Result<(), Fail> {
         matches!(&least, Some((name, note)) if name.as_str() == "a" && note.as_str() == "")
     );
     assert!(rt; heap.is_empty());
+    let lists = [2u8, 2, 98, 99, 1, 97];
+    let mut reader = lists.as_slice();
+    let text = rewrite::<Lifetime, _, ShortHeap>(alloc, &mut reader)?;
+    assert_eq!(rt; text.as_slice(), lists.as_slice());
     Ok(())
 }

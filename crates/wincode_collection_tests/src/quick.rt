@@ -42,6 +42,10 @@ type TwelveApart = (
     Byte,
 );
 
+type Record = (u64, bool, [u8; 32]);
+
+type RecordApart = (Single<u64>, Flag, [Byte; 32]);
+
 type Sides = Result<u16, [bool; 2]>;
 
 type SidesApart = Result<Short, [Flag; 2]>;
@@ -77,7 +81,7 @@ fn add_fronts(alloc: Global, list: &[u8], rows: &mut Vec<Vec<u8>>) -> Result<(),
 /// Lists of so many of the item, and of 33 of them each with a byte changed, and each front.
 fn lists_of(alloc: Global, item: &[u8]) -> Result<Vec<Vec<u8>>, Fail> {
     let mut rows = Vec::new(alloc);
-    for n in [0, 1, 31, 32, 33, 1000] {
+    for n in [0, 1, 24, 25, 31, 32, 33, 48, 49, 1000] {
         rows.push(list_of(alloc, n, item)?)?;
     }
     let list = list_of(alloc, 33, item)?;
@@ -142,6 +146,31 @@ fn leaves_are_read_alike(rt: HostRuntime) -> Result<(), Fail> {
     assert!(rt; are_alike::<Vec<u128>, Vec<Single<u128>>>(alloc, rows)?);
     assert!(rt; are_alike::<Vec<usize>, Vec<Single<usize>>>(alloc, rows)?);
     assert!(rt; are_alike::<Vec<isize>, Vec<Single<isize>>>(alloc, rows)?);
+    Ok(())
+}
+
+/// Items of 41 and of 17 bytes, which are written several at a time.
+#[test]
+fn long_items_are_written_alike(rt: HostRuntime) -> Result<(), Fail> {
+    let alloc = rt.alloc();
+    let all = lists_of(
+        alloc,
+        &[
+            8, 7, 6, 5, 4, 3, 0, 1, 1, 31, 30, 29, 28, 27, 26, 25, 24, 23, 22, 21, 20, 19, 18, 17,
+            16, 15, 14, 13, 12, 11, 10, 9, 8, 7, 6, 5, 4, 3, 2, 1, 0,
+        ],
+    )?;
+    let rows = all.as_slice();
+    assert!(rt; are_alike::<Vec<Record>, Vec<RecordApart>>(alloc, rows)?);
+    let all = lists_of(
+        alloc,
+        &[
+            9, 8, 7, 6, 5, 4, 3, 2, 1, 0, 255, 254, 253, 252, 251, 250, 1,
+        ],
+    )?;
+    let rows = all.as_slice();
+    assert!(rt; are_alike::<Vec<[u8; 17]>, Vec<[Byte; 17]>>(alloc, rows)?);
+    assert!(rt; are_alike::<Vec<(u128, bool)>, Vec<(Single<u128>, Flag)>>(alloc, rows)?);
     Ok(())
 }
 

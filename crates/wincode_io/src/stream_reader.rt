@@ -15,10 +15,11 @@ use super::input::Input;
 use super::lending::{Lending, Lifetime};
 use super::reader::Reader;
 use super::source::Source;
+use super::std_source::StdSource;
 use super::window::{CountedSliceReader, ReadWindow};
 use super::zero_copy::{ZeroCopy, read_forms, total_size};
 use std::alloc::Global;
-use std::io;
+use std::io::{self, Read};
 use std::marker::Model;
 
 /// Reads from a source through a buffer, and lends nothing.
@@ -163,6 +164,15 @@ impl<S: Source> StreamReader<S> {
             return Err(ReadError::OutOfMemory);
         };
         Ok(window)
+    }
+}
+
+impl<R: Read> StreamReader<StdSource<R>> {
+    /// The reader of std's that the source is of. The bytes at hand are dropped, as std's `BufReader` drops them.
+    pub fn into_inner(self) -> R
+        ensures { result ≡ self.source.inner }
+    {
+        self.into_source().into_inner()
     }
 }
 

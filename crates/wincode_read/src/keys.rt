@@ -160,7 +160,8 @@ where
     E::Dst: Eq,
     F::Dst: Eq,
 {
-    ghost alike = { λ x y e. both_true (both_true (both_true (both_true (both_true (A.alike x.0 y.0 (ap (λ t. t.0) e)) (B.alike x.1 y.1 (ap (λ t. t.1.0) e))) (C.alike x.2 y.2 (ap (λ t. t.1.1.0) e)))
+    ghost alike = { λ x y e. both_true (both_true (both_true (both_true (both_true (A.alike x.0 y.0 (ap (λ t. t.0) e)) (B.alike x.1 y.1 (ap (λ t. t.1.0) e))) (C.alike x.2 y.2 (ap
+        (λ t. t.1.1.0) e)))
         (D.alike x.3 y.3 (ap (λ t. t.1.1.1.0) e))) (E.alike x.4 y.4 (ap (λ t. t.1.1.1.1.0) e))) (F.alike x.5 y.5 (ap (λ t. t.1.1.1.1.1) e)) };
 }
 
@@ -202,8 +203,139 @@ where
     H::Dst: Eq,
 {
     ghost alike = { λ x y e. both_true (both_true (both_true (both_true
-        (both_true (both_true (both_true (A.alike x.0 y.0 (ap (λ t. t.0) e)) (B.alike x.1 y.1 (ap (λ t. t.1.0) e))) (C.alike x.2 y.2 (ap (λ t. t.1.1.0) e))) (D.alike x.3 y.3 (ap (λ t. t.1.1.1.0) e)))
-        (E.alike x.4 y.4 (ap (λ t. t.1.1.1.1.0) e))) (F.alike x.5 y.5 (ap (λ t. t.1.1.1.1.1.0) e))) (G.alike x.6 y.6 (ap (λ t. t.1.1.1.1.1.1.0) e))) (H.alike x.7 y.7 (ap (λ t. t.1.1.1.1.1.1.1) e)) };
+        (both_true (both_true (both_true (A.alike x.0 y.0 (ap (λ t. t.0) e)) (B.alike x.1 y.1 (ap (λ t. t.1.0) e))) (C.alike x.2 y.2 (ap (λ t. t.1.1.0) e))) (D.alike x.3 y.3 (ap
+        (λ t. t.1.1.1.0) e)))
+        (E.alike x.4 y.4 (ap (λ t. t.1.1.1.1.0) e))) (F.alike x.5 y.5 (ap (λ t. t.1.1.1.1.1.0) e))) (G.alike x.6 y.6 (ap (λ t. t.1.1.1.1.1.1.0) e))) (H.alike x.7 y.7 (ap
+        (λ t. t.1.1.1.1.1.1.1) e)) };
+}
+
+impl<
+    L: Lending,
+    A: Key<L>,
+    B: Key<L>,
+    C: Key<L>,
+    D: Key<L>,
+    E: Key<L>,
+    F: Key<L>,
+    G: Key<L>,
+    H: Key<L>,
+    I: Key<L>,
+> Key<L> for (A, B, C, D, E, F, G, H, I)
+where
+    A::Dst: Eq,
+    B::Dst: Eq,
+    C::Dst: Eq,
+    D::Dst: Eq,
+    E::Dst: Eq,
+    F::Dst: Eq,
+    G::Dst: Eq,
+    H::Dst: Eq,
+    I::Dst: Eq,
+{
+    ghost alike = { λ x y e. both_true (both_true (both_true (both_true (both_true (both_true (both_true (both_true (A.alike x.0 y.0 (ap (λ t. t.0) e))
+        (B.alike x.1 y.1 (ap (λ t. t.1.0) e))) (C.alike x.2 y.2 (ap (λ t. t.1.1.0) e))) (D.alike x.3 y.3 (ap (λ t. t.1.1.1.0) e))) (E.alike x.4 y.4 (ap (λ t. t.1.1.1.1.0) e)))
+        (F.alike x.5 y.5 (ap (λ t. t.1.1.1.1.1.0) e))) (G.alike x.6 y.6 (ap (λ t. t.1.1.1.1.1.1.0) e))) (H.alike x.7 y.7 (ap (λ t. t.1.1.1.1.1.1.1.0) e)))
+        (I.alike x.8 y.8 (ap (λ t. t.1.1.1.1.1.1.1.1) e)) };
+}
+
+impl<
+    L: Lending,
+    A: Key<L>,
+    B: Key<L>,
+    C: Key<L>,
+    D: Key<L>,
+    E: Key<L>,
+    F: Key<L>,
+    G: Key<L>,
+    H: Key<L>,
+    I: Key<L>,
+    J: Key<L>,
+> Key<L> for (A, B, C, D, E, F, G, H, I, J)
+where
+    A::Dst: Eq,
+    B::Dst: Eq,
+    C::Dst: Eq,
+    D::Dst: Eq,
+    E::Dst: Eq,
+    F::Dst: Eq,
+    G::Dst: Eq,
+    H::Dst: Eq,
+    I::Dst: Eq,
+    J::Dst: Eq,
+{
+    ghost alike = { λ x y e. both_true (both_true (both_true (both_true (both_true (both_true (both_true (both_true (both_true (A.alike x.0 y.0 (ap (λ t. t.0) e))
+        (B.alike x.1 y.1 (ap (λ t. t.1.0) e))) (C.alike x.2 y.2 (ap (λ t. t.1.1.0) e))) (D.alike x.3 y.3 (ap (λ t. t.1.1.1.0) e))) (E.alike x.4 y.4 (ap (λ t. t.1.1.1.1.0) e)))
+        (F.alike x.5 y.5 (ap (λ t. t.1.1.1.1.1.0) e))) (G.alike x.6 y.6 (ap (λ t. t.1.1.1.1.1.1.0) e))) (H.alike x.7 y.7 (ap (λ t. t.1.1.1.1.1.1.1.0) e)))
+        (I.alike x.8 y.8 (ap (λ t. t.1.1.1.1.1.1.1.1.0) e))) (J.alike x.9 y.9 (ap (λ t. t.1.1.1.1.1.1.1.1.1) e)) };
+}
+
+impl<
+    L: Lending,
+    A: Key<L>,
+    B: Key<L>,
+    C: Key<L>,
+    D: Key<L>,
+    E: Key<L>,
+    F: Key<L>,
+    G: Key<L>,
+    H: Key<L>,
+    I: Key<L>,
+    J: Key<L>,
+    K: Key<L>,
+> Key<L> for (A, B, C, D, E, F, G, H, I, J, K)
+where
+    A::Dst: Eq,
+    B::Dst: Eq,
+    C::Dst: Eq,
+    D::Dst: Eq,
+    E::Dst: Eq,
+    F::Dst: Eq,
+    G::Dst: Eq,
+    H::Dst: Eq,
+    I::Dst: Eq,
+    J::Dst: Eq,
+    K::Dst: Eq,
+{
+    ghost alike = { λ x y e. both_true (both_true (both_true (both_true (both_true (both_true (both_true (both_true (both_true (both_true (A.alike x.0 y.0 (ap (λ t. t.0) e))
+        (B.alike x.1 y.1 (ap (λ t. t.1.0) e))) (C.alike x.2 y.2 (ap (λ t. t.1.1.0) e))) (D.alike x.3 y.3 (ap (λ t. t.1.1.1.0) e))) (E.alike x.4 y.4 (ap (λ t. t.1.1.1.1.0) e)))
+        (F.alike x.5 y.5 (ap (λ t. t.1.1.1.1.1.0) e))) (G.alike x.6 y.6 (ap (λ t. t.1.1.1.1.1.1.0) e))) (H.alike x.7 y.7 (ap (λ t. t.1.1.1.1.1.1.1.0) e)))
+        (I.alike x.8 y.8 (ap (λ t. t.1.1.1.1.1.1.1.1.0) e))) (J.alike x.9 y.9 (ap (λ t. t.1.1.1.1.1.1.1.1.1.0) e))) (K.alike x.10 y.10 (ap (λ t. t.1.1.1.1.1.1.1.1.1.1) e)) };
+}
+
+impl<
+    L: Lending,
+    A: Key<L>,
+    B: Key<L>,
+    C: Key<L>,
+    D: Key<L>,
+    E: Key<L>,
+    F: Key<L>,
+    G: Key<L>,
+    H: Key<L>,
+    I: Key<L>,
+    J: Key<L>,
+    K: Key<L>,
+    M: Key<L>,
+> Key<L> for (A, B, C, D, E, F, G, H, I, J, K, M)
+where
+    A::Dst: Eq,
+    B::Dst: Eq,
+    C::Dst: Eq,
+    D::Dst: Eq,
+    E::Dst: Eq,
+    F::Dst: Eq,
+    G::Dst: Eq,
+    H::Dst: Eq,
+    I::Dst: Eq,
+    J::Dst: Eq,
+    K::Dst: Eq,
+    M::Dst: Eq,
+{
+    ghost alike = { λ x y e. both_true (both_true (both_true (both_true (both_true (both_true (both_true (both_true (both_true (both_true (both_true (A.alike x.0 y.0 (ap (λ t. t.0) e))
+        (B.alike x.1 y.1 (ap (λ t. t.1.0) e))) (C.alike x.2 y.2 (ap (λ t. t.1.1.0) e))) (D.alike x.3 y.3 (ap (λ t. t.1.1.1.0) e))) (E.alike x.4 y.4 (ap (λ t. t.1.1.1.1.0) e)))
+        (F.alike x.5 y.5 (ap (λ t. t.1.1.1.1.1.0) e))) (G.alike x.6 y.6 (ap (λ t. t.1.1.1.1.1.1.0) e))) (H.alike x.7 y.7 (ap (λ t. t.1.1.1.1.1.1.1.0) e)))
+        (I.alike x.8 y.8 (ap (λ t. t.1.1.1.1.1.1.1.1.0) e))) (J.alike x.9 y.9 (ap (λ t. t.1.1.1.1.1.1.1.1.1.0) e))) (K.alike x.10 y.10 (ap (λ t. t.1.1.1.1.1.1.1.1.1.1.0) e)))
+        (M.alike x.11 y.11 (ap (λ t. t.1.1.1.1.1.1.1.1.1.1.1) e)) };
 }
 
 impl<L: Lending, T: Key<L>, E: Key<L>> Key<L> for Result<T, E>

@@ -1,7 +1,7 @@
 //! Numbers: in lists, in lists of lists, in a queue, and bytes.
 use super::LongLen;
 use crate::arguments::Asked;
-use crate::parts::{list_of, queue_of, square_of};
+use crate::parts::{list_of, lists_of, queue_of};
 use crate::timing::Failure;
 use crate::values::{encoding, time_value};
 use std::collections::VecDeque;
@@ -88,7 +88,7 @@ fn time_lists(rt: &(impl Clock + Print + AllocGlobal), asked: &Asked) -> Result<
     if !asked.has(name) {
         return Ok(());
     }
-    let lists = square_of(rt.alloc(), asked.first(), 1_000)?;
+    let lists = lists_of(rt.alloc(), asked.first(), 1_000, 1_000)?;
     let text = encoding::<Vec<Vec<u64>>>(rt.alloc(), &lists)?;
     time_value::<Vec<Vec<u64>>, Vec<Vec<u64>>>(rt, name, &lists, text.as_slice())
 }

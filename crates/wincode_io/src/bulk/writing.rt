@@ -38,7 +38,8 @@ fn write_blocks<W: Writer, T: ZeroCopy>(writer: &mut W, values: &[T])
     }
 }
 
-/// Writes the forms, of at most 128 bytes in all, for which room was made: they are put together at once.
+/// Writes the forms, of at most 128 bytes in all, for which room was made: they are put together at once. They stand
+/// at the end of their block: at its front, the compiler clears what they leave of it by a call.
 fn write_few<W: Writer, T: ZeroCopy>(writer: &mut W, values: &[T], total: usize)
     requires room { length values.now * T.size ≤ (W.state writer.old).ready }
     requires total { total ≡ length values.now * T.size }
@@ -47,7 +48,7 @@ fn write_few<W: Writer, T: ZeroCopy>(writer: &mut W, values: &[T], total: usize)
     ensures is_valid { All T.is_valid values.now }
 {
     let mut bytes = [0u8; 128];
-    let forms = &mut bytes[..total];
+    let forms = &mut bytes[128 - total..];
     put_forms(values, forms);
     writer.write_ready(forms);
 }

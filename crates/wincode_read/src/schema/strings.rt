@@ -1,13 +1,14 @@
 //! Schemas of characters and of texts.
 ghost use Rattle.std.proofs.Common.{lit≤};
 ghost use Rattle.std.specs.Char.{IsScalar};
-ghost use Rattle.std.specs.Prelude.{⊤, ◌≡◌, ℕ, true, false, List, IsUtf8, string_bytes, IfOk, IfErr};
+ghost use Rattle.std.specs.Prelude.{⊤, ◌≡◌, ℕ, ◌≤◌, true, false, List, length, take, IsUtf8, string_bytes, IfOk, IfErr, IfSome, IfNone};
 ghost use Rattle.wincode_io.specs.Readers.{Stays, Arrays, IsPeeked};
-ghost use Rattle.wincode_base.specs.Outcomes.{PieceReadRefused, ReadOutcome, GetOutcome};
+ghost use Rattle.wincode_base.specs.Outcomes.{Gives, PieceReadRefused, ReadOutcome, GetOutcome};
 ghost use Rattle.wincode_base.specs.Strings.{char_read, announced, str_read, body_read, StrBytesReadRefused};
 ghost use Rattle.wincode_base.specs.StringLaws.{char_read_laws, str_read_laws};
 
 use crate::schema::SchemaRead;
+use crate::schema::as_forms::decode_form;
 use std::alloc::Global;
 use std::str;
 use wincode_base::error::{ReadError, ReadResult, invalid_char_lead, invalid_utf8_encoding};
@@ -113,8 +114,42 @@ fn take_text<L: Lending, R: Reader<L>>(
     }
 }
 
-/// A text behind its length.
+/// The text at the front of the bytes, behind its length, and how many bytes both have. There is none where not all of
+/// them are there, they are over the limit or no text, or memory is refused: `get_text` says which.
 #[inline(always)]
+fn front_text(alloc: Global, bytes: &[u8]) -> Option<(String, usize)>
+    ensures { IfSome result (λ t. (t.1 ≤ length bytes.now) × (str_read 24 0 false).reads (take t.1 bytes.now) (string_bytes t.0)) }
+{
+    if bytes.len() < 8 {
+        return None;
+    }
+    let (front, rest) = bytes.split_at(8);
+    let mut length = 0u64;
+    if !decode_form(front, &mut length) {
+        return None;
+    }
+    let n = length as usize;
+    if n > PREALLOCATION_LIMIT || n > rest.len() {
+        return None;
+    }
+    let text = str::from_utf8(&rest[..n]).ok()?;
+    let copy = String::from_str(alloc, text).ok()?;
+    Some((copy, 8 + n))
+}
+
+/// The text at the front, behind its length, where all of it is at hand. Else the reader is as it was.
+#[inline(always)]
+fn text_at_hand<L: Lending, R: Reader<L>>(alloc: Global, reader: &mut R) -> Option<String>
+    ensures some { IfSome result (λ s. Gives (str_read 24 0 false).reads (R.state reader.old) (R.state reader.new) (string_bytes s)) }
+    ensures none { IfNone result (R.state reader.new ≡ R.state reader.old) }
+{
+    let (text, size) = front_text(alloc, reader.at_hand())?;
+    reader.consume_unchecked(size);
+    Some(text)
+}
+
+/// A text behind its length.
+#[inline(never)]
 fn get_text<L: Lending, R: Reader<L>>(alloc: Global, reader: &mut R) -> ReadResult<String>
     ensures { GetOutcome (str_read 24 0 false) (λ s. string_bytes s) (R.state reader.old) (R.state reader.new) result }
 {
@@ -144,11 +179,16 @@ impl<L: Lending> SchemaRead<L> for String {
     /// Its length is read and held against the limit, its bytes are brought to hand, memory is asked
     /// for, the bytes are consumed, and then they are looked at. Too few bytes or no memory leave the
     /// reader behind the length, bytes that are not UTF-8 behind them.
+    #[inline(always)]
     fn read<R: Reader<L>>(
         alloc: Global,
         reader: &mut R,
         dst: &mut Option<String>,
     ) -> ReadResult<()> {
+        if let Some(text) = text_at_hand::<L, R>(alloc, reader) {
+            *dst = Some(text);
+            return Ok(());
+        }
         *dst = Some(get_text::<L, R>(alloc, reader)?);
         Ok(())
     }

@@ -1,13 +1,21 @@
-//! A short value of one size is put together, and then written at once.
-ghost use Rattle.std.specs.Prelude.{◌≡◌, true, false, IfOk, IfErr};
+//! A short value of one size is put together, and then written at once; many of them are written a block at a time.
+ghost use Rattle.std.specs.Prelude.{◌≡◌, ◌*◌, ◌<◌, ◌≤◌, true, false, map, IfOk, IfErr};
+ghost use Rattle.wincode_io.specs.Joins.{Each};
 ghost use Rattle.wincode_base.specs.InWindow.{windowed_write};
-ghost use Rattle.wincode_base.specs.Lists.{item_write};
+ghost use Rattle.wincode_base.specs.Lists.{item_write, items_write};
 ghost use Rattle.wincode_base.specs.Outcomes.{Wrote, WriteRefused, Stopped, WriteOutcome};
+ghost use Rattle.wincode_base.specs.declared.meta.TypeMeta.TheVariants.{Dynamic};
 
 use crate::schema::{LONGEST, SchemaWrite};
 use wincode_base::error::WriteResult;
 use wincode_base::meta::TypeMeta;
 use wincode_io::Writer;
+
+/// How many bytes of encodings are put together at a time, where there are many of them.
+const BLOCK: usize = 1024;
+
+/// The longest encoding, in bytes, of which many are written by the schema's own `write_items`.
+const SMALL: usize = 16;
 
 /// Writes the value by one call of the writer, where its schema puts it together; or answers `false`, and
 /// has written nothing.
@@ -46,4 +54,48 @@ pub(crate) fn write_item<T: SchemaWrite, W: Writer>(writer: &mut W, src: &T::Src
         return Ok(());
     }
     T::write(writer, src)
+}
+
+/// Writes items of one size, at most `count` at a time: those that their schema puts together by one call of the
+/// writer, others as it writes them.
+fn write_blocks<T: SchemaWrite, W: Writer>(
+    writer: &mut W,
+    items: &[T::Src],
+    size: usize,
+    count: usize,
+) -> WriteResult<()>
+    requires one_size { T.writing.meta ≡ Dynamic → ⊥ }
+    requires count { 0 < count }
+    requires block { count * size ≤ 1024 }
+    ensures { WriteOutcome (items_write T.writing) (W.state writer.old) (W.state writer.new) (map T.model items.now) (Each T.is_valid items.now) result }
+{
+    let mut block = [0; BLOCK];
+    let mut rest = items;
+    while !rest.is_empty() {
+        let (run, more) = rest.split_at(rest.len().min(count));
+        let bytes = &mut block[..run.len() * size];
+        if T::encode_items(run, bytes) {
+            writer.write(bytes)?;
+        } else {
+            T::write_items::<W>(writer, run)?;
+        }
+        rest = more;
+    }
+    Ok(())
+}
+
+/// Writes items, one after another: many of one size a block at a time.
+#[inline]
+pub(crate) fn write_many<T: SchemaWrite, W: Writer>(
+    writer: &mut W,
+    items: &[T::Src],
+) -> WriteResult<()>
+    ensures { WriteOutcome (items_write T.writing) (W.state writer.old) (W.state writer.new) (map T.model items.now) (Each T.is_valid items.now) result }
+{
+    match T::type_meta() {
+        TypeMeta::Static { size, .. } if SMALL < size && size <= LONGEST => {
+            write_blocks::<T, W>(writer, items, size, BLOCK / size)
+        }
+        _ => T::write_items::<W>(writer, items),
+    }
 }

@@ -12,7 +12,7 @@ ghost use Rattle.wincode_base.specs.Pairs.{pair_write};
 ghost use Rattle.wincode_base.specs.ItemSizes.{IsWriteItemSize};
 
 use crate::schema::SchemaWrite;
-use crate::schema::encoded::write_item;
+use crate::schema::encoded::{write_item, write_many};
 use crate::schema::tuples::size_of_members_2;
 use std::collections::{BTreeMap, BTreeSet, BinaryHeap, HashMap, HashSet, LinkedList, VecDeque};
 use std::hash::Hash;
@@ -108,7 +108,7 @@ impl<'a, U: 'a, T: SchemaWrite<Src = U>> ToItems<T> for &'a [U] {
     }
 
     fn write_to<W: Writer>(&self, writer: &mut W) -> WriteResult<()> {
-        T::write_items::<W>(writer, *self)
+        write_many::<T, W>(writer, *self)
     }
 }
 
@@ -130,8 +130,8 @@ impl<U, T: SchemaWrite<Src = U>> ToItems<T> for VecDeque<U> {
 
     fn write_to<W: Writer>(&self, writer: &mut W) -> WriteResult<()> {
         let (front, back) = self.as_slices();
-        T::write_items::<W>(writer, front)?;
-        T::write_items::<W>(writer, back)
+        write_many::<T, W>(writer, front)?;
+        write_many::<T, W>(writer, back)
     }
 }
 
@@ -179,7 +179,7 @@ impl<U: Ord, T: SchemaWrite<Src = U>> ToItems<T> for BinaryHeap<U> {
     }
 
     fn write_to<W: Writer>(&self, writer: &mut W) -> WriteResult<()> {
-        T::write_items::<W>(writer, self.as_slice())
+        write_many::<T, W>(writer, self.as_slice())
     }
 }
 
