@@ -197,7 +197,7 @@ fn an_interrupted_read_is_a_failure(rt: HostRuntime) -> Result<(), Fail> {
         }
         _ => panic!(rt; "no interruption"),
     }
-    assert_eq!(rt; reader.into_source().into_inner().largest, 8192);
+    assert_eq!(rt; reader.into_inner().largest, 8192);
     Ok(())
 }
 
