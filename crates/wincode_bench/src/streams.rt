@@ -1,4 +1,6 @@
 //! Values of a file that are read as they come, beside the file read whole and its bytes read then.
+ghost use Rattle.std.specs.Prelude.{[], false};
+
 use crate::arguments::Asked;
 use crate::cases::LongLen;
 use crate::look::Look;
@@ -183,7 +185,7 @@ struct InPieces<'a> {
 }
 
 impl Source for InPieces<'_> {
-    ghost state = { λ p. record { coming = p.rest.now; failures = 0; is_known = true } };
+    ghost state = { λ p. record { coming = []; failures = 0; is_known = false } };
 
     fn read_some(&mut self, buf: &mut [u8]) -> io::Result<usize> {
         let n = self.size.min(self.rest.len()).min(buf.len());
