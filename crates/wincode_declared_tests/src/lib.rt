@@ -6,4 +6,8 @@ mod events;
 #[cfg(test)]
 mod orders;
 #[cfg(test)]
+mod pages;
+#[cfg(test)]
 mod refusals;
+#[cfg(test)]
+mod stock;
