@@ -20,7 +20,7 @@ pub struct Page<T> {
     pub next: Option<u64>,
     // wincode: with = containers::Vec<Option<T>, ShortU16Len>
     pub others: Vec<Option<T>>,
-    pub corners: [(T, u8); 2],
+    pub both: (T, u8),
     pub named: BTreeMap<u32, T>,
 }
 

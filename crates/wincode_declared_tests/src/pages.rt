@@ -6,10 +6,10 @@ use wincode::{deserialize, serialize};
 use wincode_declared::order::Note;
 use wincode_declared::pages::{Alone, Page, Pair, Shelf};
 
-/// The encoding of the items 1 and 2, no next page, 3 and nothing behind a short length, the corners 4, 5, 6 and 7,
-/// and 9 by the name 8.
-const PAGE: [u8; 32] = [
-    2, 0, 0, 0, 0, 0, 0, 0, 1, 2, 0, 2, 1, 3, 0, 4, 5, 6, 7, 1, 0, 0, 0, 0, 0, 0, 0, 8, 0, 0, 0, 9,
+/// The encoding of the items 1 and 2, no next page, 3 and nothing behind a short length, both 4 and 5, and 9
+/// by the name 8.
+const PAGE: [u8; 30] = [
+    2, 0, 0, 0, 0, 0, 0, 0, 1, 2, 0, 2, 1, 3, 0, 4, 5, 1, 0, 0, 0, 0, 0, 0, 0, 8, 0, 0, 0, 9,
 ];
 
 fn page(alloc: Global) -> Result<Page<u8>, Fail> {
@@ -19,7 +19,7 @@ fn page(alloc: Global) -> Result<Page<u8>, Fail> {
         items: vec![in alloc; 1u8, 2]?,
         next: None,
         others: vec![in alloc; Some(3u8), None]?,
-        corners: [(4, 5), (6, 7)],
+        both: (4, 5),
         named,
     })
 }
@@ -77,7 +77,7 @@ fn a_shelf(rt: HostRuntime) -> Result<(), Fail> {
         items: Vec::new(alloc),
         next: Some(2),
         others: Vec::new(alloc),
-        corners: [(String::new(alloc), 1), (String::new(alloc), 2)],
+        both: (String::new(alloc), 1),
         named: BTreeMap::new(alloc),
     };
     let note = Note {
@@ -99,8 +99,8 @@ fn a_shelf(rt: HostRuntime) -> Result<(), Fail> {
     let text = serialize(alloc, &shelf)?;
     let wanted = [
         0u8, 0, 0, 0, 0, 0, 0, 0, 9, 0, 0, 0, 0, 0, 0, 0, 0, 1, 2, 0, 0, 0, 0, 0, 0, 0, 0, 0, 0, 0,
-        0, 0, 0, 0, 0, 1, 0, 0, 0, 0, 0, 0, 0, 0, 2, 0, 0, 0, 0, 0, 0, 0, 0, 1, 3, 0, 0, 0, 0, 0,
-        0, 0, 0, 0, 0, 0, 0, 0, 0, 0, 0, 1,
+        0, 0, 0, 0, 0, 1, 0, 0, 0, 0, 0, 0, 0, 0, 1, 3, 0, 0, 0, 0, 0, 0, 0, 0, 0, 0, 0, 0, 0, 0,
+        0, 0, 1,
     ];
     assert_eq!(rt; text.as_slice(), wanted.as_slice());
     let back: Shelf = deserialize(alloc, text.as_slice())?;

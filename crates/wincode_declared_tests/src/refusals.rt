@@ -3,7 +3,7 @@ use std::test::Fail;
 use wincode_deriving::module_of;
 
 /// Declarations, and what is said of them.
-const ROWS: [(&str, &str); 17] = [
+const ROWS: [(&str, &str); 18] = [
     (
         "struct A {\n    a: u8,\n",
         "line 1: a bracket is not closed",
@@ -41,6 +41,10 @@ const ROWS: [(&str, &str); 17] = [
     (
         "struct A<T> {\n    a: Other<T>,\n}",
         "line 1: no schema for a parameter inside of a type that is none of the library's",
+    ),
+    (
+        "struct A<T>([T; 2]);",
+        "line 1: no schema for an array of a type parameter",
     ),
     (
         "struct A(u8, u8, u8, u8, u8, u8, u8, u8, u8, u8, u8, u8, u8);",

@@ -1,5 +1,5 @@
 -- The laws of reading of what has parts, by a word for each kind: what stands in a struct with type parameters is put together from them.
-use Rattle.std.proofs.Common.{◌≡◌, ℕ, Bool, true, lit≤}
+use Rattle.std.proofs.Common.{◌≡◌, Bool, true, lit≤}
 use Rattle.std.specs.Cmp.{IsTotalOrder, IsEquivalence}
 use Rattle.std.specs.Ordering.{is_eq}
 use Rattle.std.specs.Prelude.{map}
@@ -7,20 +7,16 @@ use Rattle.std.specs.declared.cmp.Ordering.{Ordering}
 use Rattle.wincode_collect.specs.Collections.{IsMapOf, IsHashMapOf}
 use Rattle.wincode_collect.specs.Seen.{sees, hash_map_sees, Made}
 use Rattle.wincode_io.specs.Joins.{Each}
-use Rattle.wincode_base.specs.ArrayLaws.{array_read_laws}
-use Rattle.wincode_base.specs.Arrays.{IsArray, array_read}
 use Rattle.wincode_base.specs.Boxed.{boxed_read}
 use Rattle.wincode_base.specs.BoxedLaws.{boxed_read_laws}
 use Rattle.wincode_base.specs.Gathered.{gathered_read}
 use Rattle.wincode_base.specs.GatheredLaws.{map_read_laws, hash_map_read_laws}
 use Rattle.wincode_base.specs.Grammar.{ReadGrammar, ReadLaws}
-use Rattle.wincode_base.specs.InWindow.{windowed_read}
 use Rattle.wincode_base.specs.ItemSizes.{pair_size}
 use Rattle.wincode_base.specs.LengthLaws.{bincode_laws}
 use Rattle.wincode_base.specs.Lengths.{Scheme, SchemeLaws, bincode, preallocation_limit}
 use Rattle.wincode_base.specs.ListLaws.{list_read_laws}
 use Rattle.wincode_base.specs.Lists.{list_read}
-use Rattle.wincode_base.specs.PairLaws.{windowed_read_laws}
 use Rattle.wincode_base.specs.Pairs.{pair_read}
 use Rattle.wincode_base.specs.TagLaws.{option_read_laws, result_read_laws}
 use Rattle.wincode_base.specs.Tags.{option_read, IfPart, result_read, IfSide}
@@ -43,9 +39,6 @@ module _ {V : Type 0} {p : V → Type 0} {g : ReadGrammar V} where
 
   pub box_laws : ReadLaws p g → ReadLaws p (boxed_read g)
   box_laws l = boxed_read_laws p g l
-
-  pub array_laws : (n : ℕ) → ReadLaws p g → ReadLaws (IsArray n p) (windowed_read (array_read n g))
-  array_laws n l = windowed_read_laws (array_read_laws n p g l)
 
 pub result_laws : {V W : Type 0} {p : V → Type 0} {q : W → Type 0} {g : ReadGrammar V} {h : ReadGrammar W} → ReadLaws p g → ReadLaws q h → ReadLaws (IfSide p q) (result_read 4 g h)
 result_laws {p = p} {q = q} {g = g} {h = h} l m = result_read_laws 4 (lit≤ tt) p q g h l m

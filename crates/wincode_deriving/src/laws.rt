@@ -121,21 +121,6 @@ impl Law {
         Ok(())
     }
 
-    /// An array: its length stands behind its item.
-    fn open_array(&mut self, alloc: Global, tokens: &[Token]) -> DeriveResult<()> {
-        let close = end_of_group(tokens, self.at)?;
-        let mut end = close;
-        for (i, token) in tokens.iter().enumerate().take(close).skip(self.at) {
-            if token.text.as_str() == ";" {
-                end = i;
-            }
-        }
-        let length = type_text(alloc, tokens, next(end), close)?;
-        put(&mut self.out, &["(array_laws ", length.as_str(), " "])?;
-        let begin = next(self.at);
-        self.open(begin, (end, next(close)), owned(alloc, ")")?)
-    }
-
     /// A list of `containers`, whose length's scheme stands behind its item.
     fn open_list(
         &mut self,
@@ -271,7 +256,7 @@ impl Law {
                 Ok(())
             }
             "(" => self.open_tuple(alloc, tokens),
-            "[" => self.open_array(alloc, tokens),
+            "[" => Err(unsupported(of.1, "an array of a type parameter")),
             _ => self.open_named(alloc, tokens, of),
         }
     }

@@ -36,8 +36,7 @@ ghost use Rattle.@crate@.specs.contracts.@path@@type@Ord.TheImpl.Laws as @type@O
 ";
 
 /// The laws of parts.
-const LAWS: [&str; 9] = [
-    "array_laws",
+const LAWS: [&str; 8] = [
     "box_laws",
     "hash_map_laws",
     "list_laws",

@@ -1,6 +1,6 @@
 //! Written by `wincode_derive`: the schemas of what the module above declares.
 ghost use Rattle.wincode_base.specs.PairLaws.{write_laws_by, reads_back_by, pair_read_laws, windowed_read_laws};
-ghost use Rattle.wincode_derived.specs.PartLaws.{array_laws, list_laws, map_laws, option_laws, vec_laws};
+ghost use Rattle.wincode_derived.specs.PartLaws.{list_laws, map_laws, option_laws, vec_laws};
 
 use super::*;
 use std::alloc::Global;
@@ -174,7 +174,7 @@ type PageFields<T> = (
     Vec<T>,
     Option<u64>,
     containers::Vec<Option<T>, ShortU16Len>,
-    [(T, u8); 2],
+    (T, u8),
     BTreeMap<u32, T>,
 );
 
@@ -183,9 +183,9 @@ impl<T: SchemaWrite> SchemaWrite for Page<T> {
 
     ghost Value = { ⟦<PageFields<T> as SchemaWrite>⟧.Value };
 
-    ghost model = { λ x. ⟦<PageFields<T> as SchemaWrite>⟧.model (x.items, x.next, x.others, x.corners, x.named) };
+    ghost model = { λ x. ⟦<PageFields<T> as SchemaWrite>⟧.model (x.items, x.next, x.others, x.both, x.named) };
 
-    ghost is_valid = { λ x. ⟦<PageFields<T> as SchemaWrite>⟧.is_valid (x.items, x.next, x.others, x.corners, x.named) };
+    ghost is_valid = { λ x. ⟦<PageFields<T> as SchemaWrite>⟧.is_valid (x.items, x.next, x.others, x.both, x.named) };
 
     ghost writing = { ⟦<PageFields<T> as SchemaWrite>⟧.writing };
 
@@ -198,9 +198,9 @@ impl<T: SchemaWrite> SchemaWrite for Page<T> {
             Vec<T>,
             Option<u64>,
             containers::Vec<Option<T>, ShortU16Len>,
-            [(T, u8); 2],
+            (T, u8),
             BTreeMap<u32, T>,
-        >(&src.items, &src.next, &src.others, &src.corners, &src.named)
+        >(&src.items, &src.next, &src.others, &src.both, &src.named)
     }
 
     fn write<W: Writer>(writer: &mut W, src: &Page<T::Src>) -> WriteResult<()> {
@@ -208,7 +208,7 @@ impl<T: SchemaWrite> SchemaWrite for Page<T> {
             Vec<T>,
             Option<u64>,
             containers::Vec<Option<T>, ShortU16Len>,
-            [(T, u8); 2],
+            (T, u8),
             BTreeMap<u32, T>,
             W,
         >(
@@ -216,12 +216,12 @@ impl<T: SchemaWrite> SchemaWrite for Page<T> {
             &src.items,
             &src.next,
             &src.others,
-            &src.corners,
+            &src.both,
             &src.named,
         )
     }
 
-    ghost write_laws = { write_laws_by (λ x. (x.items, x.next, x.others, x.corners, x.named)) ⟦<PageFields<T> as SchemaWrite>⟧.write_laws };
+    ghost write_laws = { write_laws_by (λ x. (x.items, x.next, x.others, x.both, x.named)) ⟦<PageFields<T> as SchemaWrite>⟧.write_laws };
 }
 
 impl<L: Lending, T: SchemaRead<L>> SchemaRead<L> for Page<T> {
@@ -229,7 +229,7 @@ impl<L: Lending, T: SchemaRead<L>> SchemaRead<L> for Page<T> {
 
     ghost Value = { ⟦<PageFields<T> as SchemaRead<L>>⟧.Value };
 
-    ghost model = { λ x. ⟦<PageFields<T> as SchemaRead<L>>⟧.model (x.items, x.next, x.others, x.corners, x.named) };
+    ghost model = { λ x. ⟦<PageFields<T> as SchemaRead<L>>⟧.model (x.items, x.next, x.others, x.both, x.named) };
 
     ghost is_valid = { ⟦<PageFields<T> as SchemaRead<L>>⟧.is_valid };
 
@@ -248,14 +248,14 @@ impl<L: Lending, T: SchemaRead<L>> SchemaRead<L> for Page<T> {
         reader: &mut R,
         dst: &mut Option<Page<T::Dst>>,
     ) -> ReadResult<()> {
-        let (items, next, others, corners, named) = <PageFields<T> as SchemaGet<L>>::get(
+        let (items, next, others, both, named) = <PageFields<T> as SchemaGet<L>>::get(
             alloc, reader,
         )?;
         *dst = Some(Page {
             items,
             next,
             others,
-            corners,
+            both,
             named,
         });
         Ok(())
@@ -264,7 +264,7 @@ impl<L: Lending, T: SchemaRead<L>> SchemaRead<L> for Page<T> {
     ghost read_laws = { (windowed_read_laws (pair_read_laws (vec_laws T.read_laws)
         (pair_read_laws ⟦<Option<u64> as Lawful<L>>⟧.read_laws
         (pair_read_laws (list_laws ⟦<ShortU16Len as SeqLen>⟧.scheme ⟦<ShortU16Len as SeqLen>⟧.scheme_laws (option_laws T.read_laws))
-        (pair_read_laws (array_laws 2 (windowed_read_laws (pair_read_laws T.read_laws ⟦<u8 as Lawful<L>>⟧.read_laws)))
+        (pair_read_laws (windowed_read_laws (pair_read_laws T.read_laws ⟦<u8 as Lawful<L>>⟧.read_laws))
         (map_laws ⟦<u32 as LawfulKey<L>>⟧.model ⟦<T as SchemaRead<L>>⟧.model ⟦<u32 as LawfulKey<L>>⟧.read_laws T.read_laws
         ⟦<u32 as LawfulKey<L>>⟧.order ⟦<u32 as LawfulKey<L>>⟧.order_total ⟦<u32 as LawfulKey<L>>⟧.equal ⟦<u32 as LawfulKey<L>>⟧.order_ties ⟦<u32 as LawfulKey<L>>⟧.alike)))))) };
 }
@@ -274,7 +274,7 @@ impl<L: Lending, T: Lawful<L>> Lawful<L> for Page<T> {
 
     ghost Value = { ⟦<PageFields<T> as Lawful<L>>⟧.Value };
 
-    ghost model = { λ x. ⟦<PageFields<T> as Lawful<L>>⟧.model (x.items, x.next, x.others, x.corners, x.named) };
+    ghost model = { λ x. ⟦<PageFields<T> as Lawful<L>>⟧.model (x.items, x.next, x.others, x.both, x.named) };
 
     ghost is_valid = { ⟦<PageFields<T> as Lawful<L>>⟧.is_valid };
 
@@ -292,12 +292,12 @@ where
             Vec<T::Src>,
             Option<u64>,
             Vec<Option<T::Src>>,
-            [(T::Src, u8); 2],
+            (T::Src, u8),
             BTreeMap<u32, T::Src>,
         ),
     >,
 {
-    ghost reads_back = { reads_back_by (λ x. (x.items, x.next, x.others, x.corners, x.named)) bound-7.reads_back };
+    ghost reads_back = { reads_back_by (λ x. (x.items, x.next, x.others, x.both, x.named)) bound-7.reads_back };
 }
 
 impl<L: Lending, T: SchemaWrite + SchemaRead<L, Dst = T::Src>> OneText<L> for Page<T>
@@ -309,7 +309,7 @@ where
             Vec<T::Src>,
             Option<u64>,
             Vec<Option<T::Src>>,
-            [(T::Src, u8); 2],
+            (T::Src, u8),
             BTreeMap<u32, T::Src>,
         ),
     >,
@@ -326,7 +326,7 @@ where
             Vec<T::Src>,
             Option<u64>,
             Vec<Option<T::Src>>,
-            [(T::Src, u8); 2],
+            (T::Src, u8),
             BTreeMap<u32, T::Src>,
         ),
     >,
