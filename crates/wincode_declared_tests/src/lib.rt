@@ -4,6 +4,8 @@
 #[cfg(test)]
 mod events;
 #[cfg(test)]
+mod kinds;
+#[cfg(test)]
 mod orders;
 #[cfg(test)]
 mod pages;

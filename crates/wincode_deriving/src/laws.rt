@@ -26,7 +26,7 @@ struct Law {
     at: usize,
 }
 
-/// The laws of a list behind a length of choice, of what has one part, and of what has two.
+/// The laws of lists behind a length of choice, by their names.
 const LISTS: [(&str, &str); 4] = [
     ("Vec", "list_laws"),
     ("VecDeque", "list_laws"),
@@ -34,6 +34,7 @@ const LISTS: [(&str, &str); 4] = [
     ("RcSlice", "slice_laws"),
 ];
 
+/// The laws of what has one part, or two, by its name.
 const PARTS: [(&str, &str); 7] = [
     ("Vec", "vec_laws"),
     ("VecDeque", "vec_laws"),
@@ -44,6 +45,7 @@ const PARTS: [(&str, &str); 7] = [
     ("Result", "result_laws"),
 ];
 
+/// What the laws of maps begin with and end in, by their names.
 const MAPS: [(&str, &str, &str); 2] = [
     (
         "BTreeMap",
