@@ -59,10 +59,7 @@ impl@reads@ SchemaRead<L> for @self@ {
         <@fields@ as SchemaRead<L>>::prealloc_size()
     }
 
-@head@        @bind@<@fields@ as SchemaGet<L>>::get(alloc, reader)?;
-        *dst = Some(@made@);
-        Ok(())
-    }
+@head@@read@    }
 
 @decoding@    ghost read_laws = { @laws@ };
 }
@@ -80,6 +77,21 @@ impl@lawful@ Lawful<L> for @self@ {
 
     ghost read_laws = { ⟦<@fields@ as Lawful<L>>⟧.read_laws };
 }
+";
+
+const GET: &str = "        @bind@<@fields@ as SchemaGet<L>>::get(alloc, reader)?;
+        *dst = Some(@made@);
+        Ok(())
+";
+
+/// The same where type parameters stand in the fields: `search` finds it of each arm by itself.
+const GET_BY_ARMS: &str = "        match <@fields@ as SchemaGet<L>>::get(alloc, reader) {
+            Ok(@bound_fields@) => {
+                *dst = Some(@made@);
+                Ok(())
+            }
+            Err(error) => Err(error),
+        }
 ";
 
 const DECODING: &str = "    #[inline(always)]
@@ -615,6 +627,25 @@ fn set_calls(alloc: Global, words: &mut Words, name: &str, fields: &Fields) -> D
     words.set("made", made_of(alloc, name, fields)?)
 }
 
+/// Sets the word of how a struct is read.
+fn set_read(
+    alloc: Global,
+    words: &mut Words,
+    generics: &Generics,
+    fields: &Fields,
+) -> DeriveResult<()> {
+    let names = bindings(alloc, fields)?;
+    words.set("bound_fields", tuple_of(alloc, names.as_slice())?)?;
+    let template = if generics.parameters.is_empty() {
+        GET
+    } else {
+        GET_BY_ARMS
+    };
+    let mut read = String::new(alloc);
+    fill(&mut read, template, words)?;
+    words.set("read", read)
+}
+
 /// Sets the words of the plain ways of reading and writing, where the fields may have them.
 fn set_plain(alloc: Global, words: &mut Words, fields: &Fields) -> DeriveResult<()> {
     let mut encoding = String::new(alloc);
@@ -655,6 +686,7 @@ pub fn put_struct(
     words.set("schemas", schemas)?;
     words.set("values", values_of(alloc, fields)?)?;
     set_calls(alloc, &mut words, name, fields)?;
+    set_read(alloc, &mut words, generics, fields)?;
     set_plain(alloc, &mut words, fields)?;
     words.set("head", read_head(alloc, dst.as_str())?)?;
     words.set("drops", drops_of(alloc, generics, "Drop")?)?;

@@ -74,9 +74,13 @@ impl<L: Lending, A: SchemaRead<L>, B: SchemaRead<L>> SchemaRead<L> for Pair<A, B
         reader: &mut R,
         dst: &mut Option<Pair<A::Dst, B::Dst>>,
     ) -> ReadResult<()> {
-        let (first, second) = <PairFields<A, B> as SchemaGet<L>>::get(alloc, reader)?;
-        *dst = Some(Pair { first, second });
-        Ok(())
+        match <PairFields<A, B> as SchemaGet<L>>::get(alloc, reader) {
+            Ok((first, second)) => {
+                *dst = Some(Pair { first, second });
+                Ok(())
+            }
+            Err(error) => Err(error),
+        }
     }
 
     #[inline(always)]
@@ -248,17 +252,19 @@ impl<L: Lending, T: SchemaRead<L>> SchemaRead<L> for Page<T> {
         reader: &mut R,
         dst: &mut Option<Page<T::Dst>>,
     ) -> ReadResult<()> {
-        let (items, next, others, both, named) = <PageFields<T> as SchemaGet<L>>::get(
-            alloc, reader,
-        )?;
-        *dst = Some(Page {
-            items,
-            next,
-            others,
-            both,
-            named,
-        });
-        Ok(())
+        match <PageFields<T> as SchemaGet<L>>::get(alloc, reader) {
+            Ok((items, next, others, both, named)) => {
+                *dst = Some(Page {
+                    items,
+                    next,
+                    others,
+                    both,
+                    named,
+                });
+                Ok(())
+            }
+            Err(error) => Err(error),
+        }
     }
 
     ghost read_laws = { (windowed_read_laws (pair_read_laws (vec_laws T.read_laws)
@@ -391,9 +397,13 @@ impl<L: Lending, T: SchemaRead<L>> SchemaRead<L> for Alone<T> {
         reader: &mut R,
         dst: &mut Option<Alone<T::Dst>>,
     ) -> ReadResult<()> {
-        let a = <AloneFields<T> as SchemaGet<L>>::get(alloc, reader)?;
-        *dst = Some(Alone(a));
-        Ok(())
+        match <AloneFields<T> as SchemaGet<L>>::get(alloc, reader) {
+            Ok(a) => {
+                *dst = Some(Alone(a));
+                Ok(())
+            }
+            Err(error) => Err(error),
+        }
     }
 
     #[inline(always)]
