@@ -120,21 +120,21 @@ impl@backs@ RoundTrip<L> for @self@
 where
 @drops@    @fields@: RoundTrip<L@bound@>,
 {
-    ghost reads_back = { reads_back_by (λ x. @values@) bound-@place@.reads_back };
+    ghost reads_back = { reads_back_by (λ x. @values@) @evidence@.reads_back };
 }
 
 impl@backs@ OneText<L> for @self@
 where
 @drops@    @fields@: FieldsOneText<L@bound@>,
 {
-    ghost one_text = { bound-@place@.fields_one_text };
+    ghost one_text = { @evidence@.fields_one_text };
 }
 
 impl@backs@ SchemaReadOwned<L> for @self@
 where
 @drops@    @fields@: FieldsReadOwned<L@bound@>,
 {
-    ghost owned = { bound-@place@.fields_owned };
+    ghost owned = { @evidence@.fields_owned };
 }
 ";
 
@@ -145,7 +145,7 @@ impl@backs@ Key<L> for @self@
 where
 @drops@    @pairs@: FieldsKey<L@bound@>,
 {
-    ghost alike = { λ x y. bound-@place@.fields_alike @one@ @other@ };
+    ghost alike = { λ x y. @evidence@.fields_alike @one@ @other@ };
 }
 ";
 
@@ -506,14 +506,21 @@ pub fn is_lawful_key(declaration: &Declaration, fields: &Fields) -> bool {
             .all(|field| is_plain_key(field.schema.as_str()))
 }
 
-/// Where the bound on the fields stands among those of an `impl` of a marker.
-fn place_of_bound(alloc: Global, generics: &Generics, each: usize) -> DeriveResult<String> {
-    let place = generics
-        .parameters
-        .len()
-        .saturating_mul(each)
-        .saturating_add(5);
-    Ok(format!(in alloc; "{place}")?)
+/// The checker's name for the bound on the fields in an `impl` of a marker: that of a parameter by itself is its own,
+/// others have their place among the bounds.
+fn evidence_of(
+    alloc: Global,
+    generics: &Generics,
+    schemas: &str,
+    each: usize,
+) -> DeriveResult<String> {
+    for parameter in generics.parameters.as_slice() {
+        if parameter.as_str() == schemas {
+            return owned(alloc, schemas);
+        }
+    }
+    let place = generics.parameters.len().saturating_mul(each).saturating_add(5);
+    Ok(format!(in alloc; "bound-{place}")?)
 }
 
 /// What the parameters have as values beside the bound on the fields, a line for each.
@@ -597,13 +604,14 @@ pub fn put_key(
     let one = named_fields(alloc, "x.", fields)?;
     let other = named_fields(alloc, "y.", fields)?;
     let mut words = name_words(alloc, declaration.name.as_str(), generics)?;
-    words.set("schemas", pairs_of_all(alloc, schemas.as_slice())?)?;
+    let schemas = pairs_of_all(alloc, schemas.as_slice())?;
+    words.set("evidence", evidence_of(alloc, generics, schemas.as_str(), 4)?)?;
+    words.set("schemas", schemas)?;
     words.set("values", values_of(alloc, fields)?)?;
     words.set("one", pairs_of_all(alloc, one.as_slice())?)?;
     words.set("other", pairs_of_all(alloc, other.as_slice())?)?;
     words.set("drops", drops_of(alloc, generics, "Drop + Eq")?)?;
     words.set("bound", bound_of(alloc, generics, values.as_str())?)?;
-    words.set("place", place_of_bound(alloc, generics, 4)?)?;
     let template = if is_lawful_key(declaration, fields) {
         LAWFUL_KEY
     } else {
@@ -683,6 +691,7 @@ pub fn put_struct(
     let dst = applied(alloc, name, generics, "::Dst")?;
     let mut words = name_words(alloc, name, generics)?;
     words.set("laws", laws_of(alloc, declaration, schemas.as_str())?)?;
+    words.set("evidence", evidence_of(alloc, generics, schemas.as_str(), 2)?)?;
     words.set("schemas", schemas)?;
     words.set("values", values_of(alloc, fields)?)?;
     set_calls(alloc, &mut words, name, fields)?;
@@ -691,7 +700,6 @@ pub fn put_struct(
     words.set("head", read_head(alloc, dst.as_str())?)?;
     words.set("drops", drops_of(alloc, generics, "Drop")?)?;
     words.set("bound", bound_of(alloc, generics, types.as_str())?)?;
-    words.set("place", place_of_bound(alloc, generics, 2)?)?;
     fill(out, WRITING, &words)?;
     fill(out, READING, &words)?;
     fill(out, MARKERS, &words)

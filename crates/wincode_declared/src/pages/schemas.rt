@@ -447,7 +447,7 @@ where
     T::Src: Drop,
     AloneFields<T>: RoundTrip<L>,
 {
-    ghost reads_back = { reads_back_by (λ x. x.0) bound-7.reads_back };
+    ghost reads_back = { reads_back_by (λ x. x.0) T.reads_back };
 }
 
 impl<L: Lending, T: SchemaWrite + SchemaRead<L, Dst = T::Src>> OneText<L> for Alone<T>
@@ -455,7 +455,7 @@ where
     T::Src: Drop,
     AloneFields<T>: FieldsOneText<L>,
 {
-    ghost one_text = { bound-7.fields_one_text };
+    ghost one_text = { T.fields_one_text };
 }
 
 impl<L: Lending, T: SchemaWrite + SchemaRead<L, Dst = T::Src>> SchemaReadOwned<L> for Alone<T>
@@ -463,7 +463,7 @@ where
     T::Src: Drop,
     AloneFields<T>: FieldsReadOwned<L>,
 {
-    ghost owned = { bound-7.fields_owned };
+    ghost owned = { T.fields_owned };
 }
 
 type AlonePairs<T> = T;
@@ -473,7 +473,7 @@ where
     T::Src: Drop + Eq,
     AlonePairs<T>: FieldsKey<L>,
 {
-    ghost alike = { λ x y. bound-9.fields_alike x.0 y.0 };
+    ghost alike = { λ x y. T.fields_alike x.0 y.0 };
 }
 
 type ShelfFields = (
