@@ -519,7 +519,11 @@ fn evidence_of(
             return owned(alloc, schemas);
         }
     }
-    let place = generics.parameters.len().saturating_mul(each).saturating_add(5);
+    let place = generics
+        .parameters
+        .len()
+        .saturating_mul(each)
+        .saturating_add(5);
     Ok(format!(in alloc; "bound-{place}")?)
 }
 
@@ -605,7 +609,10 @@ pub fn put_key(
     let other = named_fields(alloc, "y.", fields)?;
     let mut words = name_words(alloc, declaration.name.as_str(), generics)?;
     let schemas = pairs_of_all(alloc, schemas.as_slice())?;
-    words.set("evidence", evidence_of(alloc, generics, schemas.as_str(), 4)?)?;
+    words.set(
+        "evidence",
+        evidence_of(alloc, generics, schemas.as_str(), 4)?,
+    )?;
     words.set("schemas", schemas)?;
     words.set("values", values_of(alloc, fields)?)?;
     words.set("one", pairs_of_all(alloc, one.as_slice())?)?;
@@ -691,7 +698,10 @@ pub fn put_struct(
     let dst = applied(alloc, name, generics, "::Dst")?;
     let mut words = name_words(alloc, name, generics)?;
     words.set("laws", laws_of(alloc, declaration, schemas.as_str())?)?;
-    words.set("evidence", evidence_of(alloc, generics, schemas.as_str(), 2)?)?;
+    words.set(
+        "evidence",
+        evidence_of(alloc, generics, schemas.as_str(), 2)?,
+    )?;
     words.set("schemas", schemas)?;
     words.set("values", values_of(alloc, fields)?)?;
     set_calls(alloc, &mut words, name, fields)?;
