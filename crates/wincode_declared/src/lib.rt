@@ -5,5 +5,7 @@ pub mod event;
 pub mod label;
 pub mod marks;
 pub mod order;
+pub mod pages;
 pub mod parcel;
 pub mod signal;
+pub mod stock;

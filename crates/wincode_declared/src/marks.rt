@@ -10,7 +10,7 @@ pub struct Account(pub [u8; 32]);
 pub struct Span(pub u16, pub i64);
 
 /// From one number to another.
-#[derive(Debug, Clone, Copy, PartialEq, Eq, PartialOrd, Ord)]
+#[derive(Debug, Clone, Copy, PartialEq, Eq, PartialOrd, Ord, Hash)]
 pub struct Range {
     pub from: u32,
     pub to: u32,

@@ -4,6 +4,12 @@
 #[cfg(test)]
 mod events;
 #[cfg(test)]
+mod kinds;
+#[cfg(test)]
 mod orders;
 #[cfg(test)]
+mod pages;
+#[cfg(test)]
 mod refusals;
+#[cfg(test)]
+mod stock;

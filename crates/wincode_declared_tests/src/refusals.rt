@@ -3,7 +3,7 @@ use std::test::Fail;
 use wincode_deriving::module_of;
 
 /// Declarations, and what is said of them.
-const ROWS: [(&str, &str); 14] = [
+const ROWS: [(&str, &str); 18] = [
     (
         "struct A {\n    a: u8,\n",
         "line 1: a bracket is not closed",
@@ -27,8 +27,24 @@ const ROWS: [(&str, &str); 14] = [
         "line 2: no schema for a union",
     ),
     (
-        "struct A<T> {\n    a: T,\n}",
-        "line 1: no schema for parameters but for one lifetime",
+        "struct A<T: Copy> {\n    a: T,\n}",
+        "line 1: no schema for parameters but for one lifetime or types without bounds",
+    ),
+    (
+        "struct A<'a, T> {\n    a: &'a T,\n}",
+        "line 1: no schema for parameters but for one lifetime or types without bounds",
+    ),
+    (
+        "enum A<T> {\n    B(T),\n}",
+        "line 1: no schema for an enum with parameters",
+    ),
+    (
+        "struct A<T> {\n    a: Other<T>,\n}",
+        "line 1: no schema for a parameter inside of a type that is none of the library's",
+    ),
+    (
+        "struct A<T>([T; 2]);",
+        "line 1: no schema for an array of a type parameter",
     ),
     (
         "struct A(u8, u8, u8, u8, u8, u8, u8, u8, u8, u8, u8, u8, u8);",

@@ -1,2 +1,4 @@
+pub mod Keys
+pub mod PartLaws
 pub mod Sums
 pub mod SumLaws

@@ -5,9 +5,14 @@
 ghost use Rattle.std.proofs.Common.{lit≤};
 ghost use Rattle.std.specs.Char.{IsScalar};
 ghost use Rattle.std.specs.Int.{w8, w16, w32, w64, w128};
-ghost use Rattle.std.specs.Prelude.{◌≡◌, ℕ, ℤ, ◌<◌, ◌^◌, FitsSigned, Bool, true, false, refl, List, IsUtf8, max, Option, Result};
+ghost use Rattle.std.specs.Box.{boxed_slice_items};
+ghost use Rattle.std.specs.Option.{option_map};
+ghost use Rattle.std.specs.Prelude.{◌≡◌, ℕ, ℤ, ◌<◌, ◌^◌, FitsSigned, Bool, true, false, refl, List, map, IsUtf8, max, Option, Result, string_bytes};
+ghost use Rattle.std.specs.Rc.{rc_slice_items};
+ghost use Rattle.std.specs.Result.{result_map_both};
 ghost use Rattle.wincode_io.specs.Joins.{Each};
 ghost use Rattle.wincode_io.specs.Readers.{shared, for_writing};
+ghost use Rattle.wincode_io.specs.Viewed.{value_seen, values_seen};
 ghost use Rattle.wincode_base.specs.ArrayLaws.{array_read_laws};
 ghost use Rattle.wincode_base.specs.Arrays.{IsArray, array_read};
 ghost use Rattle.wincode_base.specs.Boxed.{boxed_read};
@@ -36,9 +41,10 @@ ghost use Rattle.wincode_derived.specs.SumLaws.{CaseLaws, last_case_laws, case_l
 ghost use Rattle.wincode_derived.specs.Sums.{sides_own, CaseReadRefused, IsNameless, enum_read};
 
 use crate::sums::{Case, Last, OneOf};
+use std::boxed::BoxedSlice;
 use std::collections::{LinkedList, VecDeque};
 use std::marker::PhantomData;
-use std::rc::Rc;
+use std::rc::{Rc, RcSlice};
 use wincode::containers::{self, Pod};
 use wincode::io::{Borrowed, Lending, SliceView, View, ZeroCopy};
 use wincode::len::{SeqLen, ShortU16};
@@ -48,10 +54,14 @@ use wincode_base::parts::{
     Members11, Members12,
 };
 
-/// Schemas whose laws of reading another's can name: all but those of maps, sets and heaps.
+/// Schemas whose laws of reading another's can name.
 pub trait Lawful<L: Lending> {
+    type Dst;
+
     // What contracts see of a value, which are its values, and the grammar, as in `SchemaRead`.
     ghost Value: { Type 0 };
+
+    ghost model: { Self.Dst → Value };
 
     ghost is_valid: { Value → Type 0 };
 
@@ -62,8 +72,12 @@ pub trait Lawful<L: Lending> {
 
 /// The same of cases.
 pub trait LawfulCases<L: Lending> {
+    type Dst;
+
     // As in `CasesRead`.
     ghost Value: { Type 0 };
+
+    ghost model: { Self.Dst → Value };
 
     ghost is_valid: { Value → Type 0 };
 
@@ -122,7 +136,11 @@ where
 }
 
 impl<L: Lending, const TAG: usize, A: Lawful<L>> LawfulCases<L> for Last<TAG, A> {
+    type Dst = A::Dst;
+
     ghost Value = { A.Value };
+
+    ghost model = { A.model };
 
     ghost is_valid = { A.is_valid };
 
@@ -139,7 +157,11 @@ impl<L: Lending, const TAG: usize, A: Lawful<L>> LawfulCases<L> for Last<TAG, A>
 
 impl<L: Lending, const TAG: usize, A: Lawful<L>, Rest: LawfulCases<L>> LawfulCases<L>
     for Case<TAG, A, Rest> {
+    type Dst = Result<A::Dst, Rest::Dst>;
+
     ghost Value = { Result A.Value Rest.Value };
+
+    ghost model = { result_map_both A.model Rest.model };
 
     ghost is_valid = { IfSide A.is_valid Rest.is_valid };
 
@@ -155,7 +177,11 @@ impl<L: Lending, const TAG: usize, A: Lawful<L>, Rest: LawfulCases<L>> LawfulCas
 }
 
 impl<L: Lending, Tag: TagCode, C: LawfulCases<L>> Lawful<L> for OneOf<Tag, C> {
+    type Dst = C::Dst;
+
     ghost Value = { C.Value };
+
+    ghost model = { C.model };
 
     ghost is_valid = { C.is_valid };
 
@@ -165,7 +191,11 @@ impl<L: Lending, Tag: TagCode, C: LawfulCases<L>> Lawful<L> for OneOf<Tag, C> {
 }
 
 impl<L: Lending> Lawful<L> for u8 {
+    type Dst = u8;
+
     ghost Value = { ℕ };
+
+    ghost model = { λ v. v };
 
     ghost is_valid = { λ v. v < 256 ^ 1 };
 
@@ -175,7 +205,11 @@ impl<L: Lending> Lawful<L> for u8 {
 }
 
 impl<L: Lending> Lawful<L> for u16 {
+    type Dst = u16;
+
     ghost Value = { ℕ };
+
+    ghost model = { λ v. v };
 
     ghost is_valid = { λ v. v < 256 ^ 2 };
 
@@ -185,7 +219,11 @@ impl<L: Lending> Lawful<L> for u16 {
 }
 
 impl<L: Lending> Lawful<L> for u32 {
+    type Dst = u32;
+
     ghost Value = { ℕ };
+
+    ghost model = { λ v. v };
 
     ghost is_valid = { λ v. v < 256 ^ 4 };
 
@@ -195,7 +233,11 @@ impl<L: Lending> Lawful<L> for u32 {
 }
 
 impl<L: Lending> Lawful<L> for u64 {
+    type Dst = u64;
+
     ghost Value = { ℕ };
+
+    ghost model = { λ v. v };
 
     ghost is_valid = { λ v. v < 256 ^ 8 };
 
@@ -205,7 +247,11 @@ impl<L: Lending> Lawful<L> for u64 {
 }
 
 impl<L: Lending> Lawful<L> for u128 {
+    type Dst = u128;
+
     ghost Value = { ℕ };
+
+    ghost model = { λ v. v };
 
     ghost is_valid = { λ v. v < 256 ^ 16 };
 
@@ -215,7 +261,11 @@ impl<L: Lending> Lawful<L> for u128 {
 }
 
 impl<L: Lending> Lawful<L> for usize {
+    type Dst = usize;
+
     ghost Value = { ℕ };
+
+    ghost model = { λ v. v };
 
     ghost is_valid = { λ v. v < 256 ^ 8 };
 
@@ -225,7 +275,11 @@ impl<L: Lending> Lawful<L> for usize {
 }
 
 impl<L: Lending> Lawful<L> for i8 {
+    type Dst = i8;
+
     ghost Value = { ℤ };
+
+    ghost model = { λ v. v };
 
     ghost is_valid = { FitsSigned w8 };
 
@@ -235,7 +289,11 @@ impl<L: Lending> Lawful<L> for i8 {
 }
 
 impl<L: Lending> Lawful<L> for i16 {
+    type Dst = i16;
+
     ghost Value = { ℤ };
+
+    ghost model = { λ v. v };
 
     ghost is_valid = { FitsSigned w16 };
 
@@ -245,7 +303,11 @@ impl<L: Lending> Lawful<L> for i16 {
 }
 
 impl<L: Lending> Lawful<L> for i32 {
+    type Dst = i32;
+
     ghost Value = { ℤ };
+
+    ghost model = { λ v. v };
 
     ghost is_valid = { FitsSigned w32 };
 
@@ -255,7 +317,11 @@ impl<L: Lending> Lawful<L> for i32 {
 }
 
 impl<L: Lending> Lawful<L> for i64 {
+    type Dst = i64;
+
     ghost Value = { ℤ };
+
+    ghost model = { λ v. v };
 
     ghost is_valid = { FitsSigned w64 };
 
@@ -265,7 +331,11 @@ impl<L: Lending> Lawful<L> for i64 {
 }
 
 impl<L: Lending> Lawful<L> for i128 {
+    type Dst = i128;
+
     ghost Value = { ℤ };
+
+    ghost model = { λ v. v };
 
     ghost is_valid = { FitsSigned w128 };
 
@@ -275,7 +345,11 @@ impl<L: Lending> Lawful<L> for i128 {
 }
 
 impl<L: Lending> Lawful<L> for isize {
+    type Dst = isize;
+
     ghost Value = { ℤ };
+
+    ghost model = { λ v. v };
 
     ghost is_valid = { FitsSigned w64 };
 
@@ -285,7 +359,11 @@ impl<L: Lending> Lawful<L> for isize {
 }
 
 impl<L: Lending> Lawful<L> for bool {
+    type Dst = bool;
+
     ghost Value = { Bool };
+
+    ghost model = { λ v. v };
 
     ghost is_valid = { λ v. Unit {0} };
 
@@ -295,7 +373,11 @@ impl<L: Lending> Lawful<L> for bool {
 }
 
 impl<L: Lending> Lawful<L> for char {
+    type Dst = char;
+
     ghost Value = { ℕ };
+
+    ghost model = { λ c. c };
 
     ghost is_valid = { IsScalar };
 
@@ -305,7 +387,11 @@ impl<L: Lending> Lawful<L> for char {
 }
 
 impl<L: Lending> Lawful<L> for () {
+    type Dst = ();
+
     ghost Value = { Unit };
+
+    ghost model = { λ _. tt };
 
     ghost is_valid = { λ _. Unit {0} };
 
@@ -315,7 +401,11 @@ impl<L: Lending> Lawful<L> for () {
 }
 
 impl<L: Lending, T> Lawful<L> for PhantomData<T> {
+    type Dst = PhantomData<T>;
+
     ghost Value = { Unit };
+
+    ghost model = { λ _. tt };
 
     ghost is_valid = { λ _. Unit {0} };
 
@@ -325,7 +415,11 @@ impl<L: Lending, T> Lawful<L> for PhantomData<T> {
 }
 
 impl<L: Lending> Lawful<L> for ShortU16 {
+    type Dst = ShortU16;
+
     ghost Value = { ℕ };
+
+    ghost model = { λ v. v.0 };
 
     ghost is_valid = { λ n. n < 2 ^ 16 };
 
@@ -335,7 +429,11 @@ impl<L: Lending> Lawful<L> for ShortU16 {
 }
 
 impl<L: Lending> Lawful<L> for String {
+    type Dst = String;
+
     ghost Value = { List ℕ };
+
+    ghost model = { λ s. string_bytes s };
 
     ghost is_valid = { IsUtf8 };
 
@@ -345,7 +443,11 @@ impl<L: Lending> Lawful<L> for String {
 }
 
 impl<'s, L: Lending> Lawful<L> for &'s str {
+    type Dst = L::Text;
+
     ghost Value = { List ℕ };
+
+    ghost model = { λ s. L.held_text s };
 
     ghost is_valid = { IsUtf8 };
 
@@ -355,7 +457,11 @@ impl<'s, L: Lending> Lawful<L> for &'s str {
 }
 
 impl<'s, L: Lending> Lawful<L> for &'s [u8] {
+    type Dst = L::Bytes;
+
     ghost Value = { List ℕ };
+
+    ghost model = { λ s. L.Bytes.holds s };
 
     ghost is_valid = { Each (λ v. v < 256 ^ 1) };
 
@@ -365,7 +471,11 @@ impl<'s, L: Lending> Lawful<L> for &'s [u8] {
 }
 
 impl<'s, L: Lending> Lawful<L> for &'s mut [u8] {
+    type Dst = L::BytesMut;
+
     ghost Value = { List ℕ };
+
+    ghost model = { λ s. L.BytesMut.holds s };
 
     ghost is_valid = { Each (λ v. v < 256 ^ 1) };
 
@@ -375,7 +485,11 @@ impl<'s, L: Lending> Lawful<L> for &'s mut [u8] {
 }
 
 impl<L: Lending, T: Lawful<L>> Lawful<L> for Vec<T> {
+    type Dst = Vec<T::Dst>;
+
     ghost Value = { List T.Value };
+
+    ghost model = { λ v. map T.model v.items };
 
     ghost is_valid = { Each T.is_valid };
 
@@ -385,7 +499,11 @@ impl<L: Lending, T: Lawful<L>> Lawful<L> for Vec<T> {
 }
 
 impl<L: Lending, T: Lawful<L>> Lawful<L> for VecDeque<T> {
+    type Dst = VecDeque<T::Dst>;
+
     ghost Value = { List T.Value };
+
+    ghost model = { λ q. map T.model q.items };
 
     ghost is_valid = { Each T.is_valid };
 
@@ -395,7 +513,11 @@ impl<L: Lending, T: Lawful<L>> Lawful<L> for VecDeque<T> {
 }
 
 impl<L: Lending, T: Lawful<L>> Lawful<L> for LinkedList<T> {
+    type Dst = LinkedList<T::Dst>;
+
     ghost Value = { List T.Value };
+
+    ghost model = { λ l. map T.model l };
 
     ghost is_valid = { Each T.is_valid };
 
@@ -405,7 +527,11 @@ impl<L: Lending, T: Lawful<L>> Lawful<L> for LinkedList<T> {
 }
 
 impl<L: Lending, T: Lawful<L>, Len: SeqLen> Lawful<L> for containers::Vec<T, Len> {
+    type Dst = Vec<T::Dst>;
+
     ghost Value = { List T.Value };
+
+    ghost model = { λ v. map T.model v.items };
 
     ghost is_valid = { Each T.is_valid };
 
@@ -415,7 +541,11 @@ impl<L: Lending, T: Lawful<L>, Len: SeqLen> Lawful<L> for containers::Vec<T, Len
 }
 
 impl<L: Lending, T: Lawful<L>, Len: SeqLen> Lawful<L> for containers::VecDeque<T, Len> {
+    type Dst = VecDeque<T::Dst>;
+
     ghost Value = { List T.Value };
+
+    ghost model = { λ q. map T.model q.items };
 
     ghost is_valid = { Each T.is_valid };
 
@@ -425,7 +555,11 @@ impl<L: Lending, T: Lawful<L>, Len: SeqLen> Lawful<L> for containers::VecDeque<T
 }
 
 impl<L: Lending, T: Lawful<L>, Len: SeqLen> Lawful<L> for containers::BoxedSlice<T, Len> {
+    type Dst = BoxedSlice<T::Dst>;
+
     ghost Value = { List T.Value };
+
+    ghost model = { λ b. map T.model (boxed_slice_items b) };
 
     ghost is_valid = { Each T.is_valid };
 
@@ -435,7 +569,11 @@ impl<L: Lending, T: Lawful<L>, Len: SeqLen> Lawful<L> for containers::BoxedSlice
 }
 
 impl<L: Lending, T: Lawful<L>, Len: SeqLen> Lawful<L> for containers::RcSlice<T, Len> {
+    type Dst = RcSlice<T::Dst>;
+
     ghost Value = { List T.Value };
+
+    ghost model = { λ r. map T.model (rc_slice_items r) };
 
     ghost is_valid = { Each T.is_valid };
 
@@ -445,7 +583,11 @@ impl<L: Lending, T: Lawful<L>, Len: SeqLen> Lawful<L> for containers::RcSlice<T,
 }
 
 impl<L: Lending, T: Lawful<L>> Lawful<L> for containers::Elem<T> {
+    type Dst = T::Dst;
+
     ghost Value = { T.Value };
+
+    ghost model = { T.model };
 
     ghost is_valid = { T.is_valid };
 
@@ -455,7 +597,11 @@ impl<L: Lending, T: Lawful<L>> Lawful<L> for containers::Elem<T> {
 }
 
 impl<L: Lending, T: Lawful<L>> Lawful<L> for Box<T> {
+    type Dst = Box<T::Dst>;
+
     ghost Value = { T.Value };
+
+    ghost model = { λ held. T.model held.value };
 
     ghost is_valid = { T.is_valid };
 
@@ -465,7 +611,11 @@ impl<L: Lending, T: Lawful<L>> Lawful<L> for Box<T> {
 }
 
 impl<L: Lending, T: Lawful<L>> Lawful<L> for Rc<T> {
+    type Dst = Rc<T::Dst>;
+
     ghost Value = { T.Value };
+
+    ghost model = { λ held. T.model held.value };
 
     ghost is_valid = { T.is_valid };
 
@@ -475,7 +625,11 @@ impl<L: Lending, T: Lawful<L>> Lawful<L> for Rc<T> {
 }
 
 impl<L: Lending, T: Lawful<L>> Lawful<L> for Option<T> {
+    type Dst = Option<T::Dst>;
+
     ghost Value = { Option T.Value };
+
+    ghost model = { option_map T.model };
 
     ghost is_valid = { IfPart T.is_valid };
 
@@ -485,7 +639,11 @@ impl<L: Lending, T: Lawful<L>> Lawful<L> for Option<T> {
 }
 
 impl<L: Lending, T: Lawful<L>, E: Lawful<L>> Lawful<L> for Result<T, E> {
+    type Dst = Result<T::Dst, E::Dst>;
+
     ghost Value = { Result T.Value E.Value };
+
+    ghost model = { result_map_both T.model E.model };
 
     ghost is_valid = { IfSide T.is_valid E.is_valid };
 
@@ -495,7 +653,11 @@ impl<L: Lending, T: Lawful<L>, E: Lawful<L>> Lawful<L> for Result<T, E> {
 }
 
 impl<L: Lending, T: Lawful<L>> Lawful<L> for containers::Option<T, u8> {
+    type Dst = Option<T::Dst>;
+
     ghost Value = { Option T.Value };
+
+    ghost model = { option_map T.model };
 
     ghost is_valid = { IfPart T.is_valid };
 
@@ -505,7 +667,11 @@ impl<L: Lending, T: Lawful<L>> Lawful<L> for containers::Option<T, u8> {
 }
 
 impl<L: Lending, T: Lawful<L>, E: Lawful<L>> Lawful<L> for containers::Result<T, E, u8> {
+    type Dst = Result<T::Dst, E::Dst>;
+
     ghost Value = { Result T.Value E.Value };
+
+    ghost model = { result_map_both T.model E.model };
 
     ghost is_valid = { IfSide T.is_valid E.is_valid };
 
@@ -515,7 +681,11 @@ impl<L: Lending, T: Lawful<L>, E: Lawful<L>> Lawful<L> for containers::Result<T,
 }
 
 impl<L: Lending, T: Lawful<L>> Lawful<L> for containers::Option<T, u16> {
+    type Dst = Option<T::Dst>;
+
     ghost Value = { Option T.Value };
+
+    ghost model = { option_map T.model };
 
     ghost is_valid = { IfPart T.is_valid };
 
@@ -525,7 +695,11 @@ impl<L: Lending, T: Lawful<L>> Lawful<L> for containers::Option<T, u16> {
 }
 
 impl<L: Lending, T: Lawful<L>, E: Lawful<L>> Lawful<L> for containers::Result<T, E, u16> {
+    type Dst = Result<T::Dst, E::Dst>;
+
     ghost Value = { Result T.Value E.Value };
+
+    ghost model = { result_map_both T.model E.model };
 
     ghost is_valid = { IfSide T.is_valid E.is_valid };
 
@@ -535,7 +709,11 @@ impl<L: Lending, T: Lawful<L>, E: Lawful<L>> Lawful<L> for containers::Result<T,
 }
 
 impl<L: Lending, T: Lawful<L>> Lawful<L> for containers::Option<T, u32> {
+    type Dst = Option<T::Dst>;
+
     ghost Value = { Option T.Value };
+
+    ghost model = { option_map T.model };
 
     ghost is_valid = { IfPart T.is_valid };
 
@@ -545,7 +723,11 @@ impl<L: Lending, T: Lawful<L>> Lawful<L> for containers::Option<T, u32> {
 }
 
 impl<L: Lending, T: Lawful<L>, E: Lawful<L>> Lawful<L> for containers::Result<T, E, u32> {
+    type Dst = Result<T::Dst, E::Dst>;
+
     ghost Value = { Result T.Value E.Value };
+
+    ghost model = { result_map_both T.model E.model };
 
     ghost is_valid = { IfSide T.is_valid E.is_valid };
 
@@ -555,7 +737,11 @@ impl<L: Lending, T: Lawful<L>, E: Lawful<L>> Lawful<L> for containers::Result<T,
 }
 
 impl<L: Lending, T: Lawful<L>> Lawful<L> for containers::Option<T, u64> {
+    type Dst = Option<T::Dst>;
+
     ghost Value = { Option T.Value };
+
+    ghost model = { option_map T.model };
 
     ghost is_valid = { IfPart T.is_valid };
 
@@ -565,7 +751,11 @@ impl<L: Lending, T: Lawful<L>> Lawful<L> for containers::Option<T, u64> {
 }
 
 impl<L: Lending, T: Lawful<L>, E: Lawful<L>> Lawful<L> for containers::Result<T, E, u64> {
+    type Dst = Result<T::Dst, E::Dst>;
+
     ghost Value = { Result T.Value E.Value };
+
+    ghost model = { result_map_both T.model E.model };
 
     ghost is_valid = { IfSide T.is_valid E.is_valid };
 
@@ -575,7 +765,11 @@ impl<L: Lending, T: Lawful<L>, E: Lawful<L>> Lawful<L> for containers::Result<T,
 }
 
 impl<L: Lending, T: Lawful<L>, const N: usize> Lawful<L> for [T; N] {
+    type Dst = [T::Dst; N];
+
     ghost Value = { List T.Value };
+
+    ghost model = { λ xs. map T.model xs };
 
     ghost is_valid = { IsArray N T.is_valid };
 
@@ -585,7 +779,11 @@ impl<L: Lending, T: Lawful<L>, const N: usize> Lawful<L> for [T; N] {
 }
 
 impl<L: Lending, T: ZeroCopy> Lawful<L> for Pod<T> {
+    type Dst = T;
+
     ghost Value = { T };
+
+    ghost model = { λ v. v };
 
     ghost is_valid = { T.is_valid };
 
@@ -595,7 +793,11 @@ impl<L: Lending, T: ZeroCopy> Lawful<L> for Pod<T> {
 }
 
 impl<L: Lending, B: Borrowed<L>, T: ZeroCopy> Lawful<L> for View<B, T> {
+    type Dst = View<B::Lent, T>;
+
     ghost Value = { T };
+
+    ghost model = { λ v. value_seen v };
 
     ghost is_valid = { T.is_valid };
 
@@ -605,7 +807,11 @@ impl<L: Lending, B: Borrowed<L>, T: ZeroCopy> Lawful<L> for View<B, T> {
 }
 
 impl<L: Lending, B: Borrowed<L>, T: ZeroCopy> Lawful<L> for SliceView<B, T> {
+    type Dst = SliceView<B::Lent, T>;
+
     ghost Value = { List T };
+
+    ghost model = { λ v. values_seen v };
 
     ghost is_valid = { Each T.is_valid };
 
@@ -615,7 +821,11 @@ impl<L: Lending, B: Borrowed<L>, T: ZeroCopy> Lawful<L> for SliceView<B, T> {
 }
 
 impl<L: Lending, A: Lawful<L>, B: Lawful<L>> Lawful<L> for Members2<A, B> {
+    type Dst = (A::Dst, B::Dst);
+
     ghost Value = { A.Value × B.Value };
+
+    ghost model = { λ t. (A.model t.0, B.model t.1) };
 
     ghost is_valid = { λ v. A.is_valid v.0 × B.is_valid v.1 };
 
@@ -625,7 +835,11 @@ impl<L: Lending, A: Lawful<L>, B: Lawful<L>> Lawful<L> for Members2<A, B> {
 }
 
 impl<L: Lending, A: Lawful<L>, B: Lawful<L>> Lawful<L> for (A, B) {
+    type Dst = (A::Dst, B::Dst);
+
     ghost Value = { ⟦<Members2<A, B> as Lawful<L>>⟧.Value };
+
+    ghost model = { λ t. ⟦<Members2<A, B> as Lawful<L>>⟧.model (t.0, t.1) };
 
     ghost is_valid = { ⟦<Members2<A, B> as Lawful<L>>⟧.is_valid };
 
@@ -635,7 +849,11 @@ impl<L: Lending, A: Lawful<L>, B: Lawful<L>> Lawful<L> for (A, B) {
 }
 
 impl<L: Lending, A: Lawful<L>, B: Lawful<L>, C: Lawful<L>> Lawful<L> for (A, B, C) {
+    type Dst = (A::Dst, B::Dst, C::Dst);
+
     ghost Value = { ⟦<Members3<A, B, C> as Lawful<L>>⟧.Value };
+
+    ghost model = { λ t. ⟦<Members3<A, B, C> as Lawful<L>>⟧.model (t.0, (t.1, t.2)) };
 
     ghost is_valid = { ⟦<Members3<A, B, C> as Lawful<L>>⟧.is_valid };
 
@@ -646,7 +864,11 @@ impl<L: Lending, A: Lawful<L>, B: Lawful<L>, C: Lawful<L>> Lawful<L> for (A, B, 
 
 impl<L: Lending, A: Lawful<L>, B: Lawful<L>, C: Lawful<L>, D: Lawful<L>> Lawful<L>
     for (A, B, C, D) {
+    type Dst = (A::Dst, B::Dst, C::Dst, D::Dst);
+
     ghost Value = { ⟦<Members4<A, B, C, D> as Lawful<L>>⟧.Value };
+
+    ghost model = { λ t. ⟦<Members4<A, B, C, D> as Lawful<L>>⟧.model (t.0, (t.1, (t.2, t.3))) };
 
     ghost is_valid = { ⟦<Members4<A, B, C, D> as Lawful<L>>⟧.is_valid };
 
@@ -657,7 +879,11 @@ impl<L: Lending, A: Lawful<L>, B: Lawful<L>, C: Lawful<L>, D: Lawful<L>> Lawful<
 
 impl<L: Lending, A: Lawful<L>, B: Lawful<L>, C: Lawful<L>, D: Lawful<L>, E: Lawful<L>> Lawful<L>
     for (A, B, C, D, E) {
+    type Dst = (A::Dst, B::Dst, C::Dst, D::Dst, E::Dst);
+
     ghost Value = { ⟦<Members5<A, B, C, D, E> as Lawful<L>>⟧.Value };
+
+    ghost model = { λ t. ⟦<Members5<A, B, C, D, E> as Lawful<L>>⟧.model (t.0, (t.1, (t.2, (t.3, t.4)))) };
 
     ghost is_valid = { ⟦<Members5<A, B, C, D, E> as Lawful<L>>⟧.is_valid };
 
@@ -675,7 +901,11 @@ impl<
     E: Lawful<L>,
     F: Lawful<L>,
 > Lawful<L> for (A, B, C, D, E, F) {
+    type Dst = (A::Dst, B::Dst, C::Dst, D::Dst, E::Dst, F::Dst);
+
     ghost Value = { ⟦<Members6<A, B, C, D, E, F> as Lawful<L>>⟧.Value };
+
+    ghost model = { λ t. ⟦<Members6<A, B, C, D, E, F> as Lawful<L>>⟧.model (t.0, (t.1, (t.2, (t.3, (t.4, t.5))))) };
 
     ghost is_valid = { ⟦<Members6<A, B, C, D, E, F> as Lawful<L>>⟧.is_valid };
 
@@ -694,7 +924,11 @@ impl<
     F: Lawful<L>,
     G: Lawful<L>,
 > Lawful<L> for (A, B, C, D, E, F, G) {
+    type Dst = (A::Dst, B::Dst, C::Dst, D::Dst, E::Dst, F::Dst, G::Dst);
+
     ghost Value = { ⟦<Members7<A, B, C, D, E, F, G> as Lawful<L>>⟧.Value };
+
+    ghost model = { λ t. ⟦<Members7<A, B, C, D, E, F, G> as Lawful<L>>⟧.model (t.0, (t.1, (t.2, (t.3, (t.4, (t.5, t.6)))))) };
 
     ghost is_valid = { ⟦<Members7<A, B, C, D, E, F, G> as Lawful<L>>⟧.is_valid };
 
@@ -714,7 +948,20 @@ impl<
     G: Lawful<L>,
     H: Lawful<L>,
 > Lawful<L> for (A, B, C, D, E, F, G, H) {
+    type Dst = (
+        A::Dst,
+        B::Dst,
+        C::Dst,
+        D::Dst,
+        E::Dst,
+        F::Dst,
+        G::Dst,
+        H::Dst,
+    );
+
     ghost Value = { ⟦<Members8<A, B, C, D, E, F, G, H> as Lawful<L>>⟧.Value };
+
+    ghost model = { λ t. ⟦<Members8<A, B, C, D, E, F, G, H> as Lawful<L>>⟧.model (t.0, (t.1, (t.2, (t.3, (t.4, (t.5, (t.6, t.7))))))) };
 
     ghost is_valid = { ⟦<Members8<A, B, C, D, E, F, G, H> as Lawful<L>>⟧.is_valid };
 
@@ -735,7 +982,21 @@ impl<
     H: Lawful<L>,
     I: Lawful<L>,
 > Lawful<L> for (A, B, C, D, E, F, G, H, I) {
+    type Dst = (
+        A::Dst,
+        B::Dst,
+        C::Dst,
+        D::Dst,
+        E::Dst,
+        F::Dst,
+        G::Dst,
+        H::Dst,
+        I::Dst,
+    );
+
     ghost Value = { ⟦<Members9<A, B, C, D, E, F, G, H, I> as Lawful<L>>⟧.Value };
+
+    ghost model = { λ t. ⟦<Members9<A, B, C, D, E, F, G, H, I> as Lawful<L>>⟧.model (t.0, (t.1, (t.2, (t.3, (t.4, (t.5, (t.6, (t.7, t.8)))))))) };
 
     ghost is_valid = { ⟦<Members9<A, B, C, D, E, F, G, H, I> as Lawful<L>>⟧.is_valid };
 
@@ -757,7 +1018,22 @@ impl<
     I: Lawful<L>,
     J: Lawful<L>,
 > Lawful<L> for (A, B, C, D, E, F, G, H, I, J) {
+    type Dst = (
+        A::Dst,
+        B::Dst,
+        C::Dst,
+        D::Dst,
+        E::Dst,
+        F::Dst,
+        G::Dst,
+        H::Dst,
+        I::Dst,
+        J::Dst,
+    );
+
     ghost Value = { ⟦<Members10<A, B, C, D, E, F, G, H, I, J> as Lawful<L>>⟧.Value };
+
+    ghost model = { λ t. ⟦<Members10<A, B, C, D, E, F, G, H, I, J> as Lawful<L>>⟧.model (t.0, (t.1, (t.2, (t.3, (t.4, (t.5, (t.6, (t.7, (t.8, t.9))))))))) };
 
     ghost is_valid = { ⟦<Members10<A, B, C, D, E, F, G, H, I, J> as Lawful<L>>⟧.is_valid };
 
@@ -780,7 +1056,23 @@ impl<
     J: Lawful<L>,
     K: Lawful<L>,
 > Lawful<L> for (A, B, C, D, E, F, G, H, I, J, K) {
+    type Dst = (
+        A::Dst,
+        B::Dst,
+        C::Dst,
+        D::Dst,
+        E::Dst,
+        F::Dst,
+        G::Dst,
+        H::Dst,
+        I::Dst,
+        J::Dst,
+        K::Dst,
+    );
+
     ghost Value = { ⟦<Members11<A, B, C, D, E, F, G, H, I, J, K> as Lawful<L>>⟧.Value };
+
+    ghost model = { λ t. ⟦<Members11<A, B, C, D, E, F, G, H, I, J, K> as Lawful<L>>⟧.model (t.0, (t.1, (t.2, (t.3, (t.4, (t.5, (t.6, (t.7, (t.8, (t.9, t.10)))))))))) };
 
     ghost is_valid = { ⟦<Members11<A, B, C, D, E, F, G, H, I, J, K> as Lawful<L>>⟧.is_valid };
 
@@ -804,7 +1096,24 @@ impl<
     K: Lawful<L>,
     M: Lawful<L>,
 > Lawful<L> for (A, B, C, D, E, F, G, H, I, J, K, M) {
+    type Dst = (
+        A::Dst,
+        B::Dst,
+        C::Dst,
+        D::Dst,
+        E::Dst,
+        F::Dst,
+        G::Dst,
+        H::Dst,
+        I::Dst,
+        J::Dst,
+        K::Dst,
+        M::Dst,
+    );
+
     ghost Value = { ⟦<Members12<A, B, C, D, E, F, G, H, I, J, K, M> as Lawful<L>>⟧.Value };
+
+    ghost model = { λ t. ⟦<Members12<A, B, C, D, E, F, G, H, I, J, K, M> as Lawful<L>>⟧.model (t.0, (t.1, (t.2, (t.3, (t.4, (t.5, (t.6, (t.7, (t.8, (t.9, (t.10, t.11))))))))))) };
 
     ghost is_valid = { ⟦<Members12<A, B, C, D, E, F, G, H, I, J, K, M> as Lawful<L>>⟧.is_valid };
 

@@ -3,5 +3,6 @@
 #![tactic(auto)]
 
 pub mod enums;
+pub mod keys;
 pub mod laws;
 pub mod sums;

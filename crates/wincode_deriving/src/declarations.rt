@@ -36,15 +36,26 @@ pub struct Variant {
     pub fields: Fields,
 }
 
+/// What a type is declared over.
+#[derive(Debug, Drop)]
+pub struct Generics {
+    /// The lifetime that it names, if it names one.
+    pub lifetime: Option<String>,
+    /// Its type parameters.
+    pub parameters: Vec<String>,
+}
+
 /// A struct or an enum.
 #[derive(Debug, Drop)]
 pub struct Declaration {
     pub name: String,
-    /// The lifetime that it names, if it names one.
-    pub lifetime: Option<String>,
+    /// What it is declared over.
+    pub generics: Generics,
     pub shape: DeclaredShape,
     /// Whether it derives `Eq`.
     pub is_eq: bool,
+    /// Whether it derives `Ord`.
+    pub is_ord: bool,
     pub line: usize,
 }
 

@@ -96,7 +96,11 @@ impl<L: Lending> SchemaRead<L> for @type@ {
 }
 
 impl<L: Lending> Lawful<L> for @type@ {
+    type Dst = @type@;
+
     ghost Value = { ⟦<@type@Cases as Lawful<L>>⟧.Value };
+
+    ghost model = { λ x. ⟦<@type@Cases as Lawful<L>>⟧.model (⟦<@type@ as EnumParts>⟧.parts x) };
 
     ghost is_valid = { ⟦<@type@Cases as Lawful<L>>⟧.is_valid };
 

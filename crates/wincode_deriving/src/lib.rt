@@ -5,6 +5,7 @@ mod answers;
 mod declarations;
 mod enums;
 pub mod error;
+mod laws;
 mod module;
 mod parsing;
 mod printing;

@@ -1,5 +1,5 @@
 //! The declarations of a source file.
-use crate::declarations::{Declaration, DeclaredShape, Field, Fields, Naming, Variant};
+use crate::declarations::{Declaration, DeclaredShape, Field, Fields, Generics, Naming, Variant};
 use crate::error::{DeriveResult, malformed, unsupported};
 use crate::tokens::{Kind, Token};
 use std::alloc::Global;
@@ -12,11 +12,13 @@ struct Head {
     tag_encoding: Option<String>,
     /// Whether `Eq` is derived.
     is_eq: bool,
+    /// Whether `Ord` is derived.
+    is_ord: bool,
     /// Where what they stand over begins.
     at: usize,
 }
 
-fn text_at(tokens: &[Token], at: usize) -> &str {
+pub fn text_at(tokens: &[Token], at: usize) -> &str {
     match tokens.get(at) {
         Some(token) => token.text.as_str(),
         None => "",
@@ -31,14 +33,14 @@ fn kind_at(tokens: &[Token], at: usize) -> Kind {
 }
 
 /// The line of the token, or of the last one.
-fn line_at(tokens: &[Token], at: usize) -> usize {
+pub fn line_at(tokens: &[Token], at: usize) -> usize {
     match tokens.get(at.min(tokens.len().saturating_sub(1))) {
         Some(token) => token.line,
         None => 1,
     }
 }
 
-fn next(at: usize) -> usize {
+pub fn next(at: usize) -> usize {
     at.saturating_add(1)
 }
 
@@ -51,7 +53,7 @@ fn closes(token: &Token) -> bool {
 }
 
 /// Where the bracket is closed that is opened there.
-fn end_of_group(tokens: &[Token], open: usize) -> DeriveResult<usize> {
+pub fn end_of_group(tokens: &[Token], open: usize) -> DeriveResult<usize> {
     let mut depth = 0usize;
     for (i, token) in tokens.iter().enumerate().skip(open) {
         if opens(token) {
@@ -67,7 +69,7 @@ fn end_of_group(tokens: &[Token], open: usize) -> DeriveResult<usize> {
 }
 
 /// Where the part ends that begins there: at a comma outside of brackets, or at the end.
-fn end_of_part(tokens: &[Token], from: usize, to: usize) -> usize {
+pub fn end_of_part(tokens: &[Token], from: usize, to: usize) -> usize {
     let mut depth = 0usize;
     for (i, token) in tokens.iter().enumerate().take(to).skip(from) {
         if opens(token) {
@@ -103,14 +105,14 @@ fn take_note(alloc: Global, note: &Token, head: &mut Head) -> DeriveResult<()> {
     Ok(())
 }
 
-/// Whether the attribute that stands there derives `Eq`.
-fn derives_eq(tokens: &[Token], from: usize, to: usize) -> bool {
+/// Whether the attribute that stands there derives this.
+fn derives(tokens: &[Token], from: usize, to: usize, name: &str) -> bool {
     text_at(tokens, next(next(from))) == "derive"
         && tokens
             .iter()
             .take(to)
             .skip(from)
-            .any(|token| token.text.as_str() == "Eq")
+            .any(|token| token.text.as_str() == name)
 }
 
 /// What stands over a declaration, a field or a case: comment lines, attributes and its visibility.
@@ -120,6 +122,7 @@ fn head_of(alloc: Global, tokens: &[Token], from: usize, to: usize) -> DeriveRes
         tag: None,
         tag_encoding: None,
         is_eq: false,
+        is_ord: false,
         at: from,
     };
     for _ in from..to {
@@ -133,7 +136,8 @@ fn head_of(alloc: Global, tokens: &[Token], from: usize, to: usize) -> DeriveRes
             }
             (Kind::Sign, "#") => {
                 let end = next(end_of_group(tokens, next(head.at))?);
-                head.is_eq = head.is_eq || derives_eq(tokens, head.at, end);
+                head.is_eq = head.is_eq || derives(tokens, head.at, end, "Eq");
+                head.is_ord = head.is_ord || derives(tokens, head.at, end, "Ord");
                 head.at = end;
             }
             (Kind::Word, "pub") if text_at(tokens, next(head.at)) == "(" => {
@@ -156,7 +160,7 @@ fn are_apart(before: &Token, after: &Token) -> bool {
 }
 
 /// The tokens as the text of a type.
-fn type_text(alloc: Global, tokens: &[Token], from: usize, to: usize) -> DeriveResult<String> {
+pub fn type_text(alloc: Global, tokens: &[Token], from: usize, to: usize) -> DeriveResult<String> {
     let mut text = String::new(alloc);
     let mut before: Option<&Token> = None;
     for token in tokens.iter().take(to).skip(from) {
@@ -341,21 +345,36 @@ fn variants_at(
     Ok(variants)
 }
 
-/// The lifetime in the brackets that are opened there, and where what stands behind them begins.
-fn lifetime_at(
-    alloc: Global,
-    tokens: &[Token],
-    open: usize,
-) -> DeriveResult<(Option<String>, usize)> {
+/// What stands in the brackets that are opened there, or nothing, and where what stands behind them begins.
+fn generics_at(alloc: Global, tokens: &[Token], open: usize) -> DeriveResult<(Generics, usize)> {
+    let mut generics = Generics {
+        lifetime: None,
+        parameters: Vec::new(alloc),
+    };
     if text_at(tokens, open) != "<" {
-        return Ok((None, open));
+        return Ok((generics, open));
     }
     let close = end_of_group(tokens, open)?;
-    if kind_at(tokens, next(open)) != Kind::Lifetime || next(next(open)) != close {
-        return Err(unsupported(line_at(tokens, open), "parameters but for one lifetime"));
+    let mut at = next(open);
+    for _ in 0..tokens.len() {
+        if at >= close {
+            break;
+        }
+        let end = end_of_part(tokens, at, close);
+        let name = String::from_str(alloc, text_at(tokens, at))?;
+        match kind_at(tokens, at) {
+            Kind::Lifetime if next(at) == close && generics.parameters.is_empty() => {
+                generics.lifetime = Some(name);
+            }
+            Kind::Word if next(at) == end => generics.parameters.push(name)?,
+            _ => {
+                let what = "parameters but for one lifetime or types without bounds";
+                return Err(unsupported(line_at(tokens, at), what));
+            }
+        }
+        at = next(end);
     }
-    let lifetime = String::from_str(alloc, text_at(tokens, next(open)))?;
-    Ok((Some(lifetime), next(close)))
+    Ok((generics, next(close)))
 }
 
 /// The struct or enum whose keyword stands there.
@@ -367,7 +386,7 @@ fn declaration_at(
 ) -> DeriveResult<Declaration> {
     let line = line_at(tokens, keyword);
     let name = String::from_str(alloc, text_at(tokens, next(keyword)))?;
-    let (lifetime, open) = lifetime_at(alloc, tokens, next(next(keyword)))?;
+    let (generics, open) = generics_at(alloc, tokens, next(next(keyword)))?;
     let shape = if text_at(tokens, keyword) == "struct" {
         let (fields, _) = fields_at(alloc, name.as_str(), tokens, open)?;
         DeclaredShape::Struct(fields)
@@ -379,17 +398,18 @@ fn declaration_at(
         let Some(greatest) = greatest_tag(tag.as_str()) else {
             return Err(unsupported(line, "a tag that is no u8, u16, u32 or u64"));
         };
-        if lifetime.is_some() {
-            return Err(unsupported(line, "an enum with a lifetime"));
+        if generics.lifetime.is_some() || !generics.parameters.is_empty() {
+            return Err(unsupported(line, "an enum with parameters"));
         }
         let variants = variants_at(alloc, name.as_str(), tokens, open, greatest)?;
         DeclaredShape::Enum { tag, variants }
     };
     Ok(Declaration {
         name,
-        lifetime,
+        generics,
         shape,
         is_eq: head.is_eq,
+        is_ord: head.is_ord,
         line,
     })
 }

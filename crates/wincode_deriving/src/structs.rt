@@ -1,118 +1,185 @@
 //! The schema of a struct.
-use crate::declarations::{Field, Fields, Naming};
+use crate::declarations::{Declaration, Field, Fields, Generics, Naming};
 use crate::error::DeriveResult;
+use crate::laws::{law_of, seen_by};
 use crate::printing::{Words, fill, joined, owned, put, put_call};
 use std::alloc::Global;
 
 const WRITING: &str = "
-type @type@Fields = @schemas@;
+type @fields@ = @schemas@;
 
-impl SchemaWrite for @type@ {
-    type Src = @type@;
+impl@writes@ SchemaWrite for @self@ {
+    type Src = @src@;
 
-    ghost Value = { ⟦<@type@Fields as SchemaWrite>⟧.Value };
+    ghost Value = { ⟦<@fields@ as SchemaWrite>⟧.Value };
 
-    ghost model = { λ x. ⟦<@type@Fields as SchemaWrite>⟧.model @values@ };
+    ghost model = { λ x. ⟦<@fields@ as SchemaWrite>⟧.model @values@ };
 
-    ghost is_valid = { λ x. ⟦<@type@Fields as SchemaWrite>⟧.is_valid @values@ };
+    ghost is_valid = { λ x. ⟦<@fields@ as SchemaWrite>⟧.is_valid @values@ };
 
-    ghost writing = { ⟦<@type@Fields as SchemaWrite>⟧.writing };
+    ghost writing = { ⟦<@fields@ as SchemaWrite>⟧.writing };
 
     fn type_meta() -> TypeMeta {
-        <@type@Fields as SchemaWrite>::type_meta()
+        <@fields@ as SchemaWrite>::type_meta()
     }
 
-    fn size_of(src: &@type@) -> WriteResult<usize> {
+    fn size_of(src: &@src@) -> WriteResult<usize> {
 @size@    }
 
-    fn write<W: Writer>(writer: &mut W, src: &@type@) -> WriteResult<()> {
+    fn write<W: Writer>(writer: &mut W, src: &@src@) -> WriteResult<()> {
 @write@    }
 
-    fn encode(src: &@type@, dst: &mut [u8]) -> bool {
+@encoding@    ghost write_laws = { write_laws_by (λ x. @values@) ⟦<@fields@ as SchemaWrite>⟧.write_laws };
+}
+";
+
+const ENCODING: &str = "    #[inline(always)]
+    fn encode(src: &@src@, dst: &mut [u8]) -> bool {
 @encode@    }
 
-    ghost write_laws = { write_laws_by (λ x. @values@) ⟦<@type@Fields as SchemaWrite>⟧.write_laws };
-}
 ";
 
 const READING: &str = "
-impl<L: Lending> SchemaRead<L> for @type@ {
-    type Dst = @type@;
+impl@reads@ SchemaRead<L> for @self@ {
+    type Dst = @dst@;
 
-    ghost Value = { ⟦<@type@Fields as SchemaRead<L>>⟧.Value };
+    ghost Value = { ⟦<@fields@ as SchemaRead<L>>⟧.Value };
 
-    ghost model = { λ x. ⟦<@type@Fields as SchemaRead<L>>⟧.model @values@ };
+    ghost model = { λ x. ⟦<@fields@ as SchemaRead<L>>⟧.model @values@ };
 
-    ghost is_valid = { ⟦<@type@Fields as SchemaRead<L>>⟧.is_valid };
+    ghost is_valid = { ⟦<@fields@ as SchemaRead<L>>⟧.is_valid };
 
-    ghost reading = { ⟦<@type@Fields as SchemaRead<L>>⟧.reading };
+    ghost reading = { ⟦<@fields@ as SchemaRead<L>>⟧.reading };
 
     fn type_meta() -> TypeMeta {
-        <@type@Fields as SchemaRead<L>>::type_meta()
+        <@fields@ as SchemaRead<L>>::type_meta()
     }
 
     fn prealloc_size() -> usize {
-        <@type@Fields as SchemaRead<L>>::prealloc_size()
+        <@fields@ as SchemaRead<L>>::prealloc_size()
     }
 
-@head@        @bind@<@type@Fields as SchemaGet<L>>::get(alloc, reader)?;
+@head@@read@    }
+
+@decoding@    ghost read_laws = { @laws@ };
+}
+
+impl@lawful@ Lawful<L> for @self@ {
+    type Dst = @dst@;
+
+    ghost Value = { ⟦<@fields@ as Lawful<L>>⟧.Value };
+
+    ghost model = { λ x. ⟦<@fields@ as Lawful<L>>⟧.model @values@ };
+
+    ghost is_valid = { ⟦<@fields@ as Lawful<L>>⟧.is_valid };
+
+    ghost reading = { ⟦<@fields@ as Lawful<L>>⟧.reading };
+
+    ghost read_laws = { ⟦<@fields@ as Lawful<L>>⟧.read_laws };
+}
+";
+
+const GET: &str = "        @bind@<@fields@ as SchemaGet<L>>::get(alloc, reader)?;
         *dst = Some(@made@);
         Ok(())
+";
+
+/// The same where type parameters stand in the fields: `search` finds it of each arm by itself.
+const GET_BY_ARMS: &str = "        match <@fields@ as SchemaGet<L>>::get(alloc, reader) {
+            Ok(@bound_fields@) => {
+                *dst = Some(@made@);
+                Ok(())
+            }
+            Err(error) => Err(error),
+        }
+";
+
+const DECODING: &str = "    #[inline(always)]
+    fn blank() -> Option<@dst@> {
+        @bind@<@fields@ as SchemaRead<L>>::blank()?;
+        Some(@made@)
     }
 
-    ghost read_laws = { ⟦<@type@Fields as Lawful<L>>⟧.read_laws };
-}
+    #[inline(always)]
+    fn decode(bytes: &[u8], place: &mut @dst@) -> bool {
+        let Some(mut parts) = <@fields@ as SchemaRead<L>>::blank() else {
+            return false;
+        };
+        if !<@fields@ as SchemaRead<L>>::decode(bytes, &mut parts) {
+            return false;
+        }
+        @bind@parts;
+        *place = @made@;
+        true
+    }
 
-impl<L: Lending> Lawful<L> for @type@ {
-    ghost Value = { ⟦<@type@Fields as Lawful<L>>⟧.Value };
-
-    ghost is_valid = { ⟦<@type@Fields as Lawful<L>>⟧.is_valid };
-
-    ghost reading = { ⟦<@type@Fields as Lawful<L>>⟧.reading };
-
-    ghost read_laws = { ⟦<@type@Fields as Lawful<L>>⟧.read_laws };
-}
 ";
 
 const MARKERS: &str = "
-impl<L: Lending> RoundTrip<L> for @type@
+impl@backs@ RoundTrip<L> for @self@
 where
-    @type@Fields: RoundTrip<L>,
+@drops@    @fields@: RoundTrip<L@bound@>,
 {
-    ghost reads_back = { reads_back_by (λ x. @values@) bound-5.reads_back };
+    ghost reads_back = { reads_back_by (λ x. @values@) @evidence@.reads_back };
 }
 
-impl<L: Lending> OneText<L> for @type@
+impl@backs@ OneText<L> for @self@
 where
-    @type@Fields: FieldsOneText<L>,
+@drops@    @fields@: FieldsOneText<L@bound@>,
 {
-    ghost one_text = { bound-5.fields_one_text };
+    ghost one_text = { @evidence@.fields_one_text };
 }
 
-impl<L: Lending> SchemaReadOwned<L> for @type@
+impl@backs@ SchemaReadOwned<L> for @self@
 where
-    @type@Fields: FieldsReadOwned<L>,
+@drops@    @fields@: FieldsReadOwned<L@bound@>,
 {
-    ghost owned = { bound-5.fields_owned };
+    ghost owned = { @evidence@.fields_owned };
 }
 ";
 
-/// A letter for a place.
-fn letter_of(place: usize) -> char {
-    match "abcdefghijkm".chars().nth(place) {
-        Some(letter) => letter,
-        None => 'n',
-    }
+const KEY: &str = "
+type @pairs@ = @schemas@;
+
+impl@backs@ Key<L> for @self@
+where
+@drops@    @pairs@: FieldsKey<L@bound@>,
+{
+    ghost alike = { λ x y. @evidence@.fields_alike @one@ @other@ };
+}
+";
+
+const LAWFUL_KEY: &str = "
+type @pairs@ = @schemas@;
+
+impl<L: Lending> Key<L> for @type@ {
+    ghost alike = { ⟦<@type@ as LawfulKey<L>>⟧.alike };
 }
 
-const KEY: &str = "
-type @type@Pairs = @schemas@;
+impl<L: Lending> LawfulKey<L> for @type@ {
+    type Dst = @type@;
 
-impl<L: Lending> Key<L> for @type@
-where
-    @type@Pairs: FieldsKey<L>,
-{
-    ghost alike = { λ x y. bound-5.fields_alike @one@ @other@ };
+    ghost Value = { ⟦<@fields@ as Lawful<L>>⟧.Value };
+
+    ghost model = { λ x. ⟦<@fields@ as Lawful<L>>⟧.model @values@ };
+
+    ghost is_valid = { ⟦<@fields@ as Lawful<L>>⟧.is_valid };
+
+    ghost reading = { ⟦<@fields@ as Lawful<L>>⟧.reading };
+
+    ghost read_laws = { ⟦<@fields@ as Lawful<L>>⟧.read_laws };
+
+    ghost equal = { ⟦<@type@ as PartialEq>⟧.eq };
+
+    ghost equivalence = { @type@EqLaws.laws-law };
+
+    ghost alike = { λ x y. ⟦<@pairs@ as LawfulKey<L>>⟧.alike @one@ @other@ };
+
+    ghost order = { ⟦<@type@ as Ord>⟧.cmp };
+
+    ghost order_total = { @type@OrdLaws.total-law };
+
+    ghost order_ties = { @type@OrdLaws.matches_eq-law };
 }
 ";
 
@@ -127,10 +194,55 @@ const SHORT_HEAD: &str =
     "    fn read<R: Reader<L>>(alloc: Global, reader: &mut R, dst: &mut Option<@type@>) -> ReadResult<()> {
 ";
 
-/// What a field is called where it stands by itself: its name, or a letter for its place.
+/// Types whose values have no one size.
+const UNSIZED: [&str; 22] = [
+    "String",
+    "Vec",
+    "VecDeque",
+    "LinkedList",
+    "BTreeMap",
+    "BTreeSet",
+    "HashMap",
+    "HashSet",
+    "BinaryHeap",
+    "Option",
+    "Box",
+    "Rc",
+    "char",
+    "ShortU16",
+    "str",
+    "containers::Vec",
+    "containers::VecDeque",
+    "containers::BoxedSlice",
+    "containers::RcSlice",
+    "containers::BinaryHeap",
+    "containers::Option",
+    "containers::Result",
+];
+
+/// Types that are keys of maps.
+const KEYS: [&str; 15] = [
+    "u8", "u16", "u32", "u64", "u128", "usize", "i8", "i16", "i32", "i64", "i128", "isize", "bool",
+    "char", "String",
+];
+
+/// A letter for a place.
+fn letter_of(place: usize) -> char {
+    match "abcdefghijkm".chars().nth(place) {
+        Some(letter) => letter,
+        None => 'n',
+    }
+}
+
+/// What a field is called where it stands by itself: its name, with a word behind it where the functions have that
+/// name for something else, or a letter for its place.
 pub fn binding(alloc: Global, naming: Naming, place: usize, field: &Field) -> DeriveResult<String> {
-    if naming == Naming::Named && field.name.as_str() != "writer" {
-        return owned(alloc, field.name.as_str());
+    let name = field.name.as_str();
+    if naming == Naming::Named && matches!(name, "dst" | "place" | "writer") {
+        return Ok(format!(in alloc; "{name}_field")?);
+    }
+    if naming == Naming::Named {
+        return owned(alloc, name);
     }
     let mut name = String::new(alloc);
     name.push(letter_of(place))?;
@@ -325,31 +437,198 @@ fn pairs_of_all(alloc: Global, texts: &[String]) -> DeriveResult<String> {
     Ok(out)
 }
 
-/// Appends that a struct with fields is a key of maps where these are.
-pub fn put_key(alloc: Global, out: &mut String, name: &str, fields: &Fields) -> DeriveResult<()> {
-    let schemas = schemas_of(alloc, fields)?;
-    let one = named_fields(alloc, "x.", fields)?;
-    let other = named_fields(alloc, "y.", fields)?;
-    let mut words = Words::new(alloc);
-    words.set("type", owned(alloc, name)?)?;
-    words.set("schemas", pairs_of_all(alloc, schemas.as_slice())?)?;
-    words.set("one", pairs_of_all(alloc, one.as_slice())?)?;
-    words.set("other", pairs_of_all(alloc, other.as_slice())?)?;
-    fill(out, KEY, &words)
+/// A name with what it is declared over: `Pair<A, B>`, or with `member`, as `::Src`, behind each.
+fn applied(alloc: Global, name: &str, generics: &Generics, member: &str) -> DeriveResult<String> {
+    let mut out = owned(alloc, name)?;
+    for (i, parameter) in generics.parameters.iter().enumerate() {
+        put(
+            &mut out,
+            &[if i == 0 { "<" } else { ", " }, parameter.as_str(), member],
+        )?;
+    }
+    if !generics.parameters.is_empty() {
+        out.push('>')?;
+    }
+    Ok(out)
 }
 
-/// Appends the schema of a struct.
-pub fn put_struct(
+/// The parameters of an `impl`: these, and each that the type is declared over with this bound, in which `@` stands
+/// for its name.
+fn over(alloc: Global, first: &str, generics: &Generics, bound: &str) -> DeriveResult<String> {
+    let mut all = Vec::new(alloc);
+    if !first.is_empty() {
+        all.push(owned(alloc, first)?)?;
+    }
+    for parameter in generics.parameters.as_slice() {
+        let name = parameter.as_str();
+        let mut text = format!(in alloc; "{name}: ")?;
+        for (i, part) in bound.split('@').enumerate() {
+            put(&mut text, &[if i == 0 { "" } else { name }, part])?;
+        }
+        all.push(text)?;
+    }
+    let mut out = String::new(alloc);
+    if !all.is_empty() {
+        let list = joined(alloc, all.as_slice(), ", ")?;
+        put(&mut out, &["<", list.as_str(), ">"])?;
+    }
+    Ok(out)
+}
+
+/// Whether values of a schema may all have one size, as far as its name says.
+fn may_have_one_size(schema: &str) -> bool {
+    let name = match schema.split_once('<') {
+        Some((name, _)) => name,
+        None => schema,
+    };
+    !schema.starts_with('&') && UNSIZED.iter().all(|known| *known != name)
+}
+
+/// Whether a schema is that of a key by its name: of a number, a flag, a text, or an array of such.
+fn is_plain_key(schema: &str) -> bool {
+    let name = match schema.split_once(';') {
+        Some((item, _)) => item.trim_start_matches('['),
+        None => schema,
+    };
+    KEYS.iter().any(|known| *known == name)
+}
+
+/// Whether a struct is a key of maps that stand in other structs, by its name.
+pub fn is_lawful_key(declaration: &Declaration, fields: &Fields) -> bool {
+    declaration.is_ord
+        && declaration.is_eq
+        && declaration.generics.parameters.is_empty()
+        && declaration.generics.lifetime.is_none()
+        && !fields.fields.is_empty()
+        && fields
+            .fields
+            .iter()
+            .all(|field| is_plain_key(field.schema.as_str()))
+}
+
+/// The checker's name for the bound on the fields in an `impl` of a marker: that of a parameter by itself is its own,
+/// others have their place among the bounds.
+fn evidence_of(
+    alloc: Global,
+    generics: &Generics,
+    schemas: &str,
+    each: usize,
+) -> DeriveResult<String> {
+    for parameter in generics.parameters.as_slice() {
+        if parameter.as_str() == schemas {
+            return owned(alloc, schemas);
+        }
+    }
+    let place = generics
+        .parameters
+        .len()
+        .saturating_mul(each)
+        .saturating_add(5);
+    Ok(format!(in alloc; "bound-{place}")?)
+}
+
+/// What the parameters have as values beside the bound on the fields, a line for each.
+fn drops_of(alloc: Global, generics: &Generics, bound: &str) -> DeriveResult<String> {
+    let mut out = String::new(alloc);
+    for parameter in generics.parameters.as_slice() {
+        put(
+            &mut out,
+            &["    ", parameter.as_str(), "::Src: ", bound, ",\n"],
+        )?;
+    }
+    Ok(out)
+}
+
+/// The words of a type's name and of what it is declared over.
+fn name_words(alloc: Global, name: &str, generics: &Generics) -> DeriveResult<Words> {
+    let mut words = Words::new(alloc);
+    let fields = format!(in alloc; "{name}Fields")?;
+    let pairs = format!(in alloc; "{name}Pairs")?;
+    let lending = "L: Lending";
+    words.set("type", owned(alloc, name)?)?;
+    words.set("self", applied(alloc, name, generics, "")?)?;
+    words.set("src", applied(alloc, name, generics, "::Src")?)?;
+    words.set("dst", applied(alloc, name, generics, "::Dst")?)?;
+    words.set("fields", applied(alloc, fields.as_str(), generics, "")?)?;
+    words.set("pairs", applied(alloc, pairs.as_str(), generics, "")?)?;
+    words.set("writes", over(alloc, "", generics, "SchemaWrite")?)?;
+    words.set("reads", over(alloc, lending, generics, "SchemaRead<L>")?)?;
+    words.set("lawful", over(alloc, lending, generics, "Lawful<L>")?)?;
+    let both = "SchemaWrite + SchemaRead<L, Dst = @::Src>";
+    words.set("backs", over(alloc, lending, generics, both)?)?;
+    Ok(words)
+}
+
+/// What the bound on a tuple of fields says of its values, where types are parameters: `, Src = (A::Src, u8)`; of a
+/// parameter by itself its own bound says it.
+fn bound_of(alloc: Global, generics: &Generics, values: &str) -> DeriveResult<String> {
+    let mut out = String::new(alloc);
+    let parameters = generics.parameters.as_slice();
+    if !parameters.is_empty()
+        && parameters
+            .iter()
+            .all(|parameter| parameter.as_str() != values)
+    {
+        let values = seen_by(alloc, values, parameters, "Src")?;
+        put(&mut out, &[", Src = ", values.as_str()])?;
+    }
+    Ok(out)
+}
+
+/// The types of fields.
+fn types_of(alloc: Global, fields: &Fields) -> DeriveResult<Vec<String>> {
+    let mut values = Vec::new(alloc);
+    for field in fields.fields.as_slice() {
+        values.push(owned(alloc, field.value.as_str())?)?;
+    }
+    Ok(values)
+}
+
+/// The laws of reading of the fields' tuple.
+fn laws_of(alloc: Global, declaration: &Declaration, schemas: &str) -> DeriveResult<String> {
+    let parameters = declaration.generics.parameters.as_slice();
+    if parameters.is_empty() {
+        let name = declaration.name.as_str();
+        return Ok(format!(in alloc; "⟦<{name}Fields as Lawful<L>>⟧.read_laws")?);
+    }
+    law_of(alloc, schemas, parameters, declaration.line)
+}
+
+/// Appends that a struct with fields is a key of maps where these are.
+pub fn put_key(
     alloc: Global,
     out: &mut String,
-    name: &str,
+    declaration: &Declaration,
     fields: &Fields,
 ) -> DeriveResult<()> {
+    let generics = &declaration.generics;
     let schemas = schemas_of(alloc, fields)?;
-    let mut words = Words::new(alloc);
-    words.set("type", owned(alloc, name)?)?;
-    words.set("schemas", tuple_of(alloc, schemas.as_slice())?)?;
+    let values = types_of(alloc, fields)?;
+    let values = pairs_of_all(alloc, values.as_slice())?;
+    let one = named_fields(alloc, "x.", fields)?;
+    let other = named_fields(alloc, "y.", fields)?;
+    let mut words = name_words(alloc, declaration.name.as_str(), generics)?;
+    let schemas = pairs_of_all(alloc, schemas.as_slice())?;
+    words.set(
+        "evidence",
+        evidence_of(alloc, generics, schemas.as_str(), 4)?,
+    )?;
+    words.set("schemas", schemas)?;
     words.set("values", values_of(alloc, fields)?)?;
+    words.set("one", pairs_of_all(alloc, one.as_slice())?)?;
+    words.set("other", pairs_of_all(alloc, other.as_slice())?)?;
+    words.set("drops", drops_of(alloc, generics, "Drop + Eq")?)?;
+    words.set("bound", bound_of(alloc, generics, values.as_str())?)?;
+    let template = if is_lawful_key(declaration, fields) {
+        LAWFUL_KEY
+    } else {
+        KEY
+    };
+    fill(out, template, &words)
+}
+
+/// Sets the words of a struct's functions.
+fn set_calls(alloc: Global, words: &mut Words, name: &str, fields: &Fields) -> DeriveResult<()> {
     words.set("size", call_of(alloc, ("size_of", ""), (&[], &[]), fields)?)?;
     words.set(
         "write",
@@ -359,9 +638,78 @@ pub fn put_struct(
         "encode",
         call_of(alloc, ("encode", ""), (&[], &["dst"]), fields)?,
     )?;
-    words.set("head", read_head(alloc, name)?)?;
     words.set("bind", bind_of(alloc, fields)?)?;
-    words.set("made", made_of(alloc, name, fields)?)?;
+    words.set("made", made_of(alloc, name, fields)?)
+}
+
+/// Sets the word of how a struct is read.
+fn set_read(
+    alloc: Global,
+    words: &mut Words,
+    generics: &Generics,
+    fields: &Fields,
+) -> DeriveResult<()> {
+    let names = bindings(alloc, fields)?;
+    words.set("bound_fields", tuple_of(alloc, names.as_slice())?)?;
+    let template = if generics.parameters.is_empty() {
+        GET
+    } else {
+        GET_BY_ARMS
+    };
+    let mut read = String::new(alloc);
+    fill(&mut read, template, words)?;
+    words.set("read", read)
+}
+
+/// Sets the words of the plain ways of reading and writing, where the fields may have them.
+fn set_plain(alloc: Global, words: &mut Words, fields: &Fields) -> DeriveResult<()> {
+    let mut encoding = String::new(alloc);
+    let mut decoding = String::new(alloc);
+    if has_plain(fields) {
+        fill(&mut encoding, ENCODING, words)?;
+        fill(&mut decoding, DECODING, words)?;
+    }
+    words.set("encoding", encoding)?;
+    words.set("decoding", decoding)
+}
+
+/// Whether a struct has fields, and all of one size, as far as their names say.
+pub fn has_plain(fields: &Fields) -> bool {
+    !fields.fields.is_empty()
+        && fields
+            .fields
+            .iter()
+            .all(|field| may_have_one_size(field.schema.as_str()))
+}
+
+/// Appends the schema of a struct.
+pub fn put_struct(
+    alloc: Global,
+    out: &mut String,
+    declaration: &Declaration,
+    fields: &Fields,
+) -> DeriveResult<()> {
+    let name = declaration.name.as_str();
+    let generics = &declaration.generics;
+    let schemas = schemas_of(alloc, fields)?;
+    let schemas = tuple_of(alloc, schemas.as_slice())?;
+    let types = types_of(alloc, fields)?;
+    let types = tuple_of(alloc, types.as_slice())?;
+    let dst = applied(alloc, name, generics, "::Dst")?;
+    let mut words = name_words(alloc, name, generics)?;
+    words.set("laws", laws_of(alloc, declaration, schemas.as_str())?)?;
+    words.set(
+        "evidence",
+        evidence_of(alloc, generics, schemas.as_str(), 2)?,
+    )?;
+    words.set("schemas", schemas)?;
+    words.set("values", values_of(alloc, fields)?)?;
+    set_calls(alloc, &mut words, name, fields)?;
+    set_read(alloc, &mut words, generics, fields)?;
+    set_plain(alloc, &mut words, fields)?;
+    words.set("head", read_head(alloc, dst.as_str())?)?;
+    words.set("drops", drops_of(alloc, generics, "Drop")?)?;
+    words.set("bound", bound_of(alloc, generics, types.as_str())?)?;
     fill(out, WRITING, &words)?;
     fill(out, READING, &words)?;
     fill(out, MARKERS, &words)

@@ -123,7 +123,11 @@ impl<L: Lending> SchemaRead<L> for Event {
 }
 
 impl<L: Lending> Lawful<L> for Event {
+    type Dst = Event;
+
     ghost Value = { ⟦<EventCases as Lawful<L>>⟧.Value };
+
+    ghost model = { λ x. ⟦<EventCases as Lawful<L>>⟧.model (⟦<Event as EnumParts>⟧.parts x) };
 
     ghost is_valid = { ⟦<EventCases as Lawful<L>>⟧.is_valid };
 

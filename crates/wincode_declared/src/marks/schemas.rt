@@ -1,6 +1,8 @@
 //! Written by `wincode_derive`: the schemas of what the module above declares.
 ghost use Rattle.std.specs.Prelude.{Ok, Err};
 ghost use Rattle.wincode_base.specs.PairLaws.{write_laws_by, reads_back_by};
+ghost use Rattle.wincode_declared.specs.contracts.marks.RangeEq.TheImpl.Laws as RangeEqLaws;
+ghost use Rattle.wincode_declared.specs.contracts.marks.RangeOrd.TheImpl.Laws as RangeOrdLaws;
 ghost use Rattle.wincode_declared.specs.declared.marks.Mark.TheVariants.{Plus as MarkPlus, Minus as MarkMinus, Other as MarkOther};
 ghost use Rattle.wincode_declared.specs.declared.marks.Only.TheVariants.{Spanned as OnlySpanned};
 
@@ -13,6 +15,7 @@ use wincode::{
     TypeMeta, WriteResult,
 };
 use wincode_derived::enums::{EnumParts, EnumShape, read_enum, size_of_enum, write_enum};
+use wincode_derived::keys::LawfulKey;
 use wincode_derived::laws::{FieldsKey, FieldsOneText, FieldsReadOwned, Lawful};
 use wincode_derived::sums::{Case, Last, OneOf};
 
@@ -41,6 +44,7 @@ impl SchemaWrite for Account {
         <[u8; 32] as SchemaWrite>::write::<W>(writer, &src.0)
     }
 
+    #[inline(always)]
     fn encode(src: &Account, dst: &mut [u8]) -> bool {
         <[u8; 32] as SchemaWrite>::encode(&src.0, dst)
     }
@@ -77,11 +81,34 @@ impl<L: Lending> SchemaRead<L> for Account {
         Ok(())
     }
 
+    #[inline(always)]
+    fn blank() -> Option<Account> {
+        let a = <AccountFields as SchemaRead<L>>::blank()?;
+        Some(Account(a))
+    }
+
+    #[inline(always)]
+    fn decode(bytes: &[u8], place: &mut Account) -> bool {
+        let Some(mut parts) = <AccountFields as SchemaRead<L>>::blank() else {
+            return false;
+        };
+        if !<AccountFields as SchemaRead<L>>::decode(bytes, &mut parts) {
+            return false;
+        }
+        let a = parts;
+        *place = Account(a);
+        true
+    }
+
     ghost read_laws = { ⟦<AccountFields as Lawful<L>>⟧.read_laws };
 }
 
 impl<L: Lending> Lawful<L> for Account {
+    type Dst = Account;
+
     ghost Value = { ⟦<AccountFields as Lawful<L>>⟧.Value };
+
+    ghost model = { λ x. ⟦<AccountFields as Lawful<L>>⟧.model x.0 };
 
     ghost is_valid = { ⟦<AccountFields as Lawful<L>>⟧.is_valid };
 
@@ -145,6 +172,7 @@ impl SchemaWrite for Span {
         write_members_2::<u16, i64, W>(writer, &src.0, &src.1)
     }
 
+    #[inline(always)]
     fn encode(src: &Span, dst: &mut [u8]) -> bool {
         encode_members_2::<u16, i64>(&src.0, &src.1, dst)
     }
@@ -177,11 +205,34 @@ impl<L: Lending> SchemaRead<L> for Span {
         Ok(())
     }
 
+    #[inline(always)]
+    fn blank() -> Option<Span> {
+        let (a, b) = <SpanFields as SchemaRead<L>>::blank()?;
+        Some(Span(a, b))
+    }
+
+    #[inline(always)]
+    fn decode(bytes: &[u8], place: &mut Span) -> bool {
+        let Some(mut parts) = <SpanFields as SchemaRead<L>>::blank() else {
+            return false;
+        };
+        if !<SpanFields as SchemaRead<L>>::decode(bytes, &mut parts) {
+            return false;
+        }
+        let (a, b) = parts;
+        *place = Span(a, b);
+        true
+    }
+
     ghost read_laws = { ⟦<SpanFields as Lawful<L>>⟧.read_laws };
 }
 
 impl<L: Lending> Lawful<L> for Span {
+    type Dst = Span;
+
     ghost Value = { ⟦<SpanFields as Lawful<L>>⟧.Value };
+
+    ghost model = { λ x. ⟦<SpanFields as Lawful<L>>⟧.model (x.0, x.1) };
 
     ghost is_valid = { ⟦<SpanFields as Lawful<L>>⟧.is_valid };
 
@@ -245,6 +296,7 @@ impl SchemaWrite for Range {
         write_members_2::<u32, u32, W>(writer, &src.from, &src.to)
     }
 
+    #[inline(always)]
     fn encode(src: &Range, dst: &mut [u8]) -> bool {
         encode_members_2::<u32, u32>(&src.from, &src.to, dst)
     }
@@ -281,11 +333,34 @@ impl<L: Lending> SchemaRead<L> for Range {
         Ok(())
     }
 
+    #[inline(always)]
+    fn blank() -> Option<Range> {
+        let (from, to) = <RangeFields as SchemaRead<L>>::blank()?;
+        Some(Range { from, to })
+    }
+
+    #[inline(always)]
+    fn decode(bytes: &[u8], place: &mut Range) -> bool {
+        let Some(mut parts) = <RangeFields as SchemaRead<L>>::blank() else {
+            return false;
+        };
+        if !<RangeFields as SchemaRead<L>>::decode(bytes, &mut parts) {
+            return false;
+        }
+        let (from, to) = parts;
+        *place = Range { from, to };
+        true
+    }
+
     ghost read_laws = { ⟦<RangeFields as Lawful<L>>⟧.read_laws };
 }
 
 impl<L: Lending> Lawful<L> for Range {
+    type Dst = Range;
+
     ghost Value = { ⟦<RangeFields as Lawful<L>>⟧.Value };
+
+    ghost model = { λ x. ⟦<RangeFields as Lawful<L>>⟧.model (x.from, x.to) };
 
     ghost is_valid = { ⟦<RangeFields as Lawful<L>>⟧.is_valid };
 
@@ -317,11 +392,34 @@ where
 
 type RangePairs = (u32, u32);
 
-impl<L: Lending> Key<L> for Range
-where
-    RangePairs: FieldsKey<L>,
-{
-    ghost alike = { λ x y. bound-5.fields_alike (x.from, x.to) (y.from, y.to) };
+impl<L: Lending> Key<L> for Range {
+    ghost alike = { ⟦<Range as LawfulKey<L>>⟧.alike };
+}
+
+impl<L: Lending> LawfulKey<L> for Range {
+    type Dst = Range;
+
+    ghost Value = { ⟦<RangeFields as Lawful<L>>⟧.Value };
+
+    ghost model = { λ x. ⟦<RangeFields as Lawful<L>>⟧.model (x.from, x.to) };
+
+    ghost is_valid = { ⟦<RangeFields as Lawful<L>>⟧.is_valid };
+
+    ghost reading = { ⟦<RangeFields as Lawful<L>>⟧.reading };
+
+    ghost read_laws = { ⟦<RangeFields as Lawful<L>>⟧.read_laws };
+
+    ghost equal = { ⟦<Range as PartialEq>⟧.eq };
+
+    ghost equivalence = { RangeEqLaws.laws-law };
+
+    ghost alike = { λ x y. ⟦<RangePairs as LawfulKey<L>>⟧.alike (x.from, x.to) (y.from, y.to) };
+
+    ghost order = { ⟦<Range as Ord>⟧.cmp };
+
+    ghost order_total = { RangeOrdLaws.total-law };
+
+    ghost order_ties = { RangeOrdLaws.matches_eq-law };
 }
 
 type MarkerFields = ();
@@ -347,10 +445,6 @@ impl SchemaWrite for Marker {
 
     fn write<W: Writer>(writer: &mut W, src: &Marker) -> WriteResult<()> {
         <() as SchemaWrite>::write::<W>(writer, &())
-    }
-
-    fn encode(src: &Marker, dst: &mut [u8]) -> bool {
-        <() as SchemaWrite>::encode(&(), dst)
     }
 
     ghost write_laws = { write_laws_by (λ x. tt) ⟦<MarkerFields as SchemaWrite>⟧.write_laws };
@@ -389,7 +483,11 @@ impl<L: Lending> SchemaRead<L> for Marker {
 }
 
 impl<L: Lending> Lawful<L> for Marker {
+    type Dst = Marker;
+
     ghost Value = { ⟦<MarkerFields as Lawful<L>>⟧.Value };
+
+    ghost model = { λ x. ⟦<MarkerFields as Lawful<L>>⟧.model tt };
 
     ghost is_valid = { ⟦<MarkerFields as Lawful<L>>⟧.is_valid };
 
@@ -518,7 +616,11 @@ impl<L: Lending> SchemaRead<L> for Mark {
 }
 
 impl<L: Lending> Lawful<L> for Mark {
+    type Dst = Mark;
+
     ghost Value = { ⟦<MarkCases as Lawful<L>>⟧.Value };
+
+    ghost model = { λ x. ⟦<MarkCases as Lawful<L>>⟧.model (⟦<Mark as EnumParts>⟧.parts x) };
 
     ghost is_valid = { ⟦<MarkCases as Lawful<L>>⟧.is_valid };
 
@@ -639,7 +741,11 @@ impl<L: Lending> SchemaRead<L> for Only {
 }
 
 impl<L: Lending> Lawful<L> for Only {
+    type Dst = Only;
+
     ghost Value = { ⟦<OnlyCases as Lawful<L>>⟧.Value };
+
+    ghost model = { λ x. ⟦<OnlyCases as Lawful<L>>⟧.model (⟦<Only as EnumParts>⟧.parts x) };
 
     ghost is_valid = { ⟦<OnlyCases as Lawful<L>>⟧.is_valid };
 

@@ -5,8 +5,7 @@ use super::*;
 use std::alloc::Global;
 use wincode::io::{Lending, Reader, Writer};
 use wincode::schema::tuples::{
-    encode_members_3, encode_members_4, size_of_members_3, size_of_members_4, write_members_3,
-    write_members_4,
+    size_of_members_3, size_of_members_4, write_members_3, write_members_4,
 };
 use wincode::{
     OneText, ReadResult, RoundTrip, SchemaGet, SchemaRead, SchemaReadOwned, SchemaWrite, TypeMeta,
@@ -43,12 +42,6 @@ impl SchemaWrite for Note {
         )
     }
 
-    fn encode(src: &Note, dst: &mut [u8]) -> bool {
-        encode_members_3::<u64, String, containers::Vec<u8, ShortU16Len>>(
-            &src.id, &src.text, &src.marks, dst,
-        )
-    }
-
     ghost write_laws = { write_laws_by (λ x. (x.id, x.text, x.marks)) ⟦<NoteFields as SchemaWrite>⟧.write_laws };
 }
 
@@ -81,7 +74,11 @@ impl<L: Lending> SchemaRead<L> for Note {
 }
 
 impl<L: Lending> Lawful<L> for Note {
+    type Dst = Note;
+
     ghost Value = { ⟦<NoteFields as Lawful<L>>⟧.Value };
+
+    ghost model = { λ x. ⟦<NoteFields as Lawful<L>>⟧.model (x.id, x.text, x.marks) };
 
     ghost is_valid = { ⟦<NoteFields as Lawful<L>>⟧.is_valid };
 
@@ -147,16 +144,6 @@ impl SchemaWrite for Order {
         )
     }
 
-    fn encode(src: &Order, dst: &mut [u8]) -> bool {
-        encode_members_4::<u32, bool, Option<Note>, Vec<Note>>(
-            &src.number,
-            &src.paid,
-            &src.note,
-            &src.items,
-            dst,
-        )
-    }
-
     ghost write_laws = { write_laws_by (λ x. (x.number, x.paid, x.note, x.items)) ⟦<OrderFields as SchemaWrite>⟧.write_laws };
 }
 
@@ -198,7 +185,11 @@ impl<L: Lending> SchemaRead<L> for Order {
 }
 
 impl<L: Lending> Lawful<L> for Order {
+    type Dst = Order;
+
     ghost Value = { ⟦<OrderFields as Lawful<L>>⟧.Value };
+
+    ghost model = { λ x. ⟦<OrderFields as Lawful<L>>⟧.model (x.number, x.paid, x.note, x.items) };
 
     ghost is_valid = { ⟦<OrderFields as Lawful<L>>⟧.is_valid };
 

@@ -7,7 +7,7 @@ use super::*;
 use std::alloc::Global;
 use wincode::io::{Lending, Reader, Writer};
 use wincode::schema::tuples::{
-    encode_members_8, size_of_members_2, size_of_members_8, write_members_2, write_members_8,
+    size_of_members_2, size_of_members_8, write_members_2, write_members_8,
 };
 use wincode::{
     OneText, ReadResult, RoundTrip, SchemaGet, SchemaRead, SchemaReadOwned, SchemaWrite, TypeMeta,
@@ -89,29 +89,6 @@ impl SchemaWrite for Parcel {
         )
     }
 
-    fn encode(src: &Parcel, dst: &mut [u8]) -> bool {
-        encode_members_8::<
-            Vec<Order>,
-            Option<Event>,
-            Box<Signal>,
-            Result<u8, String>,
-            (i32, i32),
-            [u8; 4],
-            char,
-            usize,
-        >(
-            &src.orders,
-            &src.event,
-            &src.signal,
-            &src.outcome,
-            &src.place,
-            &src.seal,
-            &src.letter,
-            &src.weight,
-            dst,
-        )
-    }
-
     ghost write_laws = { write_laws_by (λ x. (x.orders, x.event, x.signal, x.outcome, x.place, x.seal, x.letter, x.weight)) ⟦<ParcelFields as SchemaWrite>⟧.write_laws };
 }
 
@@ -139,14 +116,14 @@ impl<L: Lending> SchemaRead<L> for Parcel {
         reader: &mut R,
         dst: &mut Option<Parcel>,
     ) -> ReadResult<()> {
-        let (orders, event, signal, outcome, place, seal, letter, weight) =
+        let (orders, event, signal, outcome, place_field, seal, letter, weight) =
             <ParcelFields as SchemaGet<L>>::get(alloc, reader)?;
         *dst = Some(Parcel {
             orders,
             event,
             signal,
             outcome,
-            place,
+            place: place_field,
             seal,
             letter,
             weight,
@@ -158,7 +135,11 @@ impl<L: Lending> SchemaRead<L> for Parcel {
 }
 
 impl<L: Lending> Lawful<L> for Parcel {
+    type Dst = Parcel;
+
     ghost Value = { ⟦<ParcelFields as Lawful<L>>⟧.Value };
+
+    ghost model = { λ x. ⟦<ParcelFields as Lawful<L>>⟧.model (x.orders, x.event, x.signal, x.outcome, x.place, x.seal, x.letter, x.weight) };
 
     ghost is_valid = { ⟦<ParcelFields as Lawful<L>>⟧.is_valid };
 
@@ -287,7 +268,11 @@ impl<L: Lending> SchemaRead<L> for Fate {
 }
 
 impl<L: Lending> Lawful<L> for Fate {
+    type Dst = Fate;
+
     ghost Value = { ⟦<FateCases as Lawful<L>>⟧.Value };
+
+    ghost model = { λ x. ⟦<FateCases as Lawful<L>>⟧.model (⟦<Fate as EnumParts>⟧.parts x) };
 
     ghost is_valid = { ⟦<FateCases as Lawful<L>>⟧.is_valid };
 

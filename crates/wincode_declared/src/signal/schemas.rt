@@ -140,7 +140,11 @@ impl<L: Lending> SchemaRead<L> for Signal {
 }
 
 impl<L: Lending> Lawful<L> for Signal {
+    type Dst = Signal;
+
     ghost Value = { ⟦<SignalCases as Lawful<L>>⟧.Value };
+
+    ghost model = { λ x. ⟦<SignalCases as Lawful<L>>⟧.model (⟦<Signal as EnumParts>⟧.parts x) };
 
     ghost is_valid = { ⟦<SignalCases as Lawful<L>>⟧.is_valid };
 

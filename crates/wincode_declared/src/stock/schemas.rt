@@ -1,0 +1,261 @@
+//! Written by `wincode_derive`: the schemas of what the module above declares.
+ghost use Rattle.wincode_base.specs.PairLaws.{write_laws_by, reads_back_by};
+
+use super::*;
+use std::alloc::Global;
+use wincode::io::{Lending, Reader, Writer};
+use wincode::schema::tuples::{
+    size_of_members_3, size_of_members_5, write_members_3, write_members_5,
+};
+use wincode::{
+    OneText, ReadResult, RoundTrip, SchemaGet, SchemaRead, SchemaReadOwned, SchemaWrite, TypeMeta,
+    WriteResult,
+};
+use wincode_derived::laws::{FieldsOneText, FieldsReadOwned, Lawful};
+
+type StockFields = (
+    BTreeMap<String, Note>,
+    HashMap<u64, u32>,
+    BTreeSet<Range>,
+    HashSet<String>,
+    BinaryHeap<u32>,
+);
+
+impl SchemaWrite for Stock {
+    type Src = Stock;
+
+    ghost Value = { ⟦<StockFields as SchemaWrite>⟧.Value };
+
+    ghost model = { λ x. ⟦<StockFields as SchemaWrite>⟧.model (x.by_name, x.counts, x.ranges, x.tags, x.waiting) };
+
+    ghost is_valid = { λ x. ⟦<StockFields as SchemaWrite>⟧.is_valid (x.by_name, x.counts, x.ranges, x.tags, x.waiting) };
+
+    ghost writing = { ⟦<StockFields as SchemaWrite>⟧.writing };
+
+    fn type_meta() -> TypeMeta {
+        <StockFields as SchemaWrite>::type_meta()
+    }
+
+    fn size_of(src: &Stock) -> WriteResult<usize> {
+        size_of_members_5::<
+            BTreeMap<String, Note>,
+            HashMap<u64, u32>,
+            BTreeSet<Range>,
+            HashSet<String>,
+            BinaryHeap<u32>,
+        >(
+            &src.by_name,
+            &src.counts,
+            &src.ranges,
+            &src.tags,
+            &src.waiting,
+        )
+    }
+
+    fn write<W: Writer>(writer: &mut W, src: &Stock) -> WriteResult<()> {
+        write_members_5::<
+            BTreeMap<String, Note>,
+            HashMap<u64, u32>,
+            BTreeSet<Range>,
+            HashSet<String>,
+            BinaryHeap<u32>,
+            W,
+        >(
+            writer,
+            &src.by_name,
+            &src.counts,
+            &src.ranges,
+            &src.tags,
+            &src.waiting,
+        )
+    }
+
+    ghost write_laws = { write_laws_by (λ x. (x.by_name, x.counts, x.ranges, x.tags, x.waiting)) ⟦<StockFields as SchemaWrite>⟧.write_laws };
+}
+
+impl<L: Lending> SchemaRead<L> for Stock {
+    type Dst = Stock;
+
+    ghost Value = { ⟦<StockFields as SchemaRead<L>>⟧.Value };
+
+    ghost model = { λ x. ⟦<StockFields as SchemaRead<L>>⟧.model (x.by_name, x.counts, x.ranges, x.tags, x.waiting) };
+
+    ghost is_valid = { ⟦<StockFields as SchemaRead<L>>⟧.is_valid };
+
+    ghost reading = { ⟦<StockFields as SchemaRead<L>>⟧.reading };
+
+    fn type_meta() -> TypeMeta {
+        <StockFields as SchemaRead<L>>::type_meta()
+    }
+
+    fn prealloc_size() -> usize {
+        <StockFields as SchemaRead<L>>::prealloc_size()
+    }
+
+    fn read<R: Reader<L>>(
+        alloc: Global,
+        reader: &mut R,
+        dst: &mut Option<Stock>,
+    ) -> ReadResult<()> {
+        let (by_name, counts, ranges, tags, waiting) = <StockFields as SchemaGet<L>>::get(
+            alloc, reader,
+        )?;
+        *dst = Some(Stock {
+            by_name,
+            counts,
+            ranges,
+            tags,
+            waiting,
+        });
+        Ok(())
+    }
+
+    ghost read_laws = { ⟦<StockFields as Lawful<L>>⟧.read_laws };
+}
+
+impl<L: Lending> Lawful<L> for Stock {
+    type Dst = Stock;
+
+    ghost Value = { ⟦<StockFields as Lawful<L>>⟧.Value };
+
+    ghost model = { λ x. ⟦<StockFields as Lawful<L>>⟧.model (x.by_name, x.counts, x.ranges, x.tags, x.waiting) };
+
+    ghost is_valid = { ⟦<StockFields as Lawful<L>>⟧.is_valid };
+
+    ghost reading = { ⟦<StockFields as Lawful<L>>⟧.reading };
+
+    ghost read_laws = { ⟦<StockFields as Lawful<L>>⟧.read_laws };
+}
+
+impl<L: Lending> RoundTrip<L> for Stock
+where
+    StockFields: RoundTrip<L>,
+{
+    ghost reads_back = { reads_back_by (λ x. (x.by_name, x.counts, x.ranges, x.tags, x.waiting)) bound-5.reads_back };
+}
+
+impl<L: Lending> OneText<L> for Stock
+where
+    StockFields: FieldsOneText<L>,
+{
+    ghost one_text = { bound-5.fields_one_text };
+}
+
+impl<L: Lending> SchemaReadOwned<L> for Stock
+where
+    StockFields: FieldsReadOwned<L>,
+{
+    ghost owned = { bound-5.fields_owned };
+}
+
+type DepotFields = (
+    Vec<Stock>,
+    BTreeMap<Range, Stock>,
+    Option<HashMap<(u8, char), Vec<Stock>>>,
+);
+
+impl SchemaWrite for Depot {
+    type Src = Depot;
+
+    ghost Value = { ⟦<DepotFields as SchemaWrite>⟧.Value };
+
+    ghost model = { λ x. ⟦<DepotFields as SchemaWrite>⟧.model (x.stocks, x.places, x.last) };
+
+    ghost is_valid = { λ x. ⟦<DepotFields as SchemaWrite>⟧.is_valid (x.stocks, x.places, x.last) };
+
+    ghost writing = { ⟦<DepotFields as SchemaWrite>⟧.writing };
+
+    fn type_meta() -> TypeMeta {
+        <DepotFields as SchemaWrite>::type_meta()
+    }
+
+    fn size_of(src: &Depot) -> WriteResult<usize> {
+        size_of_members_3::<
+            Vec<Stock>,
+            BTreeMap<Range, Stock>,
+            Option<HashMap<(u8, char), Vec<Stock>>>,
+        >(&src.stocks, &src.places, &src.last)
+    }
+
+    fn write<W: Writer>(writer: &mut W, src: &Depot) -> WriteResult<()> {
+        write_members_3::<
+            Vec<Stock>,
+            BTreeMap<Range, Stock>,
+            Option<HashMap<(u8, char), Vec<Stock>>>,
+            W,
+        >(writer, &src.stocks, &src.places, &src.last)
+    }
+
+    ghost write_laws = { write_laws_by (λ x. (x.stocks, x.places, x.last)) ⟦<DepotFields as SchemaWrite>⟧.write_laws };
+}
+
+impl<L: Lending> SchemaRead<L> for Depot {
+    type Dst = Depot;
+
+    ghost Value = { ⟦<DepotFields as SchemaRead<L>>⟧.Value };
+
+    ghost model = { λ x. ⟦<DepotFields as SchemaRead<L>>⟧.model (x.stocks, x.places, x.last) };
+
+    ghost is_valid = { ⟦<DepotFields as SchemaRead<L>>⟧.is_valid };
+
+    ghost reading = { ⟦<DepotFields as SchemaRead<L>>⟧.reading };
+
+    fn type_meta() -> TypeMeta {
+        <DepotFields as SchemaRead<L>>::type_meta()
+    }
+
+    fn prealloc_size() -> usize {
+        <DepotFields as SchemaRead<L>>::prealloc_size()
+    }
+
+    fn read<R: Reader<L>>(
+        alloc: Global,
+        reader: &mut R,
+        dst: &mut Option<Depot>,
+    ) -> ReadResult<()> {
+        let (stocks, places, last) = <DepotFields as SchemaGet<L>>::get(alloc, reader)?;
+        *dst = Some(Depot {
+            stocks,
+            places,
+            last,
+        });
+        Ok(())
+    }
+
+    ghost read_laws = { ⟦<DepotFields as Lawful<L>>⟧.read_laws };
+}
+
+impl<L: Lending> Lawful<L> for Depot {
+    type Dst = Depot;
+
+    ghost Value = { ⟦<DepotFields as Lawful<L>>⟧.Value };
+
+    ghost model = { λ x. ⟦<DepotFields as Lawful<L>>⟧.model (x.stocks, x.places, x.last) };
+
+    ghost is_valid = { ⟦<DepotFields as Lawful<L>>⟧.is_valid };
+
+    ghost reading = { ⟦<DepotFields as Lawful<L>>⟧.reading };
+
+    ghost read_laws = { ⟦<DepotFields as Lawful<L>>⟧.read_laws };
+}
+
+impl<L: Lending> RoundTrip<L> for Depot
+where
+    DepotFields: RoundTrip<L>,
+{
+    ghost reads_back = { reads_back_by (λ x. (x.stocks, x.places, x.last)) bound-5.reads_back };
+}
+
+impl<L: Lending> OneText<L> for Depot
+where
+    DepotFields: FieldsOneText<L>,
+{
+    ghost one_text = { bound-5.fields_one_text };
+}
+
+impl<L: Lending> SchemaReadOwned<L> for Depot
+where
+    DepotFields: FieldsReadOwned<L>,
+{
+    ghost owned = { bound-5.fields_owned };
+}

@@ -1,0 +1,305 @@
+//! The law of reading of fields in whose types parameters stand, put together from those of their parts.
+use crate::error::{DeriveResult, unsupported};
+use crate::parsing::{end_of_group, end_of_part, next, text_at, type_text};
+use crate::printing::{Words, fill, owned, put};
+use crate::tokens::{Kind, Token, tokens_of};
+use std::alloc::Global;
+
+/// A part whose own part is being written.
+#[derive(Drop)]
+struct Frame {
+    /// Where its parts end.
+    end: usize,
+    /// Where what stands behind it begins.
+    behind: usize,
+    /// Whether its parts are put together in pairs, and how many are to come.
+    pairs: usize,
+    /// What is written behind its parts.
+    closing: String,
+}
+
+/// The law so far, and what it is made of.
+#[derive(Drop)]
+struct Law {
+    out: String,
+    frames: Vec<Frame>,
+    at: usize,
+}
+
+/// The laws of lists behind a length of choice, by their names.
+const LISTS: [(&str, &str); 4] = [
+    ("Vec", "list_laws"),
+    ("VecDeque", "list_laws"),
+    ("BoxedSlice", "slice_laws"),
+    ("RcSlice", "slice_laws"),
+];
+
+/// The laws of what has one part, or two, by its name.
+const PARTS: [(&str, &str); 7] = [
+    ("Vec", "vec_laws"),
+    ("VecDeque", "vec_laws"),
+    ("LinkedList", "vec_laws"),
+    ("Option", "option_laws"),
+    ("Box", "box_laws"),
+    ("Rc", "box_laws"),
+    ("Result", "result_laws"),
+];
+
+/// What the laws of maps begin with and end in, by their names.
+const MAPS: [(&str, &str, &str); 2] = [
+    (
+        "BTreeMap",
+        "(map_laws @key@.model @value@.model @key@.read_laws ",
+        "
+            @key@.order @key@.order_total @key@.equal @key@.order_ties @key@.alike)",
+    ),
+    (
+        "HashMap",
+        "(hash_map_laws @key@.model @value@.model @key@.read_laws ",
+        "
+            @key@.equal @key@.equivalence @key@.alike)",
+    ),
+];
+
+/// The word of a law, by that of a type.
+fn word_of(table: &[(&'static str, &'static str)], name: &str) -> Option<&'static str> {
+    for (known, word) in table {
+        if *known == name {
+            return Some(*word);
+        }
+    }
+    None
+}
+
+/// Whether one of these names stands in these tokens.
+fn has_name(tokens: &[Token], from: usize, to: usize, names: &[String]) -> bool {
+    tokens.iter().take(to).skip(from).any(|token| names
+        .iter()
+        .any(|name| name.as_str() == token.text.as_str()))
+}
+
+/// How many parts stand there, with commas between them.
+fn count_parts(tokens: &[Token], from: usize, to: usize) -> usize {
+    let mut count = 0usize;
+    let mut at = from;
+    for _ in from..to {
+        if at >= to {
+            break;
+        }
+        count = next(count);
+        at = next(end_of_part(tokens, at, to));
+    }
+    count
+}
+
+impl Law {
+    /// Begins a part whose own parts end there.
+    fn open(
+        &mut self,
+        begin: usize,
+        (end, behind): (usize, usize),
+        closing: String,
+    ) -> DeriveResult<()> {
+        self.frames.push(Frame {
+            end,
+            behind,
+            pairs: 0,
+            closing,
+        })?;
+        self.at = begin;
+        Ok(())
+    }
+
+    /// A tuple, as pairs in pairs.
+    fn open_tuple(&mut self, alloc: Global, tokens: &[Token]) -> DeriveResult<()> {
+        let close = end_of_group(tokens, self.at)?;
+        let pairs = count_parts(tokens, next(self.at), close);
+        self.out.push_str("(windowed_read_laws (pair_read_laws ")?;
+        let begin = next(self.at);
+        self.open(begin, (close, next(close)), owned(alloc, "))")?)?;
+        if let Some(frame) = self.frames.last_mut() {
+            frame.pairs = pairs;
+        }
+        Ok(())
+    }
+
+    /// A list of `containers`, whose length's scheme stands behind its item.
+    fn open_list(
+        &mut self,
+        alloc: Global,
+        tokens: &[Token],
+        word: &str,
+        (begin, close): (usize, usize),
+    ) -> DeriveResult<()> {
+        let end = end_of_part(tokens, begin, close);
+        let scheme = type_text(alloc, tokens, next(end), close)?;
+        let scheme = scheme.as_str();
+        let quoted = format!(in alloc; "⟦<{scheme} as SeqLen>⟧")?;
+        let quoted = quoted.as_str();
+        put(
+            &mut self.out,
+            &["(", word, " ", quoted, ".scheme ", quoted, ".scheme_laws "],
+        )?;
+        self.open(begin, (end, next(close)), owned(alloc, ")")?)
+    }
+
+    /// A map, whose key names no parameter.
+    fn open_map(
+        &mut self,
+        alloc: Global,
+        tokens: &[Token],
+        (before, after): (&str, &str),
+        (begin, close): (usize, usize),
+    ) -> DeriveResult<()> {
+        let end = end_of_part(tokens, begin, close);
+        let key = type_text(alloc, tokens, begin, end)?;
+        let key = key.as_str();
+        let value = type_text(alloc, tokens, next(end), close)?;
+        let value = value.as_str();
+        let mut words = Words::new(alloc);
+        words.set("key", format!(in alloc; "⟦<{key} as LawfulKey<L>>⟧")?)?;
+        words.set("value", format!(in alloc; "⟦<{value} as SchemaRead<L>>⟧")?)?;
+        fill(&mut self.out, before, &words)?;
+        let mut closing = String::new(alloc);
+        fill(&mut closing, after, &words)?;
+        self.open(next(end), (close, next(close)), closing)
+    }
+
+    /// A type with parts of its own, by its name.
+    fn open_named(
+        &mut self,
+        alloc: Global,
+        tokens: &[Token],
+        (names, line): (&[String], usize),
+    ) -> DeriveResult<()> {
+        let unknown = unsupported(
+            line,
+            "a parameter inside of a type that is none of the library's",
+        );
+        let Some(open) = (self.at..tokens.len()).find(|i| text_at(tokens, *i) == "<") else {
+            return Err(unknown);
+        };
+        let close = end_of_group(tokens, open)?;
+        let place = (next(open), close);
+        let name = text_at(tokens, open.saturating_sub(1));
+        let is_container = text_at(tokens, self.at) == "containers";
+        for (map, before, after) in &MAPS {
+            let key = end_of_part(tokens, next(open), close);
+            if *map == name && !is_container && !has_name(tokens, next(open), key, names) {
+                return self.open_map(alloc, tokens, (*before, *after), place);
+            }
+        }
+        let table: &[(&'static str, &'static str)] = if is_container { &LISTS } else { &PARTS };
+        match word_of(table, name) {
+            Some(word) if is_container => self.open_list(alloc, tokens, word, place),
+            Some(word) => {
+                put(&mut self.out, &["(", word, " "])?;
+                self.open(next(open), (close, next(close)), owned(alloc, ")")?)
+            }
+            None => Err(unknown),
+        }
+    }
+
+    /// What stands behind a part: the end of what it is a part of, or the next part.
+    fn step_behind(&mut self, alloc: Global) -> DeriveResult<()> {
+        let Some(mut frame) = self.frames.pop() else {
+            self.at = next(self.at);
+            return Ok(());
+        };
+        if self.at >= frame.end {
+            self.out.push_str(frame.closing.as_str())?;
+            self.at = frame.behind;
+            return Ok(());
+        }
+        self.at = next(self.at);
+        let between = if self.frames.is_empty() {
+            "\n        "
+        } else {
+            " "
+        };
+        self.out.push_str(between)?;
+        frame.pairs = frame.pairs.saturating_sub(1);
+        if frame.pairs >= 2 {
+            self.out.push_str("(pair_read_laws ")?;
+            frame.closing = format!(in alloc; "){0}", frame.closing.as_str())?;
+        }
+        self.frames.push(frame)?;
+        Ok(())
+    }
+
+    /// A part, from its first token.
+    fn step(
+        &mut self,
+        alloc: Global,
+        tokens: &[Token],
+        of: (&[String], usize),
+    ) -> DeriveResult<()> {
+        let limit = match self.frames.last() {
+            Some(frame) => frame.end,
+            None => tokens.len(),
+        };
+        let end = end_of_part(tokens, self.at, limit);
+        if self.at >= end {
+            return self.step_behind(alloc);
+        }
+        if !has_name(tokens, self.at, end, of.0) {
+            let text = type_text(alloc, tokens, self.at, end)?;
+            put(
+                &mut self.out,
+                &["⟦<", text.as_str(), " as Lawful<L>>⟧.read_laws"],
+            )?;
+            self.at = end;
+            return Ok(());
+        }
+        match text_at(tokens, self.at) {
+            parameter if next(self.at) == end => {
+                put(&mut self.out, &[parameter, ".read_laws"])?;
+                self.at = end;
+                Ok(())
+            }
+            "(" => self.open_tuple(alloc, tokens),
+            "[" => Err(unsupported(of.1, "an array of a type parameter")),
+            _ => self.open_named(alloc, tokens, of),
+        }
+    }
+}
+
+/// The law of reading of a schema in which these parameters stand, as a term.
+pub fn law_of(
+    alloc: Global,
+    schema: &str,
+    parameters: &[String],
+    line: usize,
+) -> DeriveResult<String> {
+    let tokens = tokens_of(alloc, schema)?;
+    let mut law = Law {
+        out: String::new(alloc),
+        frames: Vec::new(alloc),
+        at: 0,
+    };
+    for _ in 0..tokens.len().saturating_mul(2).saturating_add(2) {
+        if law.at >= tokens.len() && law.frames.is_empty() {
+            break;
+        }
+        law.step(alloc, tokens.as_slice(), (parameters, line))?;
+    }
+    Ok(law.out)
+}
+
+/// A type with what each parameter has as this in its place, as `A::Src` for `A`.
+pub fn seen_by(
+    alloc: Global,
+    text: &str,
+    parameters: &[String],
+    member: &str,
+) -> DeriveResult<String> {
+    let mut tokens = tokens_of(alloc, text)?;
+    for token in tokens.iter_mut() {
+        let name = token.text.as_str();
+        if token.kind == Kind::Word && parameters.iter().any(|known| known.as_str() == name) {
+            token.text = format!(in alloc; "{name}::{member}")?;
+        }
+    }
+    let count = tokens.len();
+    type_text(alloc, tokens.as_slice(), 0, count)
+}
