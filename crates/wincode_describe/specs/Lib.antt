@@ -1,0 +1,5 @@
+pub mod Parts
+pub mod ShownGrammars
+pub mod Types
+pub mod ShownLaws
+pub mod TypeLaws

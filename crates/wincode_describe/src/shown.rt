@@ -1,0 +1,23 @@
+//! What is shown of a value: its parts, in the order in which they stand.
+use crate::described::LengthScheme;
+
+/// A part of a value.
+#[derive(Debug, Drop)]
+pub enum Shown {
+    /// An unsigned number of `size` bytes.
+    Natural { size: usize, value: u128 },
+    /// A signed number of `size` bytes.
+    Signed { size: usize, value: i128 },
+    Flag(bool),
+    Character(char),
+    /// The text behind its length.
+    Text(String),
+    /// The bytes behind their length, or of an array.
+    Bytes(Vec<u8>),
+    /// How many bytes or items stand behind it.
+    Length { scheme: LengthScheme, count: usize },
+    /// A tag of `size` bytes.
+    Tag { size: usize, tag: usize },
+    /// A value without bytes.
+    Nothing,
+}
