@@ -79,7 +79,7 @@ pub enum Described {
 #[derive(Debug, Drop)]
 pub enum Cases {
     /// The last case: its tag, and what stands behind it.
-    Last(u64, Box<Described>),
+    Last(usize, Box<Described>),
     /// A case, and the others.
-    Case(u64, Box<Described>, Box<Cases>),
+    Case(usize, Box<Described>, Box<Cases>),
 }

@@ -2,5 +2,9 @@
 #![tactic(auto)]
 
 pub mod described;
+mod leaves;
+pub mod reading;
 pub mod shown;
 mod sizes;
+
+pub use sizes::{prealloc_size, type_meta};
