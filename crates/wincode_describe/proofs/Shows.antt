@@ -1,13 +1,14 @@
 -- What reads answer that show their value, made of what they answer in parts.
-use Rattle.std.proofs.Common.{◌≡◌, ◌∙◌, sym, ap, subst, ℕ, ◌≤◌, Bool, true, false, List, [], ◌∷◌, ◌++◌, map, length, refl, arith, append_assoc, append-nil, Ok, Err, Some, None, inl, inr, lit≤, Bor}
-use Rattle.std.specs.Prelude.{Result}
+use Rattle.std.proofs.Common.{◌≡◌, ◌∙◌, sym, ap, subst, ℕ, ◌≤◌, Bool, true, false, List, [], ◌∷◌, ◌++◌, map, length, refl, arith, append_assoc, append-nil, Ok, Err, Some, None, inl, inr, lit≤, Bor, nat_eq}
+use Rattle.std.specs.Prelude.{Result, OnOk, IfErr, IsTrue}
+use Rattle.std.proofs.lemmas.Bool.{eqb-true}
 use Rattle.std.proofs.lemmas.List.{map-append}
 use Rattle.wincode_io.specs.Joins.{AreItems}
-use Rattle.wincode_io.specs.PlaceLaws.{still}
+use Rattle.wincode_io.specs.PlaceLaws.{still, known_kept}
 use Rattle.wincode_io.specs.Readers.{ReaderState, Windowed}
 use Rattle.wincode_base.specs.ArrayLaws.{array_read_laws}
 use Rattle.wincode_base.specs.Arrays.{array_read, times_meta}
-use Rattle.wincode_base.specs.FixedSizeLaws.{window_denied_refuses}
+use Rattle.wincode_base.specs.FixedSizeLaws.{window_denied_refuses, takes_joins}
 use Rattle.wincode_base.specs.Grammar.{ReadGrammar, ReadLaws, IsReadStatic}
 use Rattle.wincode_base.specs.InWindow.{windowed_read}
 use Rattle.wincode_base.specs.ItemSizes.{item_size, run_size, IsReadItemSize}
@@ -18,8 +19,8 @@ use Rattle.wincode_base.specs.Lists.{list_read, run_read}
 use Rattle.wincode_base.specs.ListLaws.{then_list, list_second, list_first, no_memory}
 use Rattle.wincode_base.specs.Outcomes.{Gives, ReadRefused, SchemaReadRefused, NoWindow, PieceReadRefused, past_usize}
 use Rattle.wincode_base.specs.Sequences.{Then, gives_map, refuses_map, refuses_unspared, then_gives, then_first, then_second}
-use Rattle.wincode_base.specs.TagLaws.{tag_refused, result_small}
-use Rattle.wincode_base.specs.Tags.{TagReadRefused, option_read, result_read, result_tag, sides_read}
+use Rattle.wincode_base.specs.TagLaws.{tag_refused, result_small, option_small}
+use Rattle.wincode_base.specs.Tags.{TagReadRefused, option_read, option_tag, option_part_read, result_read, result_tag, sides_read}
 use Rattle.wincode_base.specs.declared.error.ReadError.{ReadError}
 use Rattle.wincode_base.specs.declared.error.ReadError.TheVariants as reading
 use Rattle.wincode_base.specs.declared.meta.TypeMeta.{TypeMeta}
@@ -29,10 +30,11 @@ use Rattle.wincode_base.proofs.InWindow.{sized_of, window_gives, window_refuses,
 use Rattle.wincode_base.proofs.ReadAnswers.{IsPassed}
 use Rattle.wincode_base.proofs.Runs.{known_size, run_each, run_encoding, run_placed, run_long, too_long}
 use Rattle.wincode_base.proofs.Tags.{some_gives, some_refused, option_bad, ok_gives, err_gives, ok_refused, err_refused, result_bad}
-use Rattle.wincode_describe.specs.Parts.{Part, Length, Tag, seen}
-use Rattle.wincode_describe.specs.ShownGrammars.{shown_read, joined, ShowOutcome, IsChosen, CaseGrammars, chosen_read, nameless_read}
+use Rattle.wincode_describe.specs.Parts.{Part, Length, Tag, seen, part_bytes, parts_bytes}
+use Rattle.wincode_describe.specs.ShownGrammars.{shown_read, joined, ShowOutcome, Began, IsChosen, CaseGrammars, chosen_read, nameless_read, read_if}
 use Rattle.wincode_describe.specs.ShownLaws.{any, shown_laws}
 use Rattle.wincode_describe.specs.TypeLaws.{scheme_laws}
+use Rattle.wincode_describe.specs.TypeBytes.{HasBytes, parts_append, scheme_bytes}
 use Rattle.wincode_describe.specs.Types.{scheme_of, list_shown, list_of, option_shown, result_shown}
 use Rattle.wincode_describe.specs.declared.described.LengthScheme.{LengthScheme}
 use Rattle.wincode_describe.specs.declared.shown.Shown.{Shown}
@@ -61,37 +63,111 @@ module _ {V : Type 0} (show : V → List Part) (g : ReadGrammar V) where
   pub shown_memory : {U : Type 0} (R : List ℕ → U → Type 0) (old new : ReaderState) (u : U) → Gives R old new u → SchemaReadRefused (shown_read show g) old new reading.OutOfMemory
   shown_memory R old new u r = (no_memory R (shown_read show g).reads g.borrow old new u r, inr refl)
 
+-- ---- parts that were shown before a refusal
+
+pub began_none : (old : ReaderState) (before : List Shown) → Began old before before
+began_none old before = record { more = []; is = sym (append-nil before); front = λ t. (old.rest, refl) }
+
+-- parts of what reading gave
+pub began_gave : {U : Type 0} (R : List ℕ → U → Type 0) (old mid : ReaderState) (u : U) (before after more : List Shown) → after ≡ before ++ more → ((b : List ℕ) → R b u → b ≡ parts_bytes (map seen more)) → Gives R old mid u → Began old before after
+began_gave R old mid u before after more is by r = record { more = more; is = is; front = λ t. let f = r.found t in (mid.rest, f.joins ∙ ap (λ x. x ++ mid.rest) (by f.encoding f.is_read)) }
+
+-- a reader has what stands behind the bytes of some parts, or a front of it
+abbrev pub Behind : ReaderState → ReaderState → List Shown → Type 0
+Behind start mid added = IsTrue start.is_known → IsTrue mid.is_known × ((tail : List ℕ) × (start.rest ≡ parts_bytes (map seen added) ++ (mid.rest ++ tail)))
+
+pub behind_here : (s : ReaderState) → Behind s s []
+behind_here s = λ t. (t, ([], sym (append-nil s.rest)))
+
+pub behind_window : (n : ℕ) (old new window : ReaderState) → Windowed n old new window → Behind old window []
+behind_window n old new window w = λ t. (w.is_known, (new.rest, takes_joins w.takes t))
+
+pub behind_gave : {U : Type 0} (R : List ℕ → U → Type 0) (start mid : ReaderState) (u : U) (added : List Shown) → ((b : List ℕ) → R b u → b ≡ parts_bytes (map seen added)) → Gives R start mid u → Behind start mid added
+behind_gave R start mid u added by r = λ t. let f = r.found t in
+    (known_kept r.kept t, ([], f.joins ∙ ap (λ x. x ++ mid.rest) (by f.encoding f.is_read) ∙ ap (λ x. parts_bytes (map seen added) ++ x) (sym (append-nil mid.rest))))
+
+-- the bytes of a tag and of a length
+pub tag_joined : (k t : ℕ) (b : List ℕ) → (number_read k true).reads b t → b ≡ parts_bytes (Tag k t ∷ [])
+tag_joined k t b r = r.1 ∙ sym (append-nil _)
+
+pub length_joined : (s : LengthScheme) (p n : ℕ) (b : List ℕ) → IsLength (scheme_of s) p b n → b ≡ parts_bytes (Length s n ∷ [])
+length_joined s p n b r = scheme_bytes s n b r.1 ∙ sym (append-nil _)
+
+added_bytes : (added more : List Shown) → parts_bytes (map seen (added ++ more)) ≡ parts_bytes (map seen added) ++ parts_bytes (map seen more)
+added_bytes added more = ap parts_bytes (map-append seen added more) ∙ parts_append (map seen added) (map seen more)
+
+pub began_behind : (start mid : ReaderState) (before so after added : List Shown) → so ≡ before ++ added → Behind start mid added → Began mid so after → Began start before after
+began_behind start mid before so after added is behind k = record {
+  more = added ++ k.more;
+  is = k.is ∙ ap (λ t. t ++ k.more) is ∙ append_assoc before added k.more;
+  front = λ t.
+      let p = behind t in
+      let q = k.front p.0 in
+      let A = parts_bytes (map seen added) in
+      let B = parts_bytes (map seen k.more) in (
+        q.0 ++ p.1.0,
+        p.1.1 ∙ ap (λ x. A ++ (x ++ p.1.0)) q.1 ∙ ap (λ x. A ++ x) (append_assoc B q.0 p.1.0) ∙ sym (append_assoc A B (q.0 ++ p.1.0)) ∙ ap (λ x. x ++ (q.0 ++ p.1.0)) (sym (added_bytes added k.more)),
+      );
+}
+
 -- ---- answers
 
 module _ {A : Type 0} (g : ReadGrammar (List Part)) {old new : ReaderState} (before after : List Shown) where
   -- an error that a `?` passes on
-  pub show_refused : (r : Result A ReadError) (e : ReadError) → IsPassed r e → SchemaReadRefused g old new e → (more : List Shown) × (after ≡ before ++ more) → ShowOutcome g old new before after r
+  pub show_refused : (r : Result A ReadError) (e : ReadError) → IsPassed r e → SchemaReadRefused g old new e → Began old before after → ShowOutcome g old new before after r
   show_refused (Ok x) e h d k = absurd h.1
-  show_refused (Err x) e h d k = let P : ReadError → Type 0 = SchemaReadRefused g old new in record { ok = tt; refused = subst P (sym h.1) d; kept = k }
+  show_refused (Err x) e h d k = let P : ReadError → Type 0 = SchemaReadRefused g old new in record { ok = tt; refused = subst P (sym h.1) d; began = k }
 
 -- what one call answers, behind what was shown before it, another does
-pub show_map : {A : Type 0} (g G : ReadGrammar (List Part)) {start mid inner new : ReaderState} (before so after added : List Shown) (r : Result A ReadError) → so ≡ before ++ added
+pub show_map : {A : Type 0} (g G : ReadGrammar (List Part)) {start mid inner new : ReaderState} (before so after added : List Shown) (r : Result A ReadError) → so ≡ before ++ added → Behind start mid added
     → ((w : List Part) → Gives g.reads mid inner w → Gives G.reads start new (map seen added ++ w))
     → ((e : ReadError) → SchemaReadRefused g mid inner e → SchemaReadRefused G start new e)
     → ShowOutcome g mid inner so after r → ShowOutcome G start new before after r
-show_map g G {start} {mid} {inner} {new} before so after added (Ok x) is given refused o =
+show_map g G {start} {mid} {inner} {new} before so after added (Ok x) is behind given refused o =
     let s = o.ok in
-    let all : after ≡ before ++ (added ++ s.more) = s.is ∙ ap (λ t. t ++ s.more) is ∙ append_assoc before added s.more in
     record {
-      ok = record { more = added ++ s.more; is = all; gives = subst (Gives G.reads start new) (sym (map-append seen added s.more)) (given (map seen s.more) s.gives) };
+      ok = record {
+        more = added ++ s.more;
+        is = s.is ∙ ap (λ t. t ++ s.more) is ∙ append_assoc before added s.more;
+        gives = subst (Gives G.reads start new) (sym (map-append seen added s.more)) (given (map seen s.more) s.gives);
+      };
       refused = tt;
-      kept = (added ++ s.more, all);
+      began = tt;
     }
-show_map g G before so after added (Err e) is given refused o =
-    let k = o.kept in
-    record { ok = tt; refused = refused e o.refused; kept = (added ++ k.0, k.1 ∙ ap (λ t. t ++ k.0) is ∙ append_assoc before added k.0) }
+show_map g G {start} {mid} before so after added (Err e) is behind given refused o = record { ok = tt; refused = refused e o.refused; began = began_behind start mid before so after added is behind o.began }
 
 -- so, where nothing was shown before it
-pub show_as : {A : Type 0} (g G : ReadGrammar (List Part)) {start mid inner new : ReaderState} (before after : List Shown) (r : Result A ReadError)
+pub show_as : {A : Type 0} (g G : ReadGrammar (List Part)) {start mid inner new : ReaderState} (before after : List Shown) (r : Result A ReadError) → Behind start mid []
     → ((w : List Part) → Gives g.reads mid inner w → Gives G.reads start new w)
     → ((e : ReadError) → SchemaReadRefused g mid inner e → SchemaReadRefused G start new e)
     → ShowOutcome g mid inner before after r → ShowOutcome G start new before after r
-show_as g G before after r given refused o = show_map g G before before after [] r (sym (append-nil before)) given refused o
+show_as g G before after r behind given refused o = show_map g G before before after [] r (sym (append-nil before)) behind given refused o
+
+-- a last part is added, behind others
+pub show_last : {A : Type 0} (G : ReadGrammar (List Part)) {start new : ReaderState} (before so after added : List Shown) (p : Shown) (r : Result A ReadError) → so ≡ before ++ added
+    → Gives G.reads start new (map seen (added ++ (p ∷ []))) → SchemaReadRefused G start new reading.OutOfMemory → Began start before so
+    → OnOk r (after ≡ so ++ (p ∷ [])) → IfErr r (λ e. (e ≡ reading.OutOfMemory) × (after ≡ so)) → ShowOutcome G start new before after r
+show_last G before so after added p (Ok x) is gives memory began ok err = record { ok = record { more = added ++ (p ∷ []); is = ok ∙ ap (λ t. t ++ (p ∷ [])) is ∙ append_assoc before added (p ∷ []); gives = gives }; refused = tt; began = tt }
+show_last G {start} {new} before so after added p (Err e) is gives memory began ok err =
+    let P : ReadError → Type 0 = SchemaReadRefused G start new in
+    record { ok = tt; refused = subst P (sym err.0) memory; began = subst (Began start before) (sym err.1) began }
+
+-- the first of two parts
+pub began_first : (reads : List ℕ → List Part → Type 0) → HasBytes reads → (start new : ReaderState) (before so : List Shown) (p : Shown) (q : Part) → so ≡ before ++ (p ∷ []) → Gives reads start new (seen p ∷ q ∷ []) → Began start before so
+began_first reads bytes start new before so p q is r = record {
+  more = p ∷ [];
+  is = is;
+  front = λ t.
+      let f = r.found t in
+      let B = parts_bytes (q ∷ []) in
+      (B ++ new.rest, f.joins ∙ ap (λ x. x ++ new.rest) (bytes f.encoding (seen p ∷ q ∷ []) f.is_read) ∙ append_assoc (part_bytes (seen p)) B new.rest ∙ ap (λ x. x ++ (B ++ new.rest)) (sym (append-nil (part_bytes (seen p)))));
+}
+
+-- one part alone, which a schema read
+pub show_one : {A V : Type 0} (show : V → List Part) (g : ReadGrammar V) {start new : ReaderState} (before after : List Shown) (v : V) (p : Shown) (r : Result A ReadError) → show v ≡ seen p ∷ [] → Gives g.reads start new v
+    → OnOk r (after ≡ before ++ (p ∷ [])) → IfErr r (λ e. (e ≡ reading.OutOfMemory) × (after ≡ before)) → ShowOutcome (shown_read show g) start new before after r
+show_one show g {start} {new} before after v p r is gives ok err =
+    show_last (shown_read show g) before before after [] p r (sym (append-nil before)) (subst (Gives (shown_read show g).reads start new) is (shown_gives show g start new v gives)) (shown_memory show g g.reads start new v gives) (began_none start before) ok err
 
 -- ---- items
 
@@ -224,6 +300,10 @@ module _ (g : ReadGrammar (List Part)) where
       let P : ℕ → Type 0 = λ n. Gives (number_read 1 true).reads old mid n in
       shown_refused option_shown (option_read 1 g) old new e (some_refused 1 (lit≤ tt) g old mid new t e is r x.0, inr (mid, subst P is r, x))
 
+  pub option_first : (old new : ReaderState) (e : ReadError) → SchemaReadRefused (number_read 1 true) old new e → SchemaReadRefused (shown_read option_shown (option_read 1 g)) old new e
+  option_first old new e r = shown_refused option_shown (option_read 1 g) old new e
+      (tag_refused 1 option_tag (option_small 1 (lit≤ tt)) (option_part_read g) old new e r.0, inl (tag_place 1 (λ t. 2 ≤ t) old new e r.1))
+
   pub option_nameless : (old new : ReaderState) (t : ℕ) → 2 ≤ t → Gives (number_read 1 true).reads old new t → SchemaReadRefused (shown_read option_shown (option_read 1 g)) old new (reading.InvalidTagEncoding t)
   option_nameless old new t two r = shown_refused option_shown (option_read 1 g) old new (reading.InvalidTagEncoding t) (option_bad 1 (lit≤ tt) g old new t t two r, inl (two, r))
 
@@ -287,3 +367,9 @@ nameless_refused s t = (
   },
   (refl, refl),
 )
+
+-- the tag is not that of the last case
+pub case_nameless : (n t : ℕ) → (n ≡ t → ⊥) → (g : ReadGrammar (List Part)) (s : ReaderState) → SchemaReadRefused (read_if (nat_eq n t) g (nameless_read t)) s s (reading.InvalidTagEncoding t)
+case_nameless n t apart g s =
+    elim (nat_eq n t) as (λ b. (b ≡ true → n ≡ t) → SchemaReadRefused (read_if b g (nameless_read t)) s s (reading.InvalidTagEncoding t))
+    [ true ↦ (λ e. absurd (apart (e refl))) | false ↦ (λ e. nameless_refused s t) ] (eqb-true n t)

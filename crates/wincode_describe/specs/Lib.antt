@@ -3,3 +3,4 @@ pub mod ShownGrammars
 pub mod Types
 pub mod ShownLaws
 pub mod TypeLaws
+pub mod TypeBytes

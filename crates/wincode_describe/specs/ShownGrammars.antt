@@ -1,5 +1,5 @@
 -- Grammars whose values are shown in parts.
-use Rattle.std.specs.Prelude.{◌≡◌, ◌⊎◌, ℕ, Bool, true, false, List, [], ◌∷◌, ◌++◌, OnOk, IfErr, Result, map, max, nat_eq}
+use Rattle.std.specs.Prelude.{◌≡◌, ◌⊎◌, ℕ, Bool, true, false, List, [], ◌∷◌, ◌++◌, OnOk, OnErr, IfErr, IsTrue, Result, map, max, nat_eq}
 use Rattle.wincode_io.specs.Readers.{ReaderState, nothing}
 use Rattle.wincode_base.specs.Grammar.{ReadGrammar, ReadRefusal}
 use Rattle.wincode_base.specs.Leaves.{number_read}
@@ -11,7 +11,7 @@ use Rattle.wincode_base.specs.declared.error.ReadError.{ReadError}
 use Rattle.wincode_base.specs.declared.error.ReadError.TheVariants as reading
 use Rattle.wincode_base.specs.declared.meta.TypeMeta.{TypeMeta}
 use Rattle.wincode_base.specs.declared.meta.TypeMeta.TheVariants.{Static}
-use Rattle.wincode_describe.specs.Parts.{Part, Tag, seen}
+use Rattle.wincode_describe.specs.Parts.{Part, Tag, seen, parts_bytes}
 use Rattle.wincode_describe.specs.declared.shown.Shown.{Shown}
 
 -- it is refused so, or memory for what is shown is
@@ -90,9 +90,15 @@ pub record Shows (reads : List ℕ → List Part → Type 0) (old new : ReaderSt
   pub is : after ≡ before ++ more
   pub gives : Gives reads old new (map seen more)
 
+-- some parts were shown, behind what was shown before, whose bytes are a front of what the reader had
+pub record Began (old : ReaderState) (before after : List Shown) : Type 0 where
+  pub more : List Shown
+  pub is : after ≡ before ++ more
+  pub front : IsTrue old.is_known → (rest : List ℕ) × (old.rest ≡ parts_bytes (map seen more) ++ rest)
+
 -- What a read answers that shows its value: it is shown, behind what was shown before; or it was refused, as the grammar
--- says, and what was shown of it stays.
+-- says, and the parts that were read before stay.
 pub record ShowOutcome {A : Type 0} (g : ReadGrammar (List Part)) (old new : ReaderState) (before after : List Shown) (r : Result A ReadError) : Type 0 where
   pub ok : OnOk r (Shows g.reads old new before after)
   pub refused : IfErr r (SchemaReadRefused g old new)
-  pub kept : (more : List Shown) × (after ≡ before ++ more)
+  pub began : OnErr r (Began old before after)

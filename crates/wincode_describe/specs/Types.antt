@@ -26,25 +26,25 @@ use Rattle.wincode_describe.specs.declared.described.Cases.{Cases}
 use Rattle.wincode_describe.specs.declared.described.Cases.TheVariants.{Last', Case'}
 
 -- an integer is one part
-abbrev pub natural_shown : ℕ → ℕ → List Part
-natural_shown size n = Natural size n ∷ []
+abbrev pub natural_shown : Integer → ℕ → List Part
+natural_shown i n = Natural i n ∷ []
 
-abbrev pub signed_shown : ℕ → ℤ → List Part
-signed_shown size z = Signed size z ∷ []
+abbrev pub signed_shown : Integer → ℤ → List Part
+signed_shown i z = Signed i z ∷ []
 
 abbrev pub integer_read : Integer → ReadGrammar (List Part)
-integer_read U8 = shown_read (natural_shown 1) (number_read 1 true)
-integer_read U16 = shown_read (natural_shown 2) (number_read 2 true)
-integer_read U32 = shown_read (natural_shown 4) (number_read 4 true)
-integer_read U64 = shown_read (natural_shown 8) (number_read 8 true)
-integer_read U128 = shown_read (natural_shown 16) (number_read 16 true)
-integer_read Usize = shown_read (natural_shown 8) (number_read 8 false)
-integer_read I8 = shown_read (signed_shown 1) (signed_read w8 true)
-integer_read I16 = shown_read (signed_shown 2) (signed_read w16 true)
-integer_read I32 = shown_read (signed_shown 4) (signed_read w32 true)
-integer_read I64 = shown_read (signed_shown 8) (signed_read w64 true)
-integer_read I128 = shown_read (signed_shown 16) (signed_read w128 true)
-integer_read Isize = shown_read (signed_shown 8) (signed_read w64 false)
+integer_read U8 = shown_read (natural_shown U8) (number_read 1 true)
+integer_read U16 = shown_read (natural_shown U16) (number_read 2 true)
+integer_read U32 = shown_read (natural_shown U32) (number_read 4 true)
+integer_read U64 = shown_read (natural_shown U64) (number_read 8 true)
+integer_read U128 = shown_read (natural_shown U128) (number_read 16 true)
+integer_read Usize = shown_read (natural_shown Usize) (number_read 8 false)
+integer_read I8 = shown_read (signed_shown I8) (signed_read w8 true)
+integer_read I16 = shown_read (signed_shown I16) (signed_read w16 true)
+integer_read I32 = shown_read (signed_shown I32) (signed_read w32 true)
+integer_read I64 = shown_read (signed_shown I64) (signed_read w64 true)
+integer_read I128 = shown_read (signed_shown I128) (signed_read w128 true)
+integer_read Isize = shown_read (signed_shown Isize) (signed_read w64 false)
 
 abbrev pub scheme_of : LengthScheme → Scheme
 scheme_of Eight = bincode preallocation_limit

@@ -1,5 +1,7 @@
 //! Reading a value of a described type, shown in parts.
-ghost use Rattle.std.specs.Prelude.{◌≡◌};
+ghost use Rattle.std.specs.Prelude.{◌≡◌, map};
+ghost use Rattle.wincode_base.specs.Outcomes.{GetOutcome};
+ghost use Rattle.wincode_describe.specs.Parts.{seen};
 ghost use Rattle.wincode_io.specs.Windows.{window_state};
 ghost use Rattle.wincode_base.specs.Arrays.{array_read};
 ghost use Rattle.wincode_base.specs.InWindow.{windowed_read};
@@ -10,7 +12,10 @@ ghost use Rattle.wincode_describe.specs.Types.{described_read, cases_read, list_
 ghost use Rattle.wincode_base.specs.Tags.{option_read};
 
 use crate::described::{Cases, Described, LengthScheme, TagSize};
-use crate::leaves::{add, read_case_tag, read_length, show_leaf};
+use crate::leaves::{
+    add, read_case_tag, read_length, show_byte_array, show_bytes, show_character, show_flag,
+    show_integer, show_nothing, show_text,
+};
 use crate::shown::Shown;
 use crate::sizes::{prealloc_size, tag_bytes, type_meta};
 use std::alloc::Global;
@@ -31,6 +36,13 @@ pub fn show_parts<L: Lending>(
     ensures { ShowOutcome (described_read described.now) (window_state reader.old) (window_state reader.new) shown.old.items shown.new.items result }
 {
     match described {
+        Described::Integer(integer) => show_integer::<L>(alloc, *integer, reader, shown),
+        Described::Bool => show_flag::<L>(alloc, reader, shown),
+        Described::Char => show_character::<L>(alloc, reader, shown),
+        Described::Unit => show_nothing::<L>(alloc, reader, shown),
+        Described::Text => show_text::<L>(alloc, reader, shown),
+        Described::ByteList(scheme) => show_bytes::<L>(alloc, *scheme, reader, shown),
+        Described::ByteArray(n) => show_byte_array::<L>(alloc, *n, reader, shown),
         Described::Option(content) => show_option::<L>(alloc, content, reader, shown),
         Described::Result(one, other) => {
             let side = read_tag::<u32, L, ReadWindow<L>>(reader)?;
@@ -56,7 +68,6 @@ pub fn show_parts<L: Lending>(
         }
         Described::Field(_, content) => show_parts::<L>(alloc, content, reader, shown),
         Described::Enum(size, cases) => show_enum::<L>(alloc, *size, cases, reader, shown),
-        _ => show_leaf::<L>(described, reader, shown),
     }
 }
 
@@ -224,4 +235,19 @@ fn show_case<L: Lending>(
             }
         }
     }
+}
+
+/// Reads a value of the type from the front of what the window has, and gives its parts, in order; the window has exactly
+/// the rest. It is refused as the type's schema refuses it, and leaves the window where the schema leaves it; memory for
+/// the parts may be refused too, as `OutOfMemory`.
+pub fn read_described<L: Lending>(
+    alloc: Global,
+    described: &Described,
+    reader: &mut ReadWindow<L>,
+) -> ReadResult<Vec<Shown>>
+    ensures { GetOutcome (described_read described.now) (λ shown. map seen shown.items) (window_state reader.old) (window_state reader.new) result }
+{
+    let mut shown = Vec::new(alloc);
+    show_parts::<L>(alloc, described, reader, &mut shown)?;
+    Ok(shown)
 }

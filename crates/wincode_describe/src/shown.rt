@@ -1,13 +1,13 @@
 //! What is shown of a value: its parts, in the order in which they stand.
-use crate::described::LengthScheme;
+use crate::described::{Integer, LengthScheme};
 
 /// A part of a value.
 #[derive(Debug, Drop)]
 pub enum Shown {
-    /// An unsigned number of `size` bytes.
-    Natural { size: usize, value: u128 },
-    /// A signed number of `size` bytes.
-    Signed { size: usize, value: i128 },
+    /// An unsigned number.
+    Natural { integer: Integer, value: u128 },
+    /// A signed number.
+    Signed { integer: Integer, value: i128 },
     Flag(bool),
     Character(char),
     /// The text behind its length.
