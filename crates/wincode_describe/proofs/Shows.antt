@@ -5,7 +5,7 @@ use Rattle.std.proofs.lemmas.Bool.{eqb-true}
 use Rattle.std.proofs.lemmas.List.{map-append}
 use Rattle.wincode_io.specs.Joins.{AreItems}
 use Rattle.wincode_io.specs.PlaceLaws.{still, known_kept}
-use Rattle.wincode_io.specs.Readers.{ReaderState, Windowed}
+use Rattle.wincode_io.specs.Readers.{ReaderState, Windowed, memory, nothing}
 use Rattle.wincode_base.specs.ArrayLaws.{array_read_laws}
 use Rattle.wincode_base.specs.Arrays.{array_read, times_meta}
 use Rattle.wincode_base.specs.FixedSizeLaws.{window_denied_refuses, takes_joins}
@@ -31,11 +31,13 @@ use Rattle.wincode_base.proofs.ReadAnswers.{IsPassed}
 use Rattle.wincode_base.proofs.Runs.{known_size, run_each, run_encoding, run_placed, run_long, too_long}
 use Rattle.wincode_base.proofs.Tags.{some_gives, some_refused, option_bad, ok_gives, err_gives, ok_refused, err_refused, result_bad}
 use Rattle.wincode_describe.specs.Parts.{Part, Length, Tag, seen, part_bytes, parts_bytes}
+use Rattle.wincode_describe.specs.Explained.{Explains}
 use Rattle.wincode_describe.specs.ShownGrammars.{shown_read, joined, ShowOutcome, Began, IsChosen, CaseGrammars, chosen_read, nameless_read, read_if}
 use Rattle.wincode_describe.specs.ShownLaws.{any, shown_laws}
 use Rattle.wincode_describe.specs.TypeLaws.{scheme_laws}
-use Rattle.wincode_describe.specs.TypeBytes.{HasBytes, parts_append, scheme_bytes}
-use Rattle.wincode_describe.specs.Types.{scheme_of, list_shown, list_of, option_shown, result_shown}
+use Rattle.wincode_describe.specs.TypeBytes.{HasBytes, parts_append, scheme_bytes, described_bytes}
+use Rattle.wincode_describe.specs.Types.{scheme_of, list_shown, list_of, option_shown, result_shown, described_read}
+use Rattle.wincode_describe.specs.declared.described.Described.{Described}
 use Rattle.wincode_describe.specs.declared.described.LengthScheme.{LengthScheme}
 use Rattle.wincode_describe.specs.declared.shown.Shown.{Shown}
 
@@ -373,3 +375,14 @@ pub case_nameless : (n t : ℕ) → (n ≡ t → ⊥) → (g : ReadGrammar (List
 case_nameless n t apart g s =
     elim (nat_eq n t) as (λ b. (b ≡ true → n ≡ t) → SchemaReadRefused (read_if b g (nameless_read t)) s s (reading.InvalidTagEncoding t))
     [ true ↦ (λ e. absurd (apart (e refl))) | false ↦ (λ e. nameless_refused s t) ] (eqb-true n t)
+
+-- ---- bytes that are explained
+
+pub explains_read : (d : Described) (bytes : List ℕ) (w : List Part) (new : ReaderState) → Gives (described_read d).reads (memory nothing bytes) new w → Explains d bytes w None
+explains_read d bytes w new r = let f = r.found refl in ((new.rest, f.joins ∙ ap (λ x. x ++ new.rest) (described_bytes d f.encoding w f.is_read)), (new.rest, f))
+
+pub explains_refused : (d : Described) (bytes : List ℕ) (new : ReaderState) (before after : List Shown) (e : ReadError) → before ≡ [] → Began (memory nothing bytes) before after → SchemaReadRefused (described_read d) (memory nothing bytes) new e → Explains d bytes (map seen after) (Some e)
+explains_refused d bytes new before after e none k x =
+    let f = k.front refl in
+    let whole : after ≡ k.more = k.is ∙ ap (λ t. t ++ k.more) none in
+    ((f.0, f.1 ∙ ap (λ t. parts_bytes (map seen t) ++ f.0) (sym whole)), (new, x))

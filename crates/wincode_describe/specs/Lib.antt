@@ -4,3 +4,5 @@ pub mod Types
 pub mod ShownLaws
 pub mod TypeLaws
 pub mod TypeBytes
+pub mod Explained
+pub mod Spans
