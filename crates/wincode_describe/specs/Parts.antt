@@ -1,0 +1,74 @@
+-- What is shown of a value: its parts, in order.
+use Rattle.std.specs.Prelude.{ℕ, ℤ, Bool, List, [], ◌∷◌, ◌++◌, string_bytes, encode_utf8}
+use Rattle.std.specs.Int.{Width, byte_len, cast_unsigned, w8, w16, w32, w64, w128}
+use Rattle.wincode_io.specs.Numbers.{le}
+use Rattle.wincode_io.specs.ShortNumbers.{short_encoding}
+use Rattle.wincode_base.specs.Leaves.{bool_byte}
+use Rattle.wincode_describe.specs.declared.described.Integer.{Integer}
+use Rattle.wincode_describe.specs.declared.described.Integer.TheVariants.{U8, U16, U32, U64, U128, Usize, I8, I16, I32, I64, I128, Isize}
+use Rattle.wincode_describe.specs.declared.described.LengthScheme.{LengthScheme}
+use Rattle.wincode_describe.specs.declared.described.LengthScheme.TheVariants.{Eight, Short}
+use Rattle.wincode_describe.specs.declared.shown.Shown.{Shown}
+use Rattle.wincode_describe.specs.declared.shown.Shown.TheVariants as shown
+
+-- A part of a value: a number, a flag, a character, a text or bytes without their length, a length, a tag of so many bytes,
+-- or a value without bytes.
+pub data Part : Type 0 where
+  Natural : (integer : Integer) (n : ℕ) → Part
+  Signed : (integer : Integer) (z : ℤ) → Part
+  Flag : (b : Bool) → Part
+  Character : (c : ℕ) → Part
+  Text : (bytes : List ℕ) → Part
+  Bytes : (bytes : List ℕ) → Part
+  Length : (scheme : LengthScheme) (count : ℕ) → Part
+  Tag : (size tag : ℕ) → Part
+  Nothing : Part
+
+-- what contracts see of a part
+abbrev pub seen : Shown → Part
+seen (shown.Natural i n) = Natural i n
+seen (shown.Signed i z) = Signed i z
+seen (shown.Flag b) = Flag b
+seen (shown.Character c) = Character c
+seen (shown.Text s) = Text (string_bytes s)
+seen (shown.Bytes v) = Bytes v.items
+seen (shown.Length scheme n) = Length scheme n
+seen (shown.Tag size t) = Tag size t
+seen shown.Nothing = Nothing
+
+-- how wide an integer is
+abbrev pub width_of : Integer → Width
+width_of U8 = w8
+width_of U16 = w16
+width_of U32 = w32
+width_of U64 = w64
+width_of U128 = w128
+width_of Usize = w64
+width_of I8 = w8
+width_of I16 = w16
+width_of I32 = w32
+width_of I64 = w64
+width_of I128 = w128
+width_of Isize = w64
+
+-- the bytes of a length
+abbrev pub length_bytes : LengthScheme → ℕ → List ℕ
+length_bytes Eight n = le 8 n
+length_bytes Short n = short_encoding n
+
+-- the bytes of a part
+abbrev pub part_bytes : Part → List ℕ
+part_bytes (Natural i n) = le (byte_len (width_of i)) n
+part_bytes (Signed i z) = le (byte_len (width_of i)) (cast_unsigned (width_of i) z)
+part_bytes (Flag b) = bool_byte b ∷ []
+part_bytes (Character c) = encode_utf8 c
+part_bytes (Text bytes) = bytes
+part_bytes (Bytes bytes) = bytes
+part_bytes (Length scheme n) = length_bytes scheme n
+part_bytes (Tag size t) = le size t
+part_bytes Nothing = []
+
+-- the bytes of parts, joined in order
+abbrev pub parts_bytes : List Part → List ℕ
+parts_bytes [] = []
+parts_bytes (p ∷ ps) = part_bytes p ++ parts_bytes ps

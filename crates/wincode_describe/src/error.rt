@@ -1,0 +1,36 @@
+//! Why a text describes no type.
+use std::alloc::{AllocError, AllocFailed};
+use thiserror::Error;
+
+/// Why a text describes no type.
+#[derive(Debug, Drop, Error)]
+pub enum DescribeError {
+    /// Something else is wanted at this byte of the text.
+    #[error("{what} is wanted at byte {at}")]
+    Wanted { what: &'static str, at: usize },
+    /// The type at this byte is too deep.
+    #[error("the type at byte {at} is more than 128 levels deep")]
+    TooDeep { at: usize },
+    /// A growth for the type was refused.
+    #[error("out of memory")]
+    OutOfMemory,
+}
+
+pub type DescribeResult<T> = Result<T, DescribeError>;
+
+impl From<AllocError> for DescribeError {
+    fn from(_refused: AllocError) -> DescribeError {
+        DescribeError::OutOfMemory
+    }
+}
+
+impl<T: Drop> From<AllocFailed<T>> for DescribeError {
+    fn from(_refused: AllocFailed<T>) -> DescribeError {
+        DescribeError::OutOfMemory
+    }
+}
+
+/// Something else is wanted there.
+pub(crate) fn wanted(what: &'static str, at: usize) -> DescribeError {
+    DescribeError::Wanted { what, at }
+}

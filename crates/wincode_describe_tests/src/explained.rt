@@ -1,0 +1,152 @@
+//! What is printed of bytes that are explained.
+use std::alloc::Global;
+use std::test::Fail;
+use wincode_describe::{Described, explained_lines};
+
+/// The lines of the bytes by the type.
+fn lines(alloc: Global, text: &str, bytes: &[u8]) -> Result<String, Fail> {
+    let described = Described::parse(alloc, text)?;
+    Ok(explained_lines(alloc, &described, bytes)?)
+}
+
+/// A type, bytes and their lines.
+const ROWS: [(&str, &[u8], &str); 22] = [
+    ("u16", &[2, 1, 9], "0: 0201 u16 258\n"),
+    ("i8", &[255], "0: ff i8 -1\n"),
+    (
+        "(u8, i16)",
+        &[7, 254, 255],
+        "0: 07 .0 u8 7\n1: feff .1 i16 -2\n",
+    ),
+    (
+        "(bool, bool)",
+        &[0, 1],
+        "0: 00 .0 flag false\n1: 01 .1 flag true\n",
+    ),
+    ("bool", &[2], "0: refused: Invalid bool encoding: 2\n"),
+    ("char", &[0xe2, 0x82, 0xac], "0: e282ac char '€'\n"),
+    ("()", &[5], "0:  nothing\n"),
+    (
+        "String",
+        &[2, 0, 0, 0, 0, 0, 0, 0, 104, 105],
+        "0: 0200000000000000 length 2\n8: 6869 text \"hi\"\n",
+    ),
+    (
+        "Vec<u8>",
+        &[1, 0, 0, 0, 0, 0, 0, 0, 9],
+        "0: 0100000000000000 length 1\n8: 09 bytes 1\n",
+    ),
+    (
+        "short Vec<u16>",
+        &[2, 1, 0, 2, 0],
+        "0: 02 length 2\n1: 0100 [0] u16 1\n3: 0200 [1] u16 2\n",
+    ),
+    ("Option<u8>", &[0], "0: 00 tag 0\n"),
+    ("Option<u8>", &[1, 5], "0: 01 tag 1\n1: 05 u8 5\n"),
+    (
+        "Option<u8>",
+        &[2, 5],
+        "0: 02 tag 2\n1: refused: Invalid tag encoding: 2\n",
+    ),
+    (
+        "Result<u8, bool>",
+        &[1, 0, 0, 0, 1],
+        "0: 01000000 tag 1\n4: 01 flag true\n",
+    ),
+    ("Box<u8>", &[3], "0: 03 u8 3\n"),
+    (
+        "[u16; 2]",
+        &[1, 0, 2, 0],
+        "0: 0100 [0] u16 1\n2: 0200 [1] u16 2\n",
+    ),
+    (
+        "[bool; 2]",
+        &[1, 2],
+        "0: 01 [0] flag true\n1: [1] refused: Invalid bool encoding: 2\n",
+    ),
+    (
+        "struct { a: u8, b: (bool, u8) }",
+        &[1, 1, 2],
+        "0: 01 .a u8 1\n1: 01 .b.0 flag true\n2: 02 .b.1 u8 2\n",
+    ),
+    (
+        "BTreeSet<u8>",
+        &[1, 0, 0, 0, 0, 0, 0, 0, 4],
+        "0: 0100000000000000 length 1\n8: 04 [0] u8 4\n",
+    ),
+    (
+        "BTreeMap<u8, bool>",
+        &[1, 0, 0, 0, 0, 0, 0, 0, 4, 0],
+        "0: 0100000000000000 length 1\n8: 04 [0].0 u8 4\n9: 00 [0].1 flag false\n",
+    ),
+    (
+        "enum u16 { 3: u8, 5: bool }",
+        &[5, 0, 1],
+        "0: 0500 tag 5\n2: 01 flag true\n",
+    ),
+    (
+        "enum u8 { 3: u8 }",
+        &[4, 1],
+        "0: 04 tag 4\n1: refused: Invalid tag encoding: 4\n",
+    ),
+];
+
+#[test]
+fn each_kind_of_part(rt: HostRuntime) -> Result<(), Fail> {
+    let alloc = rt.alloc();
+    for (text, bytes, printed) in ROWS {
+        let lines = lines(alloc, text, bytes)?;
+        assert_eq!(rt; lines.as_str(), printed);
+    }
+    Ok(())
+}
+
+/// A short length of two and of three bytes, before so many bytes.
+#[test]
+fn short_lengths(rt: HostRuntime) -> Result<(), Fail> {
+    let alloc = rt.alloc();
+    for (head, n, printed) in [
+        (&[0x7fu8][..], 127usize, "0: 7f length 127\n1: "),
+        (&[0x80, 0x01], 128, "0: 8001 length 128\n2: "),
+        (&[0x80, 0x80, 0x01], 16384, "0: 808001 length 16384\n3: "),
+    ] {
+        let mut bytes = Vec::from_slice(alloc, head)?;
+        for _ in 0..n {
+            bytes.push(1)?;
+        }
+        let text = lines(alloc, "short Vec<u8>", bytes.as_slice())?;
+        assert!(rt; text.as_str().starts_with(printed));
+        let end = format!(in alloc; "01010101010101010101010101010101.. ({n} bytes) bytes {n}\n")?;
+        assert!(rt; text.as_str().ends_with(end.as_str()));
+    }
+    Ok(())
+}
+
+/// Text that isn't UTF-8 is refused where its length stands.
+#[test]
+fn no_text(rt: HostRuntime) -> Result<(), Fail> {
+    let alloc = rt.alloc();
+    let text = lines(alloc, "(u8, String)", &[7, 1, 0, 0, 0, 0, 0, 0, 0, 255])?;
+    assert!(rt; text.as_str().starts_with("0: 07 .0 u8 7\n1: .1 refused: "));
+    Ok(())
+}
+
+/// Parts of 15, 16 and 17 bytes.
+#[test]
+fn parts_about_as_long_as_are_printed(rt: HostRuntime) -> Result<(), Fail> {
+    let alloc = rt.alloc();
+    for (n, printed) in [
+        (15usize, "0: 000000000000000000000000000000 bytes 15\n"),
+        (16, "0: 00000000000000000000000000000000 bytes 16\n"),
+        (
+            17,
+            "0: 00000000000000000000000000000000.. (17 bytes) bytes 17\n",
+        ),
+    ] {
+        let bytes = [0u8; 17];
+        let kind = format!(in alloc; "[u8; {n}]")?;
+        let text = lines(alloc, kind.as_str(), &bytes)?;
+        assert_eq!(rt; text.as_str(), printed);
+    }
+    Ok(())
+}

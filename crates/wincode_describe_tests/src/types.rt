@@ -1,0 +1,130 @@
+//! Types as text: what is written parses as itself, and what is refused.
+use std::test::Fail;
+use wincode_describe::Described;
+
+/// What is written of each is the second text, which parses as itself.
+const WRITTEN: [(&str, &str); 24] = [
+    ("u8", "u8"),
+    (" u128 ", "u128"),
+    ("isize", "isize"),
+    ("bool", "bool"),
+    ("char", "char"),
+    ("()", "()"),
+    ("( )", "()"),
+    ("String", "String"),
+    ("Vec<u8>", "Vec<u8>"),
+    ("VecDeque< u64 >", "Vec<u64>"),
+    ("short Vec<u8>", "short Vec<u8>"),
+    ("short  Vec <String>", "short Vec<String>"),
+    ("BTreeMap<u64, Vec<u8>>", "BTreeMap<u64, Vec<u8>>"),
+    ("HashMap<u8,(u8,u8)>", "BTreeMap<u8, (u8, u8)>"),
+    ("HashSet<i16>", "BTreeSet<i16>"),
+    ("Option<Option<u8>>", "Option<Option<u8>>"),
+    ("Result<(),String>", "Result<(), String>"),
+    ("Rc<u64>", "Box<u64>"),
+    ("[u8;32]", "[u8; 32]"),
+    ("[[u16; 2]; 3]", "[[u16; 2]; 3]"),
+    (
+        "Vec<(u64, Option<String>, [u8; 32])>",
+        "Vec<(u64, Option<String>, [u8; 32])>",
+    ),
+    ("(u8, u8,)", "(u8, u8)"),
+    (
+        "struct{id:u64,name:String,}",
+        "struct { id: u64, name: String }",
+    ),
+    (
+        "enum u32 { 0: u64, 7: String }",
+        "enum u32 { 0: u64, 7: String }",
+    ),
+];
+
+#[test]
+fn are_written_as_they_are_parsed(rt: HostRuntime) -> Result<(), Fail> {
+    let alloc = rt.alloc();
+    for (text, written) in WRITTEN {
+        let described = Described::parse(alloc, text)?;
+        let again = format!(in alloc; "{described}")?;
+        assert_eq!(rt; again.as_str(), written);
+        let parsed = Described::parse(alloc, written)?;
+        let once_more = format!(in alloc; "{parsed}")?;
+        assert_eq!(rt; once_more.as_str(), written);
+    }
+    Ok(())
+}
+
+/// Each is refused so.
+const REFUSED: [(&str, &str); 14] = [
+    ("", "a type is wanted at byte 0"),
+    ("u7", "a type is wanted at byte 0"),
+    ("Vec u8", "`<` is wanted at byte 4"),
+    ("Vec<u8", "`>` is wanted at byte 6"),
+    ("Vec<u8>>", "the end of the type is wanted at byte 7"),
+    ("(u8)", "`,` is wanted at byte 3"),
+    ("(u8, u8", "`,` or `)` is wanted at byte 7"),
+    (
+        "[u8; x]",
+        "how many items the array has is wanted at byte 5",
+    ),
+    ("[u8, 2]", "`;` is wanted at byte 3"),
+    ("short String", "`Vec` is wanted at byte 6"),
+    ("struct { : u8 }", "a field is wanted at byte 9"),
+    (
+        "enum i8 { 0: u8 }",
+        "`u8`, `u16`, `u32` or `u64` is wanted at byte 5",
+    ),
+    (
+        "enum u8 { 256: u8 }",
+        "a tag that its size has is wanted at byte 10",
+    ),
+    (
+        "enum u8 { 1: u8, 1: u8 }",
+        "a tag that no other case has is wanted at byte 10",
+    ),
+];
+
+#[test]
+fn are_refused_with_their_byte(rt: HostRuntime) -> Result<(), Fail> {
+    let alloc = rt.alloc();
+    for (text, printed) in REFUSED {
+        match Described::parse(alloc, text) {
+            Ok(_) => return Err(Fail::from("parsed")),
+            Err(error) => {
+                assert_eq!(rt; format!(in alloc; "{error}")?.as_str(), printed);
+            }
+        }
+    }
+    Ok(())
+}
+
+/// So many options, one in the other, of a byte.
+fn deep(alloc: std::alloc::Global, levels: usize) -> Result<String, Fail> {
+    let mut text = String::new(alloc);
+    for _ in 0..levels {
+        text.push_str("Option<")?;
+    }
+    text.push_str("u8")?;
+    for _ in 0..levels {
+        text.push_str(">")?;
+    }
+    Ok(text)
+}
+
+#[test]
+fn are_parsed_up_to_a_depth(rt: HostRuntime) -> Result<(), Fail> {
+    let alloc = rt.alloc();
+    let most = deep(alloc, 127)?;
+    assert!(rt; Described::parse(alloc, most.as_str()).is_ok());
+    let more = deep(alloc, 128)?;
+    match Described::parse(alloc, more.as_str()) {
+        Ok(_) => Err(Fail::from("parsed")),
+        Err(error) => {
+            let printed = format!(in alloc; "{error}")?;
+            assert_eq!(rt;
+                printed.as_str(),
+                "the type at byte 896 is more than 128 levels deep"
+            );
+            Ok(())
+        }
+    }
+}
