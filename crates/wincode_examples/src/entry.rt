@@ -90,7 +90,7 @@ impl<L: Lending> SchemaRead<L> for Entry {
 impl<L: Lending> RoundTrip<L> for Entry {
     ghost reads_back = { reads_back_by (λ e. (e.id, e.tags)) (windowed_reads_back (pair_reads_back (number_reads_back 8 true)
         (list_reads_back (bincode preallocation_limit) (bincode_laws preallocation_limit) 24 (λ t. t.items) (λ n. n < 256 ^ 1) (λ n. n) (number_write 1 true) (λ n. n) (number_read 1 true)
-            (number_reads_back 1 true)))) };
+        (number_reads_back 1 true)))) };
 }
 
 impl<L: Lending> OneText<L> for Entry {

@@ -632,7 +632,7 @@ pub fn write_members_6<
 ) -> WriteResult<()>
     ensures { let tuple = ⟦<(A, B, C, D, E, F) as SchemaWrite>⟧ in
         WriteOutcome tuple.writing (W.state writer.old) (W.state writer.new) (tuple.model (a.now, b.now, c.now, d.now, e.now, f.now))
-            (tuple.is_valid (a.now, b.now, c.now, d.now, e.now, f.now)) result }
+        (tuple.is_valid (a.now, b.now, c.now, d.now, e.now, f.now)) result }
 {
     write_6::<&Member<A>, &Member<B>, &Member<C>, &Member<D>, &Member<E>, &Member<F>, W>(
         writer,
@@ -815,7 +815,7 @@ pub fn write_members_7<
 ) -> WriteResult<()>
     ensures { let tuple = ⟦<(A, B, C, D, E, F, G) as SchemaWrite>⟧ in
         WriteOutcome tuple.writing (W.state writer.old) (W.state writer.new) (tuple.model (a.now, b.now, c.now, d.now, e.now, f.now, g.now))
-            (tuple.is_valid (a.now, b.now, c.now, d.now, e.now, f.now, g.now)) result }
+        (tuple.is_valid (a.now, b.now, c.now, d.now, e.now, f.now, g.now)) result }
 {
     write_7::<
         &Member<A>,
@@ -1003,7 +1003,7 @@ pub fn encode_members_8<
 ) -> bool
     ensures { let tuple = ⟦<(A, B, C, D, E, F, G, H) as SchemaWrite>⟧ in
         IsTrue result → IsEncoded tuple.writing (tuple.model (a.now, b.now, c.now, d.now, e.now, f.now, g.now, h.now)) dst.new
-            × tuple.is_valid (a.now, b.now, c.now, d.now, e.now, f.now, g.now, h.now) }
+        × tuple.is_valid (a.now, b.now, c.now, d.now, e.now, f.now, g.now, h.now) }
 {
     encode_8::<
         &Member<A>,
@@ -1042,7 +1042,7 @@ pub fn write_members_8<
 ) -> WriteResult<()>
     ensures { let tuple = ⟦<(A, B, C, D, E, F, G, H) as SchemaWrite>⟧ in
         WriteOutcome tuple.writing (W.state writer.old) (W.state writer.new) (tuple.model (a.now, b.now, c.now, d.now, e.now, f.now, g.now, h.now))
-            (tuple.is_valid (a.now, b.now, c.now, d.now, e.now, f.now, g.now, h.now)) result }
+        (tuple.is_valid (a.now, b.now, c.now, d.now, e.now, f.now, g.now, h.now)) result }
 {
     write_8::<
         &Member<A>,

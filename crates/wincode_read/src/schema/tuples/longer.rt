@@ -167,9 +167,19 @@ fn decode_12<
     k: &mut K::Dst,
     m: &mut M::Dst,
 ) -> bool
-    ensures { IsTrue result → ⟦<Members12<A, B, C, D, E, F, G, H, I, J, K, M> as SchemaRead<L>>⟧.reading.reads bytes.now
-        (A.model a.new, (B.model b.new, (C.model c.new, (D.model d.new,
-        (E.model e.new, (F.model f.new, (G.model g.new, (H.model h.new, (I.model i.new, (J.model j.new, (K.model k.new, M.model m.new))))))))))) }
+    ensures { IsTrue result → ⟦<Members12<A, B, C, D, E, F, G, H, I, J, K, M> as SchemaRead<L>>⟧.reading.reads bytes.now (
+      A.model a.new,
+      (
+        B.model b.new,
+        (
+          C.model c.new,
+          (
+            D.model d.new,
+            (E.model e.new, (F.model f.new, (G.model g.new, (H.model h.new, (I.model i.new, (J.model j.new, (K.model k.new, M.model m.new))))))),
+          ),
+        ),
+      ),
+    ) }
 {
     match A::type_meta() {
         TypeMeta::Static { size, .. } if size <= bytes.len() => {

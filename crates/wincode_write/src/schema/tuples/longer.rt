@@ -137,7 +137,7 @@ pub fn encode_members_9<
 ) -> bool
     ensures { let tuple = ⟦<(A, B, C, D, E, F, G, H, I) as SchemaWrite>⟧ in
         IsTrue result → IsEncoded tuple.writing (tuple.model (a.now, b.now, c.now, d.now, e.now, f.now, g.now, h.now, i.now)) dst.new
-            × tuple.is_valid (a.now, b.now, c.now, d.now, e.now, f.now, g.now, h.now, i.now) }
+        × tuple.is_valid (a.now, b.now, c.now, d.now, e.now, f.now, g.now, h.now, i.now) }
 {
     encode_9::<
         &Member<A>,
@@ -179,7 +179,7 @@ pub fn write_members_9<
 ) -> WriteResult<()>
     ensures { let tuple = ⟦<(A, B, C, D, E, F, G, H, I) as SchemaWrite>⟧ in
         WriteOutcome tuple.writing (W.state writer.old) (W.state writer.new) (tuple.model (a.now, b.now, c.now, d.now, e.now, f.now, g.now, h.now, i.now))
-            (tuple.is_valid (a.now, b.now, c.now, d.now, e.now, f.now, g.now, h.now, i.now)) result }
+        (tuple.is_valid (a.now, b.now, c.now, d.now, e.now, f.now, g.now, h.now, i.now)) result }
 {
     write_9::<
         &Member<A>,
@@ -413,7 +413,7 @@ pub fn encode_members_10<
 ) -> bool
     ensures { let tuple = ⟦<(A, B, C, D, E, F, G, H, I, J) as SchemaWrite>⟧ in
         IsTrue result → IsEncoded tuple.writing (tuple.model (a.now, b.now, c.now, d.now, e.now, f.now, g.now, h.now, i.now, j.now)) dst.new
-            × tuple.is_valid (a.now, b.now, c.now, d.now, e.now, f.now, g.now, h.now, i.now, j.now) }
+        × tuple.is_valid (a.now, b.now, c.now, d.now, e.now, f.now, g.now, h.now, i.now, j.now) }
 {
     encode_10::<
         &Member<A>,
@@ -458,7 +458,7 @@ pub fn write_members_10<
 ) -> WriteResult<()>
     ensures { let tuple = ⟦<(A, B, C, D, E, F, G, H, I, J) as SchemaWrite>⟧ in
         WriteOutcome tuple.writing (W.state writer.old) (W.state writer.new) (tuple.model (a.now, b.now, c.now, d.now, e.now, f.now, g.now, h.now, i.now, j.now))
-            (tuple.is_valid (a.now, b.now, c.now, d.now, e.now, f.now, g.now, h.now, i.now, j.now)) result }
+        (tuple.is_valid (a.now, b.now, c.now, d.now, e.now, f.now, g.now, h.now, i.now, j.now)) result }
 {
     write_10::<
         &Member<A>,
@@ -711,7 +711,7 @@ pub fn encode_members_11<
 ) -> bool
     ensures { let tuple = ⟦<(A, B, C, D, E, F, G, H, I, J, K) as SchemaWrite>⟧ in
         IsTrue result → IsEncoded tuple.writing (tuple.model (a.now, b.now, c.now, d.now, e.now, f.now, g.now, h.now, i.now, j.now, k.now)) dst.new
-            × tuple.is_valid (a.now, b.now, c.now, d.now, e.now, f.now, g.now, h.now, i.now, j.now, k.now) }
+        × tuple.is_valid (a.now, b.now, c.now, d.now, e.now, f.now, g.now, h.now, i.now, j.now, k.now) }
 {
     encode_11::<
         &Member<A>,
@@ -759,7 +759,7 @@ pub fn write_members_11<
 ) -> WriteResult<()>
     ensures { let tuple = ⟦<(A, B, C, D, E, F, G, H, I, J, K) as SchemaWrite>⟧ in
         WriteOutcome tuple.writing (W.state writer.old) (W.state writer.new) (tuple.model (a.now, b.now, c.now, d.now, e.now, f.now, g.now, h.now, i.now, j.now, k.now))
-            (tuple.is_valid (a.now, b.now, c.now, d.now, e.now, f.now, g.now, h.now, i.now, j.now, k.now)) result }
+        (tuple.is_valid (a.now, b.now, c.now, d.now, e.now, f.now, g.now, h.now, i.now, j.now, k.now)) result }
 {
     write_11::<
         &Member<A>,
@@ -1032,7 +1032,7 @@ pub fn encode_members_12<
 ) -> bool
     ensures { let tuple = ⟦<(A, B, C, D, E, F, G, H, I, J, K, M) as SchemaWrite>⟧ in
         IsTrue result → IsEncoded tuple.writing (tuple.model (a.now, b.now, c.now, d.now, e.now, f.now, g.now, h.now, i.now, j.now, k.now, m.now)) dst.new
-            × tuple.is_valid (a.now, b.now, c.now, d.now, e.now, f.now, g.now, h.now, i.now, j.now, k.now, m.now) }
+        × tuple.is_valid (a.now, b.now, c.now, d.now, e.now, f.now, g.now, h.now, i.now, j.now, k.now, m.now) }
 {
     encode_12::<
         &Member<A>,
@@ -1086,7 +1086,7 @@ pub fn write_members_12<
 ) -> WriteResult<()>
     ensures { let tuple = ⟦<(A, B, C, D, E, F, G, H, I, J, K, M) as SchemaWrite>⟧ in
         WriteOutcome tuple.writing (W.state writer.old) (W.state writer.new) (tuple.model (a.now, b.now, c.now, d.now, e.now, f.now, g.now, h.now, i.now, j.now, k.now, m.now))
-            (tuple.is_valid (a.now, b.now, c.now, d.now, e.now, f.now, g.now, h.now, i.now, j.now, k.now, m.now)) result }
+        (tuple.is_valid (a.now, b.now, c.now, d.now, e.now, f.now, g.now, h.now, i.now, j.now, k.now, m.now)) result }
 {
     write_12::<
         &Member<A>,
