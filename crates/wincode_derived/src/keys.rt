@@ -504,7 +504,8 @@ impl<L: Lending, A: LawfulKey<L>, B: LawfulKey<L>, C: LawfulKey<L>> LawfulKey<L>
 
     ghost order_total = { then_total (then_total (on_total (λ t. t.0) A.order_total) (on_total (λ t. t.1) B.order_total)) (on_total (λ t. t.2) C.order_total) };
 
-    ghost order_ties = { λ x y. both_tied _ _ (ordering_then (A.order x.0 y.0) (B.order x.1 y.1)) (C.order x.2 y.2) (both_tied _ _ (A.order x.0 y.0) (B.order x.1 y.1) (A.order_ties x.0 y.0) (B.order_ties x.1 y.1)) (C.order_ties x.2 y.2) };
+    ghost order_ties = { λ x y. both_tied _ _ (ordering_then (A.order x.0 y.0) (B.order x.1 y.1)) (C.order x.2 y.2)
+        (both_tied _ _ (A.order x.0 y.0) (B.order x.1 y.1) (A.order_ties x.0 y.0) (B.order_ties x.1 y.1)) (C.order_ties x.2 y.2) };
 }
 
 impl<L: Lending, T: LawfulKey<L>, const N: usize> LawfulKey<L> for [T; N] {
@@ -545,9 +546,11 @@ where
 
     ghost is_valid = { Each (λ v. K.is_valid v.0 × V.is_valid v.1) };
 
-    ghost reading = { gathered_read (sees K.model V.model) (Made (IsMapOf K.order) (map (sees K.model V.model))) (bincode preallocation_limit) (pair_size K.reading.meta V.reading.meta) (pair_read K.reading V.reading) };
+    ghost reading = { gathered_read (sees K.model V.model) (Made (IsMapOf K.order) (map (sees K.model V.model))) (bincode preallocation_limit)
+        (pair_size K.reading.meta V.reading.meta) (pair_read K.reading V.reading) };
 
-    ghost read_laws = { map_read_laws (bincode preallocation_limit) (bincode_laws preallocation_limit) (pair_size K.reading.meta V.reading.meta) K.model V.model K.read_laws V.read_laws K.order K.order_total K.equal K.order_ties K.alike };
+    ghost read_laws = { map_read_laws (bincode preallocation_limit) (bincode_laws preallocation_limit)
+        (pair_size K.reading.meta V.reading.meta) K.model V.model K.read_laws V.read_laws K.order K.order_total K.equal K.order_ties K.alike };
 }
 
 impl<L: Lending, K: LawfulKey<L> + Eq + Hash, V: Lawful<L>> Lawful<L> for HashMap<K, V>
@@ -562,9 +565,11 @@ where
 
     ghost is_valid = { λ v. Unit {0} };
 
-    ghost reading = { gathered_read (sees K.model V.model) (Made (IsHashMapOf K.equal) (hash_map_sees K.equal K.model V.model)) (bincode preallocation_limit) (pair_size K.reading.meta V.reading.meta) (pair_read K.reading V.reading) };
+    ghost reading = { gathered_read (sees K.model V.model) (Made (IsHashMapOf K.equal) (hash_map_sees K.equal K.model V.model)) (bincode preallocation_limit)
+        (pair_size K.reading.meta V.reading.meta) (pair_read K.reading V.reading) };
 
-    ghost read_laws = { hash_map_read_laws (bincode preallocation_limit) (bincode_laws preallocation_limit) (pair_size K.reading.meta V.reading.meta) K.model V.model K.read_laws V.read_laws K.equal K.equivalence K.alike };
+    ghost read_laws = { hash_map_read_laws (bincode preallocation_limit) (bincode_laws preallocation_limit)
+        (pair_size K.reading.meta V.reading.meta) K.model V.model K.read_laws V.read_laws K.equal K.equivalence K.alike };
 }
 
 impl<L: Lending, K: LawfulKey<L> + Ord> Lawful<L> for BTreeSet<K>
@@ -581,7 +586,8 @@ where
 
     ghost reading = { gathered_read K.model (Made (IsSetOf K.order) (map K.model)) (bincode preallocation_limit) (item_size K.reading.meta) K.reading };
 
-    ghost read_laws = { set_read_laws (bincode preallocation_limit) (bincode_laws preallocation_limit) (item_size K.reading.meta) K.model K.read_laws K.order K.order_total K.equal K.order_ties K.alike };
+    ghost read_laws = { set_read_laws (bincode preallocation_limit) (bincode_laws preallocation_limit)
+        (item_size K.reading.meta) K.model K.read_laws K.order K.order_total K.equal K.order_ties K.alike };
 }
 
 impl<L: Lending, K: LawfulKey<L> + Eq + Hash> Lawful<L> for HashSet<K>

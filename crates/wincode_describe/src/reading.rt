@@ -118,7 +118,8 @@ fn show_items<L: Lending>(
     reader: &mut ReadWindow<L>,
     shown: &mut Vec<Shown>,
 ) -> ReadResult<()>
-    ensures { ShowOutcome (shown_read joined (array_read n (described_read item.now))) (window_state reader.old) (window_state reader.new) shown.old.items shown.new.items result }
+    ensures { ShowOutcome (shown_read joined (array_read n (described_read item.now)))
+        (window_state reader.old) (window_state reader.new) shown.old.items shown.new.items result }
 {
     for _i in 0..n {
         show_parts::<L>(alloc, item, reader, shown)?;
@@ -155,7 +156,8 @@ fn show_run<L: Lending>(
     reader: &mut ReadWindow<L>,
     shown: &mut Vec<Shown>,
 ) -> ReadResult<()>
-    ensures { ShowOutcome (shown_read joined (run_read n (item_size (described_read item.now).meta) (described_read item.now))) (window_state reader.old) (window_state reader.new) shown.old.items shown.new.items result }
+    ensures { ShowOutcome (shown_read joined (run_read n (item_size (described_read item.now).meta) (described_read item.now)))
+        (window_state reader.old) (window_state reader.new) shown.old.items shown.new.items result }
 {
     let size = ItemSize::of(type_meta(item));
     if let ItemSize::Unknown = size {
