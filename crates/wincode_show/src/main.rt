@@ -65,7 +65,7 @@ fn run(rt: &(impl Env + Input + Print + AllocGlobal)) -> Result<(), RelayError> 
     )
 }
 
-/// GaveEach, prints why it failed, and gives the status.
+/// Runs, prints why it failed, and gives the status.
 fn status(rt: &(impl Env + Input + Print + Eprint + AllocGlobal)) -> u8 {
     match run(rt) {
         Ok(()) => 0,
