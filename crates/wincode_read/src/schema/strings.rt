@@ -80,17 +80,21 @@ impl<L: Lending> SchemaRead<L> for char {
 }
 
 /// A copy of the next `n` bytes, which stay and are at hand. Too few are refused before memory is
-/// asked for.
+/// asked for, which isn't where it was refused before.
 #[inline(always)]
 fn copy_bytes<L: Lending, R: Reader<L>>(
     alloc: Global,
     reader: &mut R,
     n: usize,
+    is_refused: bool,
 ) -> ReadResult<Vec<u8>>
     ensures ok { IfOk result (λ v. Arrays n (R.state reader.old) (R.state reader.new) v.items) }
     ensures err { IfErr result (StrBytesReadRefused ⊥ ⊤ n (R.state reader.old) (R.state reader.new)) }
 {
     let bytes = reader.fill_exact(n)?;
+    if is_refused {
+        return Err(ReadError::OutOfMemory);
+    }
     match Vec::from_slice(alloc, bytes) {
         Ok(copy) => Ok(copy),
         Err(_) => Err(ReadError::OutOfMemory),
@@ -103,10 +107,11 @@ fn take_text<L: Lending, R: Reader<L>>(
     alloc: Global,
     reader: &mut R,
     n: usize,
+    is_refused: bool,
 ) -> ReadResult<String>
     ensures { GetOutcome (body_read n 0 false) (λ s. string_bytes s) (R.state reader.old) (R.state reader.new) result }
 {
-    let bytes = copy_bytes::<L, R>(alloc, reader, n)?;
+    let bytes = copy_bytes::<L, R>(alloc, reader, n, is_refused)?;
     reader.consume_unchecked(n);
     match String::from_utf8(bytes) {
         Ok(text) => Ok(text),
@@ -115,9 +120,9 @@ fn take_text<L: Lending, R: Reader<L>>(
 }
 
 /// The text at the front of the bytes, behind its length, and how many bytes both have. There is none where not all of
-/// them are there, they are over the limit or no text, or memory is refused: `get_text` says which.
+/// them are there, they are over the limit or no text, which `get_text` tells, or memory is refused, as is then said.
 #[inline(always)]
-fn front_text(alloc: Global, bytes: &[u8]) -> Option<(String, usize)>
+fn front_text(alloc: Global, bytes: &[u8], is_refused: &mut bool) -> Option<(String, usize)>
     ensures { IfSome result (λ t. (t.1 ≤ length bytes.now) × (str_read 24 0 false).reads (take t.1 bytes.now) (string_bytes t.0)) }
 {
     if bytes.len() < 8 {
@@ -133,28 +138,40 @@ fn front_text(alloc: Global, bytes: &[u8]) -> Option<(String, usize)>
         return None;
     }
     let text = str::from_utf8(&rest[..n]).ok()?;
-    let copy = String::from_str(alloc, text).ok()?;
+    let Ok(copy) = String::from_str(alloc, text) else {
+        *is_refused = true;
+        return None;
+    };
     Some((copy, 8 + n))
 }
 
-/// The text at the front, behind its length, where all of it is at hand. Else the reader is as it was.
+/// The text at the front, behind its length, where all of it is at hand. Else the reader is as it was; where memory
+/// was refused, that is said.
 #[inline(always)]
-fn text_at_hand<L: Lending, R: Reader<L>>(alloc: Global, reader: &mut R) -> Option<String>
+fn text_at_hand<L: Lending, R: Reader<L>>(
+    alloc: Global,
+    reader: &mut R,
+    is_refused: &mut bool,
+) -> Option<String>
     ensures some { IfSome result (λ s. Gives (str_read 24 0 false).reads (R.state reader.old) (R.state reader.new) (string_bytes s)) }
     ensures none { IfNone result (R.state reader.new ≡ R.state reader.old) }
 {
-    let (text, size) = front_text(alloc, reader.at_hand())?;
+    let (text, size) = front_text(alloc, reader.at_hand(), is_refused)?;
     reader.consume_unchecked(size);
     Some(text)
 }
 
-/// A text behind its length.
+/// A text behind its length. Memory isn't asked for where it was refused before.
 #[inline(never)]
-fn get_text<L: Lending, R: Reader<L>>(alloc: Global, reader: &mut R) -> ReadResult<String>
+fn get_text<L: Lending, R: Reader<L>>(
+    alloc: Global,
+    reader: &mut R,
+    is_refused: bool,
+) -> ReadResult<String>
     ensures { GetOutcome (str_read 24 0 false) (λ s. string_bytes s) (R.state reader.old) (R.state reader.new) result }
 {
     let n = BincodeLen::<PREALLOCATION_LIMIT>::read::<L, R>(reader, 1)?;
-    take_text::<L, R>(alloc, reader, n)
+    take_text::<L, R>(alloc, reader, n, is_refused)
 }
 
 impl<L: Lending> SchemaRead<L> for String {
@@ -185,11 +202,12 @@ impl<L: Lending> SchemaRead<L> for String {
         reader: &mut R,
         dst: &mut Option<String>,
     ) -> ReadResult<()> {
-        if let Some(text) = text_at_hand::<L, R>(alloc, reader) {
+        let mut is_refused = false;
+        if let Some(text) = text_at_hand::<L, R>(alloc, reader, &mut is_refused) {
             *dst = Some(text);
             return Ok(());
         }
-        *dst = Some(get_text::<L, R>(alloc, reader)?);
+        *dst = Some(get_text::<L, R>(alloc, reader, is_refused)?);
         Ok(())
     }
 
