@@ -49,15 +49,11 @@ fn pairs(rt: HostRuntime) -> Result<(), Fail> {
         [1u8, 0, 0, 0, 0, 0, 0, 0, 7, 2, 1].as_slice()
     );
     let back: Vec<Pair<u8, u16>> = deserialize(alloc, text.as_slice())?;
-    assert!(rt;
-        matches!(
-            back.as_slice(),
-            [Pair {
-                first: 7,
-                second: 258
-            }]
-        )
-    );
+    let is_read = match back.as_slice() {
+        [only] => only.first == 7 && only.second == 258,
+        _ => false,
+    };
+    assert!(rt; is_read);
     let mut by_number = BTreeMap::new(alloc);
     by_number.insert(5u8, Alone(back))?;
     let text = serialize(alloc, &by_number)?;
