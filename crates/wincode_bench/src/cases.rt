@@ -6,6 +6,7 @@ mod texts;
 
 use crate::arguments::Asked;
 use crate::messages::time_messages;
+use crate::pieces::time_pieces_of_all;
 use crate::records::time_records;
 use crate::samples::time_samples;
 use crate::streams::time_streams;
@@ -28,5 +29,6 @@ pub fn time_cases(
     time_records(rt, asked)?;
     time_messages(rt, asked)?;
     time_samples(rt, asked)?;
-    time_streams(rt, asked)
+    time_streams(rt, asked)?;
+    time_pieces_of_all(rt, asked)
 }

@@ -13,6 +13,7 @@ mod cases;
 mod look;
 mod messages;
 mod parts;
+mod pieces;
 mod records;
 mod samples;
 mod streams;

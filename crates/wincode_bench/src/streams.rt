@@ -1,6 +1,4 @@
 //! Values of a file that are read as they come, beside the file read whole and its bytes read then.
-ghost use Rattle.std.specs.Prelude.{[], false};
-
 use crate::arguments::Asked;
 use crate::cases::LongLen;
 use crate::look::Look;
@@ -8,10 +6,10 @@ use crate::parts::{Record, list_of, lists_of};
 use crate::timing::{Copying, Failure, Unit, Work, time_copy, time_work};
 use crate::values::{Reading, encoding};
 use std::alloc::Global;
+use std::fs;
 use std::marker::PhantomData;
 use std::rt::{Clock, Files};
-use std::{fs, io};
-use wincode::io::{Lifetime, Source, StdSource, StreamReader};
+use wincode::io::{Lifetime, StdSource, StreamReader};
 use wincode::{Messages, SchemaGet, SchemaRead, SchemaReadOwned, SchemaWrite, containers};
 
 /// The file that the values stand in.
@@ -177,73 +175,6 @@ fn time_messages<T: Look, S: SchemaWrite<Src = T> + SchemaReadOwned<Lifetime<'st
     time_work(rt, name, "read as they come", unit, &reading, copy)
 }
 
-/// The bytes of a slice, in pieces of at most this size.
-#[derive(Drop)]
-struct InPieces<'a> {
-    rest: &'a [u8],
-    size: usize,
-}
-
-impl Source for InPieces<'_> {
-    ghost state = { λ p. record { coming = []; failures = 0; is_known = false } };
-
-    fn read_some(&mut self, buf: &mut [u8]) -> io::Result<usize> {
-        let n = self.size.min(self.rest.len()).min(buf.len());
-        let (piece, rest) = self.rest.split_at(n);
-        buf[..n].copy_from_slice(piece);
-        self.rest = rest;
-        Ok(n)
-    }
-}
-
-/// Reads a list of bytes that come in pieces.
-#[derive(Drop)]
-struct ReadingPieces<'a> {
-    text: &'a [u8],
-    size: usize,
-    due: u64,
-}
-
-impl Work for ReadingPieces<'_> {
-    fn run(&self, alloc: Global) -> Result<(), Failure> {
-        let pieces = InPieces {
-            rest: self.text,
-            size: self.size,
-        };
-        let Ok(mut reader) = StreamReader::new(alloc, pieces) else {
-            return Err(Failure::OutOfMemory);
-        };
-        match <Vec<u8> as SchemaGet<Lifetime<'static>>>::get(alloc, &mut reader) {
-            Ok(value) if value.look() == self.due => Ok(()),
-            _ => Err(Failure::Read),
-        }
-    }
-}
-
-/// Times a list of bytes that come in large pieces, and one at a time.
-fn time_pieces(
-    rt: &(impl Clock + Print + AllocGlobal),
-    name: &str,
-    list: &Vec<u8>,
-) -> Result<(), Failure> {
-    let unit = Unit::Microseconds;
-    let bytes = encoding::<Vec<u8>>(rt.alloc(), list)?;
-    let text = bytes.as_slice();
-    let due = list.look();
-    let copy = time_copy(rt, name, unit, &Copying(text))?;
-    for (done, size) in [("in large pieces", 65_536), ("a byte at a time", 1)] {
-        time_work(
-            rt,
-            name,
-            done,
-            unit,
-            &ReadingPieces { text, size, due },
-            copy,
-        )?;
-    }
-    Ok(())
-}
-
 /// Times each case that was asked for.
 pub fn time_streams(
     rt: &(impl Clock + Files + Print + AllocGlobal),
@@ -264,11 +195,6 @@ pub fn time_streams(
     if asked.has(name) {
         let lists = lists_of(rt.alloc(), asked.first(), MESSAGES, MESSAGE_NUMBERS)?;
         time_messages::<Vec<u64>, Vec<u64>>(rt, name, lists.as_slice())?;
-    }
-    let name = "streamed bytes";
-    if asked.has(name) {
-        let list = list_of::<u8>(rt.alloc(), asked.first(), 160_000)?;
-        time_pieces(rt, name, &list)?;
     }
     Ok(())
 }

@@ -2,10 +2,12 @@
 #![tactic(auto)]
 
 pub mod event;
+pub mod kinds;
 pub mod label;
 pub mod marks;
 pub mod order;
 pub mod pages;
 pub mod parcel;
+pub mod readings;
 pub mod signal;
 pub mod stock;

@@ -3,7 +3,7 @@ use std::collections::BTreeMap;
 use std::test::Fail;
 use wincode::io::Lifetime;
 use wincode::serde::{Deserialize, Serialize};
-use wincode::{By, ReadError, deserialize, serialize};
+use wincode::{ReadError, deserialize, serialize};
 use wincode_declared::event::Event;
 use wincode_declared::label::Label;
 use wincode_declared::marks::Range;
@@ -59,10 +59,10 @@ fn borrowed_fields(rt: HostRuntime) -> Result<(), Fail> {
         number: 5,
         name: "a",
     };
-    let text = <By<Label<'_>> as Serialize>::serialize(alloc, &label)?;
+    let text = <Label<'_> as Serialize>::serialize(alloc, &label)?;
     let wanted = [5u8, 0, 0, 0, 0, 0, 0, 0, 1, 0, 0, 0, 0, 0, 0, 0, 97];
     assert_eq!(rt; text.as_slice(), wanted.as_slice());
-    let back = <By<Label<'_>> as Deserialize<Lifetime<'_>>>::deserialize(alloc, text.as_slice())?;
+    let back = <Label<'_> as Deserialize<Lifetime<'_>>>::deserialize(alloc, text.as_slice())?;
     assert!(rt; back == label);
     Ok(())
 }

@@ -4,11 +4,17 @@
 #[cfg(test)]
 mod events;
 #[cfg(test)]
+mod keys;
+#[cfg(test)]
 mod kinds;
+#[cfg(test)]
+mod labels;
 #[cfg(test)]
 mod orders;
 #[cfg(test)]
 mod pages;
+#[cfg(test)]
+mod readings;
 #[cfg(test)]
 mod refusals;
 #[cfg(test)]

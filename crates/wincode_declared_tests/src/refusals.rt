@@ -3,7 +3,7 @@ use std::test::Fail;
 use wincode_deriving::module_of;
 
 /// Declarations, and what is said of them.
-const ROWS: [(&str, &str); 18] = [
+const ROWS: [(&str, &str); 21] = [
     (
         "struct A {\n    a: u8,\n",
         "line 1: a bracket is not closed",
@@ -12,7 +12,7 @@ const ROWS: [(&str, &str); 18] = [
     ("struct A {\n    a: ,\n}", "line 2: a type is wanted"),
     (
         "struct A {\n    a: u8,\n    // wincode: as = u16\n    b: u8,\n}",
-        "line 3: `wincode:` knows `with`, `tag` and `tag_encoding`",
+        "line 3: `wincode:` knows `with`, `tag`, `tag_encoding`, `counts` and `from`",
     ),
     (
         "enum A {\n    // wincode: tag = x\n    B,\n}",
@@ -47,8 +47,20 @@ const ROWS: [(&str, &str); 18] = [
         "line 1: no schema for an array of a type parameter",
     ),
     (
-        "struct A(u8, u8, u8, u8, u8, u8, u8, u8, u8, u8, u8, u8, u8);",
-        "line 1: no schema for more than 12 fields",
+        "struct A<T>(T, u8, u8, u8, u8, u8, u8, u8, u8, u8, u8, u8, u8);",
+        "line 1: no schema for more than 12 fields beside parameters",
+    ),
+    (
+        "enum A {\n    B(u8, u8, u8, u8, u8, u8, u8, u8, u8, u8, u8, u8, u8),\n}",
+        "line 2: no schema for a case of more than 12 fields: give it a struct of its own",
+    ),
+    (
+        "// wincode: counts = b\nenum A {\n    B,\n}",
+        "line 1: what a value counts is a number",
+    ),
+    (
+        "// wincode: from = B\nstruct A<T>(T);",
+        "line 2: no schema for parameters of a type that is the schema of another",
     ),
     ("enum A {}", "line 1: no schema for an enum without cases"),
     (

@@ -1,5 +1,5 @@
 -- The laws of one of several cases, from those of each.
-use Rattle.std.proofs.Common.{◌≡◌, ◌∙◌, sym, ap, subst, ℕ, ◌+◌, ◌^◌, ◌<◌, ◌≤◌, true, false, List, ◌++◌, length, nat_eq, nat_lt, cond, refl, arith, length-append, Result, Ok, Err}
+use Rattle.std.proofs.Common.{◌≡◌, ◌∙◌, sym, ap, subst, ℕ, ◌+◌, ◌^◌, ◌<◌, ◌≤◌, true, false, List, ◌++◌, length, max, nat_eq, nat_lt, cond, refl, arith, length-append, Result, Ok, Err}
 use Rattle.std.proofs.lemmas.Bool.{eqb-true}
 use Rattle.std.specs.Result.{result_map_both}
 use Rattle.wincode_io.specs.Joins.{IsUnambiguous}
@@ -12,8 +12,9 @@ use Rattle.wincode_base.specs.LeafLaws.{number_one}
 use Rattle.wincode_base.specs.Outcomes.{Wrote, WriteRefused, Stopped, WriteOutcome}
 use Rattle.wincode_base.specs.Pairs.{pair_meta}
 use Rattle.wincode_base.specs.Sequences.{Then, then_unambiguous}
-use Rattle.wincode_base.specs.TagLaws.{sides_reads_back}
-use Rattle.wincode_base.specs.Tags.{sides_tag, IfSide, sides_meta, SidesRead, sides_read, sides_write}
+use Rattle.wincode_base.specs.PairLaws.{le_max_right}
+use Rattle.wincode_base.specs.TagLaws.{sides_reads_back, counted_reads_back}
+use Rattle.wincode_base.specs.Tags.{sides_tag, IfSide, sides_meta, SidesRead, sides_read, sides_write, counted_read, counted_write}
 use Rattle.wincode_base.specs.WriteSequences.{stopped_map, wrote_map, unwritten_map}
 use Rattle.wincode_base.specs.declared.error.WriteError.{WriteError}
 use Rattle.wincode_base.specs.declared.meta.TypeMeta.{TypeMeta}
@@ -66,6 +67,10 @@ module _ {V W : Type 0} (n : ℕ) {tag : W → ℕ} {own : W → Type 0} {p : V 
     statics = sides_static g h g.meta h.meta l.statics m.statics;
     prealloc = let a = l.prealloc in omega arith;
   }
+
+-- counted otherwise against a limit
+pub counted_case_laws : (n : ℕ) {V : Type 0} {tag : V → ℕ} {own : V → Type 0} {p : V → Type 0} {g : ReadGrammar V} → CaseLaws tag own p g → CaseLaws tag own p (counted_read (max n 1) g)
+counted_case_laws n l = record { one = l.one; reads_valid = l.reads_valid; statics = l.statics; prealloc = le_max_right n 1 }
 
 enum_static : {V : Type 0} (k : ℕ) (tag : V → ℕ) (own : V → Type 0) (part : ReadGrammar V) (m : TypeMeta) → IsReadStatic part.reads m → IsReadStatic (Then (number_read k true).reads (CaseReads tag own part.reads)) (pair_meta (Static k true) m)
 enum_static k tag own part Dynamic h = tt
@@ -135,6 +140,13 @@ module _ {X Y V V' W W' : Type 0} (n : ℕ) {p : X → Type 0} {q : Y → Type 0
   pub cases_back : CasesBack (IfSide p q) (result_map_both ws ws') (sides_tag (λ v. n) wtag) (sides_own n wtag wown) (sides_write w w') (result_map_both rs rs') (sides_tag (λ v. n) rtag) (sides_own n rtag rown) (sides_read r r')
   cases_back = record { same_tag = sides_same; own_read = sides_own_read; own_written = sides_own_written; parts = sides_reads_back p q ws w rs r ws' w' rs' r' l m.parts }
 
+pub counted_back : (n : ℕ) {X V W : Type 0} {p : X → Type 0} {ws : X → W} {wtag : W → ℕ} {wown : W → Type 0} {w : WriteGrammar W} {rs : X → V} {rtag : V → ℕ} {rown : V → Type 0} {r : ReadGrammar V}
+    → CasesBack p ws wtag wown w rs rtag rown r → CasesBack p ws wtag wown (counted_write n w) rs rtag rown (counted_read n r)
+counted_back n l = record { same_tag = l.same_tag; own_read = l.own_read; own_written = l.own_written; parts = counted_reads_back n l.parts }
+
+pub counted_one_text : (n : ℕ) {V : Type 0} {g : ReadGrammar V} → IsOneText g → IsOneText (counted_read n g)
+counted_one_text n l = record { same = l.same }
+
 pub enum_reads_back : {X V W : Type 0} (k : ℕ) {p : X → Type 0} {ws : X → W} {wtag : W → ℕ} {wown : W → Type 0} {w : WriteGrammar W} {rs : X → V} {rtag : V → ℕ} {rown : V → Type 0} {r : ReadGrammar V} {refused : ℕ → ReadRefusal}
     → CasesBack p ws wtag wown w rs rtag rown r → ReadsBack (λ x. IsTagged k wtag wown (ws x) × p x) ws (enum_write k wtag wown w) rs (enum_read k rtag rown r refused)
 enum_reads_back k {ws = ws} {wtag = wtag} {rs = rs} {rtag = rtag} l = record {
@@ -169,3 +181,8 @@ cases_answers p model g other q model' h m S K put room old new (Ok x) r a =
 cases_answers p model g other q model' h m S K put room old new (Err y) r a =
     answer_map h (sides_write g h) (model' y) (Err (model' y)) (q y) (λ w. wrote_map h (sides_write g h) (model' y) (Err (model' y)) (λ c. c) refl (λ b t. t) w) (λ e u. unwritten_map h (sides_write g h) (model' y) (Err (model' y)) (λ c. c) refl (λ b t. t) u)
     (λ e s. stopped_map h (sides_write g h) (model' y) (Err (model' y)) (λ b t. t) s) r (m S K put room old new y r a)
+
+pub counted_answers : {X V : Type 0} (n : ℕ) (answer : WriteAnswer X) (p : X → Type 0) (model : X → V) (g : WriteGrammar V) → IsAnswer answer p model g → IsAnswer answer p model (counted_write n g)
+counted_answers n answer p model g m S K put room old new x r a =
+    answer_map g (counted_write n g) (model x) (model x) (p x) (λ w. wrote_map g (counted_write n g) (model x) (model x) (λ c. c) refl (λ b t. t) w) (λ e u. unwritten_map g (counted_write n g) (model x) (model x) (λ c. c) refl (λ b t. t) u)
+    (λ e s. stopped_map g (counted_write n g) (model x) (model x) (λ b t. t) s) r (m S K put room old new x r a)

@@ -33,14 +33,14 @@ ghost use Rattle.wincode_base.specs.ShortLaws.{short_read_laws};
 ghost use Rattle.wincode_base.specs.StringLaws.{char_read_laws, str_read_laws};
 ghost use Rattle.wincode_base.specs.Strings.{char_read, str_read};
 ghost use Rattle.wincode_base.specs.TagLaws.{option_read_laws, result_read_laws};
-ghost use Rattle.wincode_base.specs.Tags.{option_read, IfPart, result_read, IfSide, sides_tag, sides_read};
+ghost use Rattle.wincode_base.specs.Tags.{option_read, IfPart, result_read, IfSide, sides_tag, sides_read, counted_read};
 ghost use Rattle.wincode_base.specs.ViewLaws.{counts_some, form_prealloc_some, form_read_laws, lent_read_laws};
 ghost use Rattle.wincode_base.specs.Views.{form_item_read, form_prealloc, pod_read, view_read, lent_read, forms_read};
 ghost use Rattle.wincode.specs.OneText.{IsOneText};
-ghost use Rattle.wincode_derived.specs.SumLaws.{CaseLaws, last_case_laws, case_laws, enum_read_laws};
+ghost use Rattle.wincode_derived.specs.SumLaws.{CaseLaws, last_case_laws, case_laws, counted_case_laws, enum_read_laws};
 ghost use Rattle.wincode_derived.specs.Sums.{sides_own, CaseReadRefused, IsNameless, enum_read};
 
-use crate::sums::{Case, Last, OneOf};
+use crate::sums::{Case, Counted, Last, OneOf};
 use std::boxed::BoxedSlice;
 use std::collections::{LinkedList, VecDeque};
 use std::marker::PhantomData;
@@ -174,6 +174,26 @@ impl<L: Lending, const TAG: usize, A: Lawful<L>, Rest: LawfulCases<L>> LawfulCas
     ghost refused = { CaseReadRefused TAG A.reading Rest.refused };
 
     ghost case_laws = { case_laws TAG A.read_laws Rest.case_laws };
+}
+
+impl<L: Lending, const BYTES: usize, C: LawfulCases<L>> LawfulCases<L> for Counted<BYTES, C> {
+    type Dst = C::Dst;
+
+    ghost Value = { C.Value };
+
+    ghost model = { C.model };
+
+    ghost is_valid = { C.is_valid };
+
+    ghost tag = { C.tag };
+
+    ghost own = { C.own };
+
+    ghost part = { counted_read (max BYTES 1) C.part };
+
+    ghost refused = { C.refused };
+
+    ghost case_laws = { counted_case_laws BYTES C.case_laws };
 }
 
 impl<L: Lending, Tag: TagCode, C: LawfulCases<L>> Lawful<L> for OneOf<Tag, C> {

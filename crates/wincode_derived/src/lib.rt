@@ -5,4 +5,5 @@
 pub mod enums;
 pub mod keys;
 pub mod laws;
+pub mod lent;
 pub mod sums;

@@ -3,18 +3,18 @@
 //! The cases stand in a list of types, each with its tag: `OneOf<u32, Case<0, A, Case<1, B, Last<2, C>>>>` has the
 //! values `Ok(a)`, `Err(Ok(b))` and `Err(Err(c))`, behind tags of four bytes. Of two cases with one tag the first alone
 //! is read and written.
-ghost use Rattle.std.specs.Prelude.{◌≡◌, ℕ, ◌≤◌, ◌<◌, ◌^◌, true, IfOk, IfErr, Result};
+ghost use Rattle.std.specs.Prelude.{◌≡◌, ℕ, ◌≤◌, ◌<◌, ◌^◌, max, true, IfOk, IfErr, Result};
 ghost use Rattle.std.specs.Result.{result_map_both};
 ghost use Rattle.wincode.specs.OneText.{IsOneText};
 ghost use Rattle.wincode.specs.OneTextLaws.{sides_one_text, both_owned};
 ghost use Rattle.wincode_base.specs.Grammar.{ReadGrammar, WriteGrammar, WriteLaws, ReadRefusal};
 ghost use Rattle.wincode_base.specs.Outcomes.{GetOutcome, WriteOutcome, IsSized, SizeRefused, IsOverflow, past_usize};
 ghost use Rattle.wincode_base.specs.Pairs.{pair_meta};
-ghost use Rattle.wincode_base.specs.TagLaws.{sides_laws};
-ghost use Rattle.wincode_base.specs.Tags.{sides_tag, IfSide, sides_meta, sides_read, sides_write};
+ghost use Rattle.wincode_base.specs.TagLaws.{sides_laws, counted_laws};
+ghost use Rattle.wincode_base.specs.Tags.{sides_tag, IfSide, sides_meta, sides_read, sides_write, counted_read, counted_write};
 ghost use Rattle.wincode_derived.specs.Sums.{WriteAnswer, part_answer, sides_answer, IsAnswer, sides_own, case_read, CaseReadRefused, IsNameless, IsTagged, enum_read, enum_write};
-ghost use Rattle.wincode_derived.specs.SumLaws.{last_answers, cases_answers, CaseLaws, CasesBack, last_case_laws, case_laws};
-ghost use Rattle.wincode_derived.specs.SumLaws.{enum_read_laws, enum_write_laws, last_back, cases_back, enum_reads_back, enum_one_text};
+ghost use Rattle.wincode_derived.specs.SumLaws.{last_answers, cases_answers, counted_answers, CaseLaws, CasesBack, last_case_laws, case_laws, counted_case_laws};
+ghost use Rattle.wincode_derived.specs.SumLaws.{enum_read_laws, enum_write_laws, last_back, cases_back, counted_back, counted_one_text, enum_reads_back, enum_one_text};
 
 use std::alloc::Global;
 use std::marker::PhantomData;
@@ -31,6 +31,9 @@ pub struct Case<const TAG: usize, A, Rest>(PhantomData<(A, Rest)>);
 
 /// The last case.
 pub struct Last<const TAG: usize, A>(PhantomData<A>);
+
+/// The same cases, each value of which counts `BYTES` bytes, at least 1, against the limit of a list.
+pub struct Counted<const BYTES: usize, C>(PhantomData<C>);
 
 /// One of these cases, behind its tag.
 pub struct OneOf<Tag, C>(PhantomData<(Tag, C)>);
@@ -356,6 +359,91 @@ impl<L: Lending, const TAG: usize, A: OneText<L>, Rest: CasesOneText<L>> CasesOn
 impl<L: Lending, const TAG: usize, A: SchemaReadOwned<L>, Rest: CasesReadOwned<L>> CasesReadOwned<L>
     for Case<TAG, A, Rest> {
     ghost cases_owned = { both_owned A.owned Rest.cases_owned };
+}
+
+impl<const BYTES: usize, C: CasesWrite> CasesWrite for Counted<BYTES, C> {
+    type Src = C::Src;
+
+    ghost Value = { C.Value };
+
+    ghost model = { C.model };
+
+    ghost is_valid = { C.is_valid };
+
+    ghost tag = { C.tag };
+
+    ghost own = { C.own };
+
+    ghost part = { counted_write (max BYTES 1) C.part };
+
+    ghost part_laws = { counted_laws (max BYTES 1) C.part_laws };
+
+    ghost answer = { C.answer };
+
+    ghost answers = { counted_answers (max BYTES 1) C.answer C.is_valid C.model C.part C.answers };
+
+    fn part_meta() -> TypeMeta {
+        C::part_meta()
+    }
+
+    fn tag_of(src: &C::Src) -> WriteResult<usize> {
+        C::tag_of(src)
+    }
+
+    fn part_size(src: &C::Src) -> WriteResult<usize> {
+        C::part_size(src)
+    }
+
+    fn write_part<W: Writer>(writer: &mut W, src: &C::Src) -> WriteResult<()> {
+        C::write_part::<W>(writer, src)
+    }
+}
+
+impl<L: Lending, const BYTES: usize, C: CasesRead<L>> CasesRead<L> for Counted<BYTES, C> {
+    type Dst = C::Dst;
+
+    ghost Value = { C.Value };
+
+    ghost model = { C.model };
+
+    ghost is_valid = { C.is_valid };
+
+    ghost tag = { C.tag };
+
+    ghost own = { C.own };
+
+    ghost part = { counted_read (max BYTES 1) C.part };
+
+    ghost refused = { C.refused };
+
+    fn part_meta() -> TypeMeta {
+        C::part_meta()
+    }
+
+    fn prealloc_size() -> usize {
+        BYTES.max(1)
+    }
+
+    fn get_case<R: Reader<L>>(alloc: Global, reader: &mut R, given: usize) -> ReadResult<C::Dst> {
+        C::get_case::<R>(alloc, reader, given)
+    }
+
+    ghost case_laws = { counted_case_laws BYTES C.case_laws };
+}
+
+impl<L: Lending, const BYTES: usize, C: CasesRoundTrip<L>> CasesRoundTrip<L> for Counted<BYTES, C>
+where
+    C::Src: Drop,
+{
+    ghost back = { counted_back (max BYTES 1) C.back };
+}
+
+impl<L: Lending, const BYTES: usize, C: CasesOneText<L>> CasesOneText<L> for Counted<BYTES, C> {
+    ghost cases_one_text = { counted_one_text (max BYTES 1) C.cases_one_text };
+}
+
+impl<L: Lending, const BYTES: usize, C: CasesReadOwned<L>> CasesReadOwned<L> for Counted<BYTES, C> {
+    ghost cases_owned = { C.cases_owned };
 }
 
 /// The tag, where it fits the scheme.

@@ -65,7 +65,8 @@ fn add_answers(
     (krate, path): (&str, &str),
     declaration: &Declaration,
 ) -> DeriveResult<()> {
-    if let DeclaredShape::Enum { variants, .. } = &declaration.shape {
+    if let DeclaredShape::Enum(cases) = &declaration.shape {
+        let variants = cases.variants.as_slice();
         if variants
             .iter()
             .any(|variant| variant.fields.fields.len() >= 2)
@@ -76,7 +77,7 @@ fn add_answers(
             words.set("type", owned(alloc, declaration.name.as_str())?)?;
             let mut text = String::new(alloc);
             fill(&mut text, HEAD, &words)?;
-            put_answers(alloc, &mut text, variants.as_slice())?;
+            put_answers(alloc, &mut text, variants)?;
             let name = owned(alloc, declaration.name.as_str())?;
             all.push(Answers { name, text })?;
         }

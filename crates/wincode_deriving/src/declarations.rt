@@ -51,6 +51,8 @@ pub struct Declaration {
     pub name: String,
     /// What it is declared over.
     pub generics: Generics,
+    /// The type that it is the schema of, where that is another one: what `from` says.
+    pub from: Option<String>,
     pub shape: DeclaredShape,
     /// Whether it derives `Eq`.
     pub is_eq: bool,
@@ -59,10 +61,29 @@ pub struct Declaration {
     pub line: usize,
 }
 
+/// The cases of an enum.
+#[derive(Debug, Drop)]
+pub struct Cases {
+    /// The scheme of its tags.
+    pub tag: String,
+    /// What a value counts against the limit of a list, in bytes; else what the largest of the cases does.
+    pub counts: Option<usize>,
+    pub variants: Vec<Variant>,
+}
+
+impl Declaration {
+    /// The type that it is the schema of.
+    pub fn src(&self) -> &str {
+        match &self.from {
+            Some(from) => from.as_str(),
+            None => self.name.as_str(),
+        }
+    }
+}
+
 /// What is declared.
 #[derive(Debug, Drop)]
 pub enum DeclaredShape {
     Struct(Fields),
-    /// The scheme of its tags, and its cases.
-    Enum { tag: String, variants: Vec<Variant> },
+    Enum(Cases),
 }

@@ -1,10 +1,10 @@
 //! The module with the schemas of what a source file declares.
-use crate::declarations::{Declaration, DeclaredShape, Fields, Variant};
-use crate::enums::put_enum;
-use crate::error::{DeriveError, DeriveResult, unsupported};
+use crate::declarations::{Cases, Declaration, DeclaredShape, Fields, Variant};
+use crate::enums::{is_enum_key, put_enum};
+use crate::error::{DeriveError, DeriveResult};
+use crate::lent::put_lent;
 use crate::parsing::declarations_of;
 use crate::printing::{Words, fill, joined, owned, put, put_use};
-use crate::shapes::put_shape;
 use crate::structs::{has_plain, is_lawful_key, put_key, put_struct};
 use crate::tokens::tokens_of;
 use std::alloc::Global;
@@ -14,13 +14,12 @@ use std::alloc::Global;
 struct Needs {
     structs: bool,
     enums: bool,
-    shapes: bool,
+    /// Structs with borrowed fields.
+    lent: bool,
     /// Structs that are keys.
     keys: bool,
     /// Structs that are keys where their fields are.
     key_bounds: bool,
-    /// Shapes of one field.
-    alone: bool,
     /// Enums of more than one case.
     sides: bool,
     /// Which numbers of members tuples have, a bit for each.
@@ -47,33 +46,60 @@ const LAWS: [&str; 8] = [
     "vec_laws",
 ];
 
-/// The bit for so many fields, where a tuple of them has functions of its own.
-fn bit_of(fields: &Fields) -> u16 {
+/// The laws of pairs.
+const PAIRS: [&str; 4] = [
+    "write_laws_by",
+    "reads_back_by",
+    "pair_read_laws",
+    "windowed_read_laws",
+];
+
+/// Of two results that are the same, what the cases of enums that are keys need.
+const SIDES: [&str; 4] = ["ok_same", "err_same", "ok_not_err", "err_not_ok"];
+
+/// The bits for the tuples in which so many fields stand, where these have functions of their own.
+fn bits_of(count: usize) -> u16 {
+    let mut bits = 0u16;
+    let mut left = count;
+    for _ in 0..count {
+        if left <= 12 {
+            break;
+        }
+        bits |= 1u16 << 12;
+        left = left.saturating_sub(11);
+    }
     for n in 2..13u32 {
-        if fields.fields.len() == n as usize {
-            return 1u16 << n;
+        if left == n as usize {
+            bits |= 1u16 << n;
         }
     }
-    0
+    bits
 }
 
 /// The needs with those of these fields.
 fn with_members(needs: Needs, fields: &Fields) -> Needs {
-    let members = needs.members | bit_of(fields);
+    let members = needs.members | bits_of(fields.fields.len());
     Needs { members, ..needs }
-}
-
-fn with_variants(needs: Needs, variants: &[Variant]) -> Needs {
-    let mut all = needs;
-    for variant in variants {
-        all = with_members(all, &variant.fields);
-    }
-    all
 }
 
 /// Whether a struct has fields, and is compared by them.
 fn is_key(declaration: &Declaration, fields: &Fields) -> bool {
-    declaration.is_eq && declaration.generics.lifetime.is_none() && !fields.fields.is_empty()
+    declaration.is_eq
+        && declaration.from.is_none()
+        && declaration.generics.lifetime.is_none()
+        && !fields.fields.is_empty()
+}
+
+/// The needs with those of an enum.
+fn with_cases(needs: Needs, declaration: &Declaration, cases: &Cases) -> Needs {
+    let mut all = needs;
+    for variant in cases.variants.as_slice() {
+        all = with_members(all, &variant.fields);
+    }
+    all.enums = true;
+    all.sides = all.sides || cases.variants.len() > 1;
+    all.keys = all.keys || is_enum_key(declaration, cases);
+    all
 }
 
 /// What all declarations need.
@@ -81,10 +107,9 @@ fn needs_of(declarations: &[Declaration]) -> Needs {
     let mut needs = Needs {
         structs: false,
         enums: false,
-        shapes: false,
+        lent: false,
         keys: false,
         key_bounds: false,
-        alone: false,
         sides: false,
         members: 0,
         plain: 0,
@@ -92,22 +117,21 @@ fn needs_of(declarations: &[Declaration]) -> Needs {
     for declaration in declarations {
         match &declaration.shape {
             DeclaredShape::Struct(fields) => {
-                let is_shape = declaration.generics.lifetime.is_some();
+                let is_lent = declaration.generics.lifetime.is_some();
                 needs = with_members(needs, fields);
-                needs.shapes = needs.shapes || is_shape;
-                needs.alone = needs.alone || (is_shape && fields.fields.len() == 1);
-                needs.structs = needs.structs || !is_shape;
+                needs.lent = needs.lent || is_lent;
+                needs.structs = needs.structs || !is_lent;
                 let is_lawful = is_lawful_key(declaration, fields);
                 needs.keys = needs.keys || is_key(declaration, fields);
                 needs.key_bounds = needs.key_bounds || (is_key(declaration, fields) && !is_lawful);
-                let is_plain = !is_shape && has_plain(fields);
-                needs.plain |= if is_plain { bit_of(fields) } else { 0 };
+                let is_plain = !is_lent && has_plain(fields);
+                needs.plain |= if is_plain {
+                    bits_of(fields.fields.len())
+                } else {
+                    0
+                };
             }
-            DeclaredShape::Enum { variants, .. } => {
-                needs = with_variants(needs, variants.as_slice());
-                needs.enums = true;
-                needs.sides = needs.sides || variants.len() > 1;
-            }
+            DeclaredShape::Enum(cases) => needs = with_cases(needs, declaration, cases),
         }
     }
     needs
@@ -121,14 +145,31 @@ fn add(alloc: Global, names: &mut Vec<String>, name: &str, is_needed: bool) -> D
     Ok(())
 }
 
-/// Appends the line that brings in the cases of an enum, by names with that of the enum in front.
+/// Where the checker has what a type is, that stands in this module or, by its path, elsewhere.
+fn declared_at(alloc: Global, (krate, path): (&str, &str), src: &str) -> DeriveResult<String> {
+    let mut out = String::from_str(alloc, "Rattle.")?;
+    match src.split_once("::") {
+        None => put(&mut out, &[krate, ".specs.declared.", path, src])?,
+        Some((first, rest)) => {
+            let first = if first == "crate" { krate } else { first };
+            put(&mut out, &[first, ".specs.declared"])?;
+            for word in rest.split("::") {
+                put(&mut out, &[".", word])?;
+            }
+        }
+    }
+    Ok(out)
+}
+
+/// Appends the line that brings in the cases of an enum, by names with that of the schema in front.
 fn put_cases(
     alloc: Global,
     out: &mut String,
-    (krate, path): (&str, &str),
-    name: &str,
+    place: (&str, &str),
+    declaration: &Declaration,
     variants: &[Variant],
 ) -> DeriveResult<()> {
+    let name = declaration.name.as_str();
     let mut cases = String::new(alloc);
     for (i, variant) in variants.iter().enumerate() {
         if i > 0 {
@@ -139,12 +180,20 @@ fn put_cases(
             &[variant.name.as_str(), " as ", name, variant.name.as_str()],
         )?;
     }
-    let begin = ["ghost use Rattle.", krate, ".specs.declared.", path, name];
-    put(out, &begin)?;
+    let module = declared_at(alloc, place, declaration.src())?;
+    put(out, &["ghost use ", module.as_str()])?;
     put(out, &[".TheVariants.{", cases.as_str(), "};\n"])
 }
 
-/// Appends the lines that bring in the laws of the order of a struct that is a key, and of its `==`.
+/// Whether its order and its `==` are those of a key.
+fn is_ordered_key(declaration: &Declaration) -> bool {
+    match &declaration.shape {
+        DeclaredShape::Struct(fields) => is_lawful_key(declaration, fields),
+        DeclaredShape::Enum(cases) => is_enum_key(declaration, cases),
+    }
+}
+
+/// Appends the lines that bring in the laws of the order of a type that is a key, and of its `==`.
 fn put_orders(
     alloc: Global,
     out: &mut String,
@@ -152,30 +201,50 @@ fn put_orders(
     declarations: &[Declaration],
 ) -> DeriveResult<()> {
     for declaration in declarations {
-        if let DeclaredShape::Struct(fields) = &declaration.shape {
-            if is_lawful_key(declaration, fields) {
-                let mut words = Words::new(alloc);
-                words.set("crate", owned(alloc, krate)?)?;
-                words.set("path", owned(alloc, path)?)?;
-                words.set("type", owned(alloc, declaration.name.as_str())?)?;
-                fill(out, ORDERS, &words)?;
-            }
+        if is_ordered_key(declaration) {
+            let mut words = Words::new(alloc);
+            words.set("crate", owned(alloc, krate)?)?;
+            words.set("path", owned(alloc, path)?)?;
+            words.set("type", owned(alloc, declaration.name.as_str())?)?;
+            fill(out, ORDERS, &words)?;
         }
     }
     Ok(())
 }
 
-/// Appends the laws of parts that the schemas name.
-fn put_laws(alloc: Global, out: &mut String, body: &str) -> DeriveResult<()> {
-    let mut names = Vec::new(alloc);
-    for name in LAWS {
-        let word = format!(in alloc; "({name} ")?;
-        add(alloc, &mut names, name, body.contains(word.as_str()))?;
+/// Appends the import of those of these names that stand in the module's body, each with this before it.
+fn put_ghosts(
+    alloc: Global,
+    out: &mut String,
+    (module, names): (&str, &[&str]),
+    (before, body): (&str, &str),
+) -> DeriveResult<()> {
+    let mut found = Vec::new(alloc);
+    for name in names {
+        let word = format!(in alloc; "{before}{name} ")?;
+        add(alloc, &mut found, *name, body.contains(word.as_str()))?;
     }
+    if !found.is_empty() {
+        let list = joined(alloc, found.as_slice(), ", ")?;
+        put(
+            out,
+            &["ghost use Rattle.", module, ".{", list.as_str(), "};\n"],
+        )?;
+    }
+    Ok(())
+}
+
+/// Appends the import of what results and keys are made of.
+fn put_prelude(alloc: Global, out: &mut String, needs: Needs, body: &str) -> DeriveResult<()> {
+    let mut names = Vec::new(alloc);
+    add(alloc, &mut names, "◌≡◌", needs.lent)?;
+    add(alloc, &mut names, "Ok", needs.sides)?;
+    add(alloc, &mut names, "Err", needs.sides)?;
+    add(alloc, &mut names, "refl", body.contains("λ e. refl"))?;
     if !names.is_empty() {
         let list = joined(alloc, names.as_slice(), ", ")?;
-        let begin = "ghost use Rattle.wincode_derived.specs.PartLaws.{";
-        put(out, &[begin, list.as_str(), "};\n"])?;
+        let module = "ghost use Rattle.std.specs.Prelude.{";
+        put(out, &[module, list.as_str(), "};\n"])?;
     }
     Ok(())
 }
@@ -188,25 +257,20 @@ fn put_ghost_uses(
     needs: Needs,
     declarations: &[Declaration],
 ) -> DeriveResult<()> {
-    if needs.shapes {
-        out.push_str("ghost use Rattle.std.proofs.Common.{ap};\n")?;
+    put_prelude(alloc, out, needs, body)?;
+    if needs.lent {
+        out.push_str("ghost use Rattle.wincode_base.specs.Outcomes.{ReadOutcome};\n")?;
     }
-    if needs.sides {
-        out.push_str("ghost use Rattle.std.specs.Prelude.{Ok, Err};\n")?;
-    }
-    if needs.structs || needs.enums {
-        out.push_str("ghost use Rattle.wincode_base.specs.PairLaws.{write_laws_by, reads_back_by")?;
-        if body.contains("(pair_read_laws ") {
-            out.push_str(", pair_read_laws, windowed_read_laws")?;
-        }
-        out.push_str("};\n")?;
-    }
-    put_laws(alloc, out, body)?;
+    let pairs = ("wincode_base.specs.PairLaws", PAIRS.as_slice());
+    put_ghosts(alloc, out, pairs, ("", body))?;
+    let sides = ("wincode_derived.specs.Keys", SIDES.as_slice());
+    put_ghosts(alloc, out, sides, ("", body))?;
+    let laws = ("wincode_derived.specs.PartLaws", LAWS.as_slice());
+    put_ghosts(alloc, out, laws, ("(", body))?;
     put_orders(alloc, out, place, declarations)?;
     for declaration in declarations {
-        if let DeclaredShape::Enum { variants, .. } = &declaration.shape {
-            let name = declaration.name.as_str();
-            put_cases(alloc, out, place, name, variants.as_slice())?;
+        if let DeclaredShape::Enum(cases) = &declaration.shape {
+            put_cases(alloc, out, place, declaration, cases.variants.as_slice())?;
         }
     }
     Ok(())
@@ -236,37 +300,64 @@ fn put_members(alloc: Global, out: &mut String, needs: Needs) -> DeriveResult<()
     put_use(alloc, out, "wincode::schema::tuples", names.as_slice())
 }
 
+/// Appends what the code of the module names of readers and writers.
+fn put_io(alloc: Global, out: &mut String, needs: Needs) -> DeriveResult<()> {
+    let mut names = Vec::new(alloc);
+    add(alloc, &mut names, "Lending", needs.structs || needs.enums)?;
+    add(alloc, &mut names, "Lifetime", needs.lent)?;
+    add(alloc, &mut names, "Reader", true)?;
+    add(alloc, &mut names, "Writer", true)?;
+    put_use(alloc, out, "wincode::io", names.as_slice())
+}
+
 /// Appends what the code of the module names.
 fn put_uses(alloc: Global, out: &mut String, needs: Needs, body: &str) -> DeriveResult<()> {
-    let reads = needs.structs || needs.enums;
-    out.push_str("\nuse super::*;\n")?;
-    if reads {
-        out.push_str("use std::alloc::Global;\nuse wincode::io::{Lending, Reader, Writer};\n")?;
-    } else {
-        out.push_str("use wincode::io::Writer;\n")?;
-    }
+    out.push_str("\nuse super::*;\nuse std::alloc::Global;\n")?;
+    put_io(alloc, out, needs)?;
     if body.contains(" as SeqLen>") {
         out.push_str("use wincode::len::SeqLen;\n")?;
     }
     put_members(alloc, out, needs)?;
     let mut names = Vec::new(alloc);
     add(alloc, &mut names, "Key", needs.keys)?;
-    add(alloc, &mut names, "OneText", reads)?;
-    add(alloc, &mut names, "ReadResult", reads)?;
-    add(alloc, &mut names, "RoundTrip", reads)?;
-    add(alloc, &mut names, "SchemaGet", needs.structs)?;
-    add(alloc, &mut names, "SchemaRead", reads)?;
-    add(alloc, &mut names, "SchemaReadOwned", reads)?;
-    add(alloc, &mut names, "SchemaWrite", reads || needs.alone)?;
-    add(alloc, &mut names, "Shape", needs.shapes)?;
-    add(alloc, &mut names, "TypeMeta", reads)?;
+    add(alloc, &mut names, "OneText", true)?;
+    add(alloc, &mut names, "ReadResult", true)?;
+    add(alloc, &mut names, "RoundTrip", true)?;
+    add(alloc, &mut names, "SchemaGet", body.contains("SchemaGet<"))?;
+    add(alloc, &mut names, "SchemaRead", true)?;
+    add(
+        alloc,
+        &mut names,
+        "SchemaReadOwned",
+        needs.structs || needs.enums,
+    )?;
+    add(alloc, &mut names, "SchemaWrite", true)?;
+    add(alloc, &mut names, "TypeMeta", true)?;
     add(alloc, &mut names, "WriteResult", true)?;
     put_use(alloc, out, "wincode", names.as_slice())?;
-    if needs.enums {
-        out.push_str(
-            "use wincode_derived::enums::{EnumParts, EnumShape, read_enum, size_of_enum, write_enum};\n",
-        )?;
-    }
+    put_derived_uses(alloc, out, needs, body)
+}
+
+/// Appends what the module names of `wincode_derived`.
+fn put_derived_uses(alloc: Global, out: &mut String, needs: Needs, body: &str) -> DeriveResult<()> {
+    let reads = needs.structs || needs.enums;
+    let mut names = Vec::new(alloc);
+    add(
+        alloc,
+        &mut names,
+        "EnumParts",
+        body.contains("EnumParts for"),
+    )?;
+    add(alloc, &mut names, "EnumShape", needs.enums)?;
+    add(
+        alloc,
+        &mut names,
+        "read_enum",
+        body.contains("read_enum::<"),
+    )?;
+    add(alloc, &mut names, "size_of_enum", needs.enums)?;
+    add(alloc, &mut names, "write_enum", needs.enums)?;
+    put_use(alloc, out, "wincode_derived::enums", names.as_slice())?;
     if body.contains("LawfulKey<L>") {
         out.push_str("use wincode_derived::keys::LawfulKey;\n")?;
     }
@@ -276,8 +367,12 @@ fn put_uses(alloc: Global, out: &mut String, needs: Needs, body: &str) -> Derive
     add(alloc, &mut names, "FieldsReadOwned", reads)?;
     add(alloc, &mut names, "Lawful", reads)?;
     put_use(alloc, out, "wincode_derived::laws", names.as_slice())?;
+    if needs.lent {
+        out.push_str("use wincode_derived::lent::Lends;\n")?;
+    }
     let mut names = Vec::new(alloc);
     add(alloc, &mut names, "Case", needs.sides)?;
+    add(alloc, &mut names, "Counted", body.contains("Counted<"))?;
     add(alloc, &mut names, "Last", needs.enums)?;
     add(alloc, &mut names, "OneOf", needs.enums)?;
     put_use(alloc, out, "wincode_derived::sums", names.as_slice())
@@ -287,14 +382,8 @@ fn put_uses(alloc: Global, out: &mut String, needs: Needs, body: &str) -> Derive
 fn put_schema(alloc: Global, out: &mut String, declaration: &Declaration) -> DeriveResult<()> {
     let name = declaration.name.as_str();
     match (&declaration.shape, &declaration.generics.lifetime) {
-        (DeclaredShape::Struct(fields), Some(_)) if fields.fields.is_empty() => {
-            Err(unsupported(
-                declaration.line,
-                "a struct without fields that has a lifetime",
-            ))
-        }
         (DeclaredShape::Struct(fields), Some(lifetime)) => {
-            put_shape(alloc, out, name, lifetime.as_str(), fields)
+            put_lent(alloc, out, (declaration, lifetime.as_str()), fields)
         }
         (DeclaredShape::Struct(fields), None) => {
             put_struct(alloc, out, declaration, fields)?;
@@ -303,9 +392,7 @@ fn put_schema(alloc: Global, out: &mut String, declaration: &Declaration) -> Der
             }
             Ok(())
         }
-        (DeclaredShape::Enum { tag, variants }, _) => {
-            put_enum(alloc, out, name, tag.as_str(), variants.as_slice())
-        }
+        (DeclaredShape::Enum(cases), _) => put_enum(alloc, out, declaration, cases),
     }
 }
 

@@ -1,5 +1,7 @@
 //! The declarations of a source file.
-use crate::declarations::{Declaration, DeclaredShape, Field, Fields, Generics, Naming, Variant};
+use crate::declarations::{
+    Cases, Declaration, DeclaredShape, Field, Fields, Generics, Naming, Variant,
+};
 use crate::error::{DeriveResult, malformed, unsupported};
 use crate::tokens::{Kind, Token};
 use std::alloc::Global;
@@ -10,6 +12,8 @@ struct Head {
     with: Option<String>,
     tag: Option<usize>,
     tag_encoding: Option<String>,
+    from: Option<String>,
+    counts: Option<usize>,
     /// Whether `Eq` is derived.
     is_eq: bool,
     /// Whether `Ord` is derived.
@@ -83,6 +87,14 @@ pub fn end_of_part(tokens: &[Token], from: usize, to: usize) -> usize {
     to
 }
 
+/// The number that a comment line says.
+fn number_of(note: &Token, value: &str, what: &'static str) -> DeriveResult<usize> {
+    match value.trim().parse::<usize>() {
+        Ok(number) => Ok(number),
+        Err(_) => Err(malformed(note.line, what)),
+    }
+}
+
 /// Takes what a comment line says.
 fn take_note(alloc: Global, note: &Token, head: &mut Head) -> DeriveResult<()> {
     let Some((word, value)) = note.text.split_once('=') else {
@@ -91,14 +103,13 @@ fn take_note(alloc: Global, note: &Token, head: &mut Head) -> DeriveResult<()> {
     match word.trim() {
         "with" => head.with = Some(String::from_str(alloc, value.trim())?),
         "tag_encoding" => head.tag_encoding = Some(String::from_str(alloc, value.trim())?),
-        "tag" => match value.trim().parse::<usize>() {
-            Ok(tag) => head.tag = Some(tag),
-            Err(_) => return Err(malformed(note.line, "a tag is a number")),
-        },
+        "from" => head.from = Some(String::from_str(alloc, value.trim())?),
+        "tag" => head.tag = Some(number_of(note, value, "a tag is a number")?),
+        "counts" => head.counts = Some(number_of(note, value, "what a value counts is a number")?),
         _ => {
             return Err(malformed(
                 note.line,
-                "`wincode:` knows `with`, `tag` and `tag_encoding`",
+                "`wincode:` knows `with`, `tag`, `tag_encoding`, `counts` and `from`",
             ));
         }
     }
@@ -121,6 +132,8 @@ fn head_of(alloc: Global, tokens: &[Token], from: usize, to: usize) -> DeriveRes
         with: None,
         tag: None,
         tag_encoding: None,
+        from: None,
+        counts: None,
         is_eq: false,
         is_ord: false,
         at: from,
@@ -269,9 +282,6 @@ fn fields_at(
         fields.push(field_of(alloc, owner, tokens, (at, end), place)?)?;
         at = next(end);
     }
-    if fields.len() > 12 {
-        return Err(unsupported(line_at(tokens, open), "more than 12 fields"));
-    }
     Ok((Fields { naming, fields }, next(close)))
 }
 
@@ -300,6 +310,12 @@ fn variant_of(
     }
     let name = String::from_str(alloc, text_at(tokens, head.at))?;
     let (fields, end) = fields_at(alloc, owner, tokens, next(head.at))?;
+    if fields.fields.len() > 12 {
+        return Err(unsupported(
+            line_at(tokens, head.at),
+            "a case of more than 12 fields: give it a struct of its own",
+        ));
+    }
     if end < to {
         return Err(unsupported(
             line_at(tokens, end),
@@ -377,6 +393,28 @@ fn generics_at(alloc: Global, tokens: &[Token], open: usize) -> DeriveResult<(Ge
     Ok((generics, next(close)))
 }
 
+/// An enum's cases, with what its head says of them.
+fn cases_at(
+    alloc: Global,
+    tokens: &[Token],
+    (head, owner): (&Head, &str),
+    (open, line): (usize, usize),
+) -> DeriveResult<Cases> {
+    let tag = match &head.tag_encoding {
+        Some(encoding) => String::from_str(alloc, encoding.as_str())?,
+        None => String::from_str(alloc, "u32")?,
+    };
+    let Some(greatest) = greatest_tag(tag.as_str()) else {
+        return Err(unsupported(line, "a tag that is no u8, u16, u32 or u64"));
+    };
+    let variants = variants_at(alloc, owner, tokens, open, greatest)?;
+    Ok(Cases {
+        tag,
+        counts: head.counts,
+        variants,
+    })
+}
+
 /// The struct or enum whose keyword stands there.
 fn declaration_at(
     alloc: Global,
@@ -387,26 +425,29 @@ fn declaration_at(
     let line = line_at(tokens, keyword);
     let name = String::from_str(alloc, text_at(tokens, next(keyword)))?;
     let (generics, open) = generics_at(alloc, tokens, next(next(keyword)))?;
+    let has_parameters = generics.lifetime.is_some() || !generics.parameters.is_empty();
     let shape = if text_at(tokens, keyword) == "struct" {
         let (fields, _) = fields_at(alloc, name.as_str(), tokens, open)?;
-        DeclaredShape::Struct(fields)
-    } else {
-        let tag = match &head.tag_encoding {
-            Some(encoding) => String::from_str(alloc, encoding.as_str())?,
-            None => String::from_str(alloc, "u32")?,
-        };
-        let Some(greatest) = greatest_tag(tag.as_str()) else {
-            return Err(unsupported(line, "a tag that is no u8, u16, u32 or u64"));
-        };
-        if generics.lifetime.is_some() || !generics.parameters.is_empty() {
-            return Err(unsupported(line, "an enum with parameters"));
+        if has_parameters && fields.fields.len() > 12 {
+            return Err(unsupported(line, "more than 12 fields beside parameters"));
         }
-        let variants = variants_at(alloc, name.as_str(), tokens, open, greatest)?;
-        DeclaredShape::Enum { tag, variants }
+        DeclaredShape::Struct(fields)
+    } else if has_parameters {
+        return Err(unsupported(line, "an enum with parameters"));
+    } else {
+        DeclaredShape::Enum(cases_at(alloc, tokens, (head, name.as_str()), (open, line))?)
+    };
+    if has_parameters && head.from.is_some() {
+        return Err(unsupported(line, "parameters of a type that is the schema of another"));
+    }
+    let from = match &head.from {
+        Some(from) => Some(String::from_str(alloc, from.as_str())?),
+        None => None,
     };
     Ok(Declaration {
         name,
         generics,
+        from,
         shape,
         is_eq: head.is_eq,
         is_ord: head.is_ord,

@@ -39,6 +39,11 @@ const ENCODING: &str = "    #[inline(always)]
 
 ";
 
+const REST: &str = "
+/// The fields from the @place@th on.
+struct @self@;
+";
+
 const READING: &str = "
 impl@reads@ SchemaRead<L> for @self@ {
     type Dst = @dst@;
@@ -92,6 +97,25 @@ const GET_BY_ARMS: &str = "        match <@fields@ as SchemaGet<L>>::get(alloc, 
             }
             Err(error) => Err(error),
         }
+";
+
+/// The same of more fields than a tuple has: their tuple is nested, and what the struct is of it is proved by itself.
+const GET_PARTS: &str = "        read_enum::<L, @fields@, @self@, R>(alloc, reader, dst)
+";
+
+const PARTS: &str = "
+impl EnumParts for @self@ {
+    type Src = @src@;
+
+    type Parts = @types@;
+
+    ghost parts = { λ x. @values@ };
+
+    fn make(made_of: Self::Parts) -> @src@ {
+        let @bound_fields@ = made_of;
+        @made@
+    }
+}
 ";
 
 const DECODING: &str = "    #[inline(always)]
@@ -226,6 +250,9 @@ const KEYS: [&str; 15] = [
     "char", "String",
 ];
 
+/// How many fields stand in a tuple before what stands for the others.
+const EACH: usize = 11;
+
 /// A letter for a place.
 fn letter_of(place: usize) -> char {
     match "abcdefghijkm".chars().nth(place) {
@@ -244,6 +271,9 @@ pub fn binding(alloc: Global, naming: Naming, place: usize, field: &Field) -> De
     if naming == Naming::Named {
         return owned(alloc, name);
     }
+    if place >= 12 {
+        return Ok(format!(in alloc; "n{place}")?);
+    }
     let mut name = String::new(alloc);
     name.push(letter_of(place))?;
     Ok(name)
@@ -258,15 +288,61 @@ pub fn bindings(alloc: Global, fields: &Fields) -> DeriveResult<Vec<String>> {
     Ok(names)
 }
 
-/// One text, or several in brackets.
+/// One text, or several in brackets. Of more than 12 the last in the brackets stands for all from the 12th on, in
+/// brackets of their own.
 pub fn tuple_of(alloc: Global, texts: &[String]) -> DeriveResult<String> {
-    let inside = joined(alloc, texts, ", ")?;
-    if texts.len() == 1 {
-        return Ok(inside);
-    }
     let mut out = String::new(alloc);
-    put(&mut out, &["(", inside.as_str(), ")"])?;
+    if texts.len() == 1 {
+        return joined(alloc, texts, ", ");
+    }
+    out.push('(')?;
+    let mut depth = 1usize;
+    for (i, text) in texts.iter().enumerate() {
+        if i > 0 {
+            out.push_str(", ")?;
+        }
+        if i > 0 && i % EACH == 0 && texts.len().saturating_sub(i) > 1 {
+            out.push('(')?;
+            depth = depth.saturating_add(1);
+        }
+        out.push_str(text.as_str())?;
+    }
+    for _ in 0..depth {
+        out.push(')')?;
+    }
     Ok(out)
+}
+
+/// Some of a struct's fields, and the schema of those behind them, or none.
+#[derive(Drop)]
+pub struct Group {
+    pub from: usize,
+    pub to: usize,
+    pub rest: String,
+}
+
+/// The fields as their tuples have them: each but the last has a schema for those behind its own, which is named by
+/// the place of the first of these, counted from 1.
+pub fn groups_of(alloc: Global, name: &str, count: usize) -> DeriveResult<Vec<Group>> {
+    let mut groups = Vec::new(alloc);
+    let mut from = 0usize;
+    for _ in 0..count {
+        let to = from.saturating_add(EACH);
+        if count.saturating_sub(from) <= EACH.saturating_add(1) {
+            break;
+        }
+        let place = to.saturating_add(1);
+        let rest = format!(in alloc; "{name}From{place}")?;
+        groups.push(Group { from, to, rest })?;
+        from = to;
+    }
+    let rest = String::new(alloc);
+    groups.push(Group {
+        from,
+        to: count,
+        rest,
+    })?;
+    Ok(groups)
 }
 
 /// The schemas of fields.
@@ -381,15 +457,28 @@ pub fn read_head(alloc: Global, name: &str) -> DeriveResult<String> {
     Ok(out)
 }
 
-/// A call of a function of the schema of fields, on a line of its own.
+/// The texts of the fields of a group.
+fn part_of(alloc: Global, texts: Vec<String>, group: &Group) -> DeriveResult<Vec<String>> {
+    let mut part = Vec::new(alloc);
+    for text in texts.iter().take(group.to).skip(group.from) {
+        part.push(owned(alloc, text.as_str())?)?;
+    }
+    Ok(part)
+}
+
+/// A call of a function of the schema of these fields, on a line of its own.
 fn call_of(
     alloc: Global,
     (function, more): (&str, &str),
     (before, after): (&[&str], &[&str]),
-    fields: &Fields,
+    (fields, group): (&Fields, &Group),
 ) -> DeriveResult<String> {
-    let schemas = schemas_of(alloc, fields)?;
-    let names = named_fields(alloc, "&src.", fields)?;
+    let mut schemas = part_of(alloc, schemas_of(alloc, fields)?, group)?;
+    let mut names = part_of(alloc, named_fields(alloc, "&src.", fields)?, group)?;
+    if !group.rest.is_empty() {
+        schemas.push(owned(alloc, group.rest.as_str())?)?;
+        names.push(owned(alloc, "src")?)?;
+    }
     let function = of_members(alloc, function, schemas.as_slice(), more)?;
     let mut arguments = members(alloc, before, names.as_slice())?;
     for text in after {
@@ -401,13 +490,13 @@ fn call_of(
     Ok(out)
 }
 
-/// The tuple of the fields of `x`.
-fn values_of(alloc: Global, fields: &Fields) -> DeriveResult<String> {
+/// The tuple of the fields of `x` from this place on.
+pub fn values_of(alloc: Global, fields: &Fields, from: usize) -> DeriveResult<String> {
     if fields.fields.is_empty() {
         return owned(alloc, "tt");
     }
     let values = named_fields(alloc, "x.", fields)?;
-    tuple_of(alloc, values.as_slice())
+    tuple_of(alloc, &values.as_slice()[from.min(values.len())..])
 }
 
 /// What takes the fields that were read.
@@ -422,7 +511,7 @@ fn bind_of(alloc: Global, fields: &Fields) -> DeriveResult<String> {
 }
 
 /// One text, or several as pairs in pairs.
-fn pairs_of_all(alloc: Global, texts: &[String]) -> DeriveResult<String> {
+pub fn pairs_of_all(alloc: Global, texts: &[String]) -> DeriveResult<String> {
     let mut out = String::new(alloc);
     for (i, text) in texts.iter().enumerate() {
         if i.saturating_add(1) < texts.len() {
@@ -493,17 +582,23 @@ fn is_plain_key(schema: &str) -> bool {
     KEYS.iter().any(|known| *known == name)
 }
 
+/// Whether all fields are keys by their names.
+pub fn are_plain_keys(fields: &Fields) -> bool {
+    fields
+        .fields
+        .iter()
+        .all(|field| is_plain_key(field.schema.as_str()))
+}
+
 /// Whether a struct is a key of maps that stand in other structs, by its name.
 pub fn is_lawful_key(declaration: &Declaration, fields: &Fields) -> bool {
     declaration.is_ord
         && declaration.is_eq
+        && declaration.from.is_none()
         && declaration.generics.parameters.is_empty()
         && declaration.generics.lifetime.is_none()
         && !fields.fields.is_empty()
-        && fields
-            .fields
-            .iter()
-            .all(|field| is_plain_key(field.schema.as_str()))
+        && are_plain_keys(fields)
 }
 
 /// The checker's name for the bound on the fields in an `impl` of a marker: that of a parameter by itself is its own,
@@ -540,15 +635,17 @@ fn drops_of(alloc: Global, generics: &Generics, bound: &str) -> DeriveResult<Str
 }
 
 /// The words of a type's name and of what it is declared over.
-fn name_words(alloc: Global, name: &str, generics: &Generics) -> DeriveResult<Words> {
+fn name_words(alloc: Global, declaration: &Declaration) -> DeriveResult<Words> {
     let mut words = Words::new(alloc);
+    let name = declaration.name.as_str();
+    let generics = &declaration.generics;
     let fields = format!(in alloc; "{name}Fields")?;
     let pairs = format!(in alloc; "{name}Pairs")?;
     let lending = "L: Lending";
     words.set("type", owned(alloc, name)?)?;
     words.set("self", applied(alloc, name, generics, "")?)?;
-    words.set("src", applied(alloc, name, generics, "::Src")?)?;
-    words.set("dst", applied(alloc, name, generics, "::Dst")?)?;
+    words.set("src", applied(alloc, declaration.src(), generics, "::Src")?)?;
+    words.set("dst", applied(alloc, declaration.src(), generics, "::Dst")?)?;
     words.set("fields", applied(alloc, fields.as_str(), generics, "")?)?;
     words.set("pairs", applied(alloc, pairs.as_str(), generics, "")?)?;
     words.set("writes", over(alloc, "", generics, "SchemaWrite")?)?;
@@ -576,7 +673,7 @@ fn bound_of(alloc: Global, generics: &Generics, values: &str) -> DeriveResult<St
 }
 
 /// The types of fields.
-fn types_of(alloc: Global, fields: &Fields) -> DeriveResult<Vec<String>> {
+pub fn types_of(alloc: Global, fields: &Fields) -> DeriveResult<Vec<String>> {
     let mut values = Vec::new(alloc);
     for field in fields.fields.as_slice() {
         values.push(owned(alloc, field.value.as_str())?)?;
@@ -607,14 +704,14 @@ pub fn put_key(
     let values = pairs_of_all(alloc, values.as_slice())?;
     let one = named_fields(alloc, "x.", fields)?;
     let other = named_fields(alloc, "y.", fields)?;
-    let mut words = name_words(alloc, declaration.name.as_str(), generics)?;
+    let mut words = name_words(alloc, declaration)?;
     let schemas = pairs_of_all(alloc, schemas.as_slice())?;
     words.set(
         "evidence",
         evidence_of(alloc, generics, schemas.as_str(), 4)?,
     )?;
     words.set("schemas", schemas)?;
-    words.set("values", values_of(alloc, fields)?)?;
+    words.set("values", values_of(alloc, fields, 0)?)?;
     words.set("one", pairs_of_all(alloc, one.as_slice())?)?;
     words.set("other", pairs_of_all(alloc, other.as_slice())?)?;
     words.set("drops", drops_of(alloc, generics, "Drop + Eq")?)?;
@@ -627,50 +724,53 @@ pub fn put_key(
     fill(out, template, &words)
 }
 
-/// Sets the words of a struct's functions.
-fn set_calls(alloc: Global, words: &mut Words, name: &str, fields: &Fields) -> DeriveResult<()> {
-    words.set("size", call_of(alloc, ("size_of", ""), (&[], &[]), fields)?)?;
-    words.set(
-        "write",
-        call_of(alloc, ("write", "W"), (&["writer"], &[]), fields)?,
-    )?;
-    words.set(
-        "encode",
-        call_of(alloc, ("encode", ""), (&[], &["dst"]), fields)?,
-    )?;
-    words.set("bind", bind_of(alloc, fields)?)?;
-    words.set("made", made_of(alloc, name, fields)?)
-}
-
-/// Sets the word of how a struct is read.
-fn set_read(
+/// Sets the words of how these fields are sized and written.
+pub fn set_calls(
     alloc: Global,
     words: &mut Words,
-    generics: &Generics,
-    fields: &Fields,
+    of: (&Fields, &Group),
+    is_plain: bool,
 ) -> DeriveResult<()> {
+    let size = ("size_of", "");
+    let write = ("write", "W");
+    let encode = ("encode", "");
+    words.set("size", call_of(alloc, size, (&[], &[]), of)?)?;
+    words.set("write", call_of(alloc, write, (&["writer"], &[]), of)?)?;
+    words.set("encode", call_of(alloc, encode, (&[], &["dst"]), of)?)?;
+    let mut encoding = String::new(alloc);
+    if is_plain {
+        fill(&mut encoding, ENCODING, words)?;
+    }
+    words.set("encoding", encoding)
+}
+
+/// Sets the words of how a struct is read.
+fn set_read(alloc: Global, words: &mut Words, of: (&Declaration, &Fields)) -> DeriveResult<()> {
+    let (declaration, fields) = of;
     let names = bindings(alloc, fields)?;
     words.set("bound_fields", tuple_of(alloc, names.as_slice())?)?;
-    let template = if generics.parameters.is_empty() {
+    words.set("bind", bind_of(alloc, fields)?)?;
+    words.set("made", made_of(alloc, declaration.src(), fields)?)?;
+    let template = if is_long(fields) {
+        GET_PARTS
+    } else if declaration.generics.parameters.is_empty() {
         GET
     } else {
         GET_BY_ARMS
     };
     let mut read = String::new(alloc);
     fill(&mut read, template, words)?;
-    words.set("read", read)
-}
-
-/// Sets the words of the plain ways of reading and writing, where the fields may have them.
-fn set_plain(alloc: Global, words: &mut Words, fields: &Fields) -> DeriveResult<()> {
-    let mut encoding = String::new(alloc);
+    words.set("read", read)?;
     let mut decoding = String::new(alloc);
-    if has_plain(fields) {
-        fill(&mut encoding, ENCODING, words)?;
+    if has_plain(fields) && !is_long(fields) {
         fill(&mut decoding, DECODING, words)?;
     }
-    words.set("encoding", encoding)?;
     words.set("decoding", decoding)
+}
+
+/// Whether there are more fields than a tuple has.
+fn is_long(fields: &Fields) -> bool {
+    fields.fields.len() > EACH.saturating_add(1)
 }
 
 /// Whether a struct has fields, and all of one size, as far as their names say.
@@ -682,6 +782,38 @@ pub fn has_plain(fields: &Fields) -> bool {
             .all(|field| may_have_one_size(field.schema.as_str()))
 }
 
+/// Appends the schemas that stand for the fields behind those of the first group.
+fn put_rests(
+    alloc: Global,
+    out: &mut String,
+    declaration: &Declaration,
+    fields: &Fields,
+) -> DeriveResult<()> {
+    let groups = groups_of(alloc, declaration.name.as_str(), fields.fields.len())?;
+    let mut name = "";
+    for group in groups.as_slice() {
+        if !name.is_empty() {
+            let place = group.from.saturating_add(1);
+            let schemas = schemas_of(alloc, fields)?;
+            let mut words = Words::new(alloc);
+            words.set("place", format!(in alloc; "{place}")?)?;
+            words.set("self", owned(alloc, name)?)?;
+            words.set("fields", format!(in alloc; "{name}Fields")?)?;
+            words.set("src", owned(alloc, declaration.src())?)?;
+            words.set(
+                "schemas",
+                tuple_of(alloc, &schemas.as_slice()[group.from.min(schemas.len())..])?,
+            )?;
+            words.set("values", values_of(alloc, fields, group.from)?)?;
+            set_calls(alloc, &mut words, (fields, group), has_plain(fields))?;
+            fill(out, REST, &words)?;
+            fill(out, WRITING, &words)?;
+        }
+        name = group.rest.as_str();
+    }
+    Ok(())
+}
+
 /// Appends the schema of a struct.
 pub fn put_struct(
     alloc: Global,
@@ -689,28 +821,34 @@ pub fn put_struct(
     declaration: &Declaration,
     fields: &Fields,
 ) -> DeriveResult<()> {
-    let name = declaration.name.as_str();
     let generics = &declaration.generics;
     let schemas = schemas_of(alloc, fields)?;
     let schemas = tuple_of(alloc, schemas.as_slice())?;
     let types = types_of(alloc, fields)?;
     let types = tuple_of(alloc, types.as_slice())?;
-    let dst = applied(alloc, name, generics, "::Dst")?;
-    let mut words = name_words(alloc, name, generics)?;
+    let dst = applied(alloc, declaration.src(), generics, "::Dst")?;
+    let groups = groups_of(alloc, declaration.name.as_str(), fields.fields.len())?;
+    let mut words = name_words(alloc, declaration)?;
     words.set("laws", laws_of(alloc, declaration, schemas.as_str())?)?;
     words.set(
         "evidence",
         evidence_of(alloc, generics, schemas.as_str(), 2)?,
     )?;
     words.set("schemas", schemas)?;
-    words.set("values", values_of(alloc, fields)?)?;
-    set_calls(alloc, &mut words, name, fields)?;
-    set_read(alloc, &mut words, generics, fields)?;
-    set_plain(alloc, &mut words, fields)?;
+    words.set("values", values_of(alloc, fields, 0)?)?;
+    if let Some(group) = groups.first() {
+        set_calls(alloc, &mut words, (fields, group), has_plain(fields))?;
+    }
+    set_read(alloc, &mut words, (declaration, fields))?;
     words.set("head", read_head(alloc, dst.as_str())?)?;
     words.set("drops", drops_of(alloc, generics, "Drop")?)?;
     words.set("bound", bound_of(alloc, generics, types.as_str())?)?;
+    words.set("types", types)?;
     fill(out, WRITING, &words)?;
+    put_rests(alloc, out, declaration, fields)?;
+    if is_long(fields) {
+        fill(out, PARTS, &words)?;
+    }
     fill(out, READING, &words)?;
     fill(out, MARKERS, &words)
 }

@@ -17,12 +17,13 @@ pub enum Kind {
     Note,
 }
 
-/// A token, and the line that it begins on, counted from 1.
+/// A token, the line that it begins on, counted from 1, and the byte of the text, counted from 0.
 #[derive(Debug, Drop)]
 pub struct Token {
     pub kind: Kind,
     pub text: String,
     pub line: usize,
+    pub at: usize,
 }
 
 /// Where in a file the next character stands.
@@ -48,6 +49,10 @@ struct Lexer {
     word: String,
     place: Place,
     line: usize,
+    /// Where the next character stands, in bytes.
+    at: usize,
+    /// Where the token that is being read begins.
+    begin: usize,
 }
 
 fn is_of_word(c: char) -> bool {
@@ -62,6 +67,7 @@ impl Lexer {
             kind,
             text,
             line: self.line,
+            at: self.begin,
         })?;
         self.word.clear();
         self.place = Place::Between;
@@ -71,6 +77,7 @@ impl Lexer {
     /// A character behind the end of a token.
     fn begin(&mut self, alloc: Global, c: char) -> DeriveResult<()> {
         self.word.clear();
+        self.begin = self.at;
         self.place = match c {
             '"' => Place::Text,
             '\'' => Place::Quote,
@@ -154,6 +161,7 @@ impl Lexer {
         if c == '\n' {
             self.line = self.line.saturating_add(1);
         }
+        self.at = self.at.saturating_add(c.len_utf8());
         Ok(())
     }
 }
@@ -165,6 +173,8 @@ pub fn tokens_of(alloc: Global, source: &str) -> DeriveResult<Vec<Token>> {
         word: String::new(alloc),
         place: Place::Between,
         line: 1,
+        at: 0,
+        begin: 0,
     };
     for c in source.chars() {
         lexer.step(alloc, c)?;

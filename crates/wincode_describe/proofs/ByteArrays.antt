@@ -1,7 +1,6 @@
 -- Arrays of bytes, all of which are one part.
-use Rattle.std.proofs.Common.{◌≡◌, ◌∙◌, sym, ap, ℕ, ◌*◌, ◌<◌, ◌≤◌, ◌^◌, true, false, List, [], ◌∷◌, length, refl, arith, lit≤, cond, nat_lt, inl, inr}
+use Rattle.std.proofs.Common.{◌≡◌, ◌∙◌, sym, ap, ℕ, ◌*◌, ◌<◌, ◌^◌, true, false, List, [], ◌∷◌, length, refl, arith, lit≤, cond, nat_lt, inl, inr}
 use Rattle.std.proofs.lemmas.Bool.{lt-ltb}
-use Rattle.wincode_io.specs.Joins.{AreItems}
 use Rattle.wincode_io.specs.Readers.{ReaderState, Windowed}
 use Rattle.wincode_base.specs.ArrayLaws.{array_read_laws}
 use Rattle.wincode_base.specs.Arrays.{array_read, times_meta}

@@ -1,3 +1,4 @@
 pub mod Shows
 pub mod ByteArrays
 pub mod Spanned
+pub mod Left

@@ -1,6 +1,6 @@
 -- What reads answer that show their value, made of what they answer in parts.
 use Rattle.std.proofs.Common.{◌≡◌, ◌∙◌, sym, ap, subst, ℕ, ◌≤◌, Bool, true, false, List, [], ◌∷◌, ◌++◌, map, length, refl, arith, append_assoc, append-nil, Ok, Err, Some, None, inl, inr, lit≤, Bor, nat_eq}
-use Rattle.std.specs.Prelude.{Result, OnOk, IfErr, IsTrue}
+use Rattle.std.specs.Prelude.{Result, Option, OnOk, IfErr, IsTrue}
 use Rattle.std.proofs.lemmas.Bool.{eqb-true}
 use Rattle.std.proofs.lemmas.List.{map-append}
 use Rattle.wincode_io.specs.Joins.{AreItems}
@@ -31,8 +31,8 @@ use Rattle.wincode_base.proofs.ReadAnswers.{IsPassed}
 use Rattle.wincode_base.proofs.Runs.{known_size, run_each, run_encoding, run_placed, run_long, too_long}
 use Rattle.wincode_base.proofs.Tags.{some_gives, some_refused, option_bad, ok_gives, err_gives, ok_refused, err_refused, result_bad}
 use Rattle.wincode_describe.specs.Parts.{Part, Length, Tag, seen, part_bytes, parts_bytes}
-use Rattle.wincode_describe.specs.Explained.{Explains}
-use Rattle.wincode_describe.specs.ShownGrammars.{shown_read, joined, ShowOutcome, Began, IsChosen, CaseGrammars, chosen_read, nameless_read, read_if}
+use Rattle.wincode_describe.specs.Explained.{Explains, ExplainsRead}
+use Rattle.wincode_describe.specs.ShownGrammars.{shown_read, joined, Took, SinkLaws, ShowOutcome, Began, IsChosen, CaseGrammars, chosen_read, nameless_read, read_if}
 use Rattle.wincode_describe.specs.ShownLaws.{any, shown_laws}
 use Rattle.wincode_describe.specs.TypeLaws.{scheme_laws}
 use Rattle.wincode_describe.specs.TypeBytes.{HasBytes, parts_append, scheme_bytes, described_bytes}
@@ -67,11 +67,16 @@ module _ {V : Type 0} (show : V → List Part) (g : ReadGrammar V) where
 
 -- ---- parts that were shown before a refusal
 
-pub began_none : (old : ReaderState) (before : List Shown) → Began old before before
-began_none old before = record { more = []; is = sym (append-nil before); front = λ t. (old.rest, refl) }
+module _ {B : Type 0} {T : Took B} (l : SinkLaws T) where
+  pub began_none : (old : ReaderState) (before : B) → Began T old before before
+  began_none old before = record { more = []; is = l.none before; front = λ t. (old.rest, refl) }
+
+-- a part wasn't taken
+pub began_took : {B : Type 0} {T : Took B} (old : ReaderState) (before after : B) → T before [] after → Began T old before after
+began_took old before after is = record { more = []; is = is; front = λ t. (old.rest, refl) }
 
 -- parts of what reading gave
-pub began_gave : {U : Type 0} (R : List ℕ → U → Type 0) (old mid : ReaderState) (u : U) (before after more : List Shown) → after ≡ before ++ more → ((b : List ℕ) → R b u → b ≡ parts_bytes (map seen more)) → Gives R old mid u → Began old before after
+pub began_gave : {B : Type 0} {T : Took B} {U : Type 0} (R : List ℕ → U → Type 0) (old mid : ReaderState) (u : U) (before after : B) (more : List Shown) → T before more after → ((b : List ℕ) → R b u → b ≡ parts_bytes (map seen more)) → Gives R old mid u → Began T old before after
 began_gave R old mid u before after more is by r = record { more = more; is = is; front = λ t. let f = r.found t in (mid.rest, f.joins ∙ ap (λ x. x ++ mid.rest) (by f.encoding f.is_read)) }
 
 -- a reader has what stands behind the bytes of some parts, or a front of it
@@ -98,78 +103,83 @@ length_joined s p n b r = scheme_bytes s n b r.1 ∙ sym (append-nil _)
 added_bytes : (added more : List Shown) → parts_bytes (map seen (added ++ more)) ≡ parts_bytes (map seen added) ++ parts_bytes (map seen more)
 added_bytes added more = ap parts_bytes (map-append seen added more) ∙ parts_append (map seen added) (map seen more)
 
-pub began_behind : (start mid : ReaderState) (before so after added : List Shown) → so ≡ before ++ added → Behind start mid added → Began mid so after → Began start before after
-began_behind start mid before so after added is behind k = record {
-  more = added ++ k.more;
-  is = k.is ∙ ap (λ t. t ++ k.more) is ∙ append_assoc before added k.more;
-  front = λ t.
-      let p = behind t in
-      let q = k.front p.0 in
-      let A = parts_bytes (map seen added) in
-      let B = parts_bytes (map seen k.more) in (
-        q.0 ++ p.1.0,
-        p.1.1 ∙ ap (λ x. A ++ (x ++ p.1.0)) q.1 ∙ ap (λ x. A ++ x) (append_assoc B q.0 p.1.0) ∙ sym (append_assoc A B (q.0 ++ p.1.0)) ∙ ap (λ x. x ++ (q.0 ++ p.1.0)) (sym (added_bytes added k.more)),
-      );
-}
-
 -- ---- answers
 
-module _ {A : Type 0} (g : ReadGrammar (List Part)) {old new : ReaderState} (before after : List Shown) where
+module _ {A B : Type 0} {T : Took B} (g : ReadGrammar (List Part)) {old new : ReaderState} (before after : B) where
   -- an error that a `?` passes on
-  pub show_refused : (r : Result A ReadError) (e : ReadError) → IsPassed r e → SchemaReadRefused g old new e → Began old before after → ShowOutcome g old new before after r
+  pub show_refused : (r : Result A ReadError) (e : ReadError) → IsPassed r e → SchemaReadRefused g old new e → Began T old before after → ShowOutcome T g old new before after r
   show_refused (Ok x) e h d k = absurd h.1
   show_refused (Err x) e h d k = let P : ReadError → Type 0 = SchemaReadRefused g old new in record { ok = tt; refused = subst P (sym h.1) d; began = k }
 
--- what one call answers, behind what was shown before it, another does
-pub show_map : {A : Type 0} (g G : ReadGrammar (List Part)) {start mid inner new : ReaderState} (before so after added : List Shown) (r : Result A ReadError) → so ≡ before ++ added → Behind start mid added
-    → ((w : List Part) → Gives g.reads mid inner w → Gives G.reads start new (map seen added ++ w))
-    → ((e : ReadError) → SchemaReadRefused g mid inner e → SchemaReadRefused G start new e)
-    → ShowOutcome g mid inner so after r → ShowOutcome G start new before after r
-show_map g G {start} {mid} {inner} {new} before so after added (Ok x) is behind given refused o =
-    let s = o.ok in
-    record {
-      ok = record {
-        more = added ++ s.more;
-        is = s.is ∙ ap (λ t. t ++ s.more) is ∙ append_assoc before added s.more;
-        gives = subst (Gives G.reads start new) (sym (map-append seen added s.more)) (given (map seen s.more) s.gives);
-      };
-      refused = tt;
-      began = tt;
-    }
-show_map g G {start} {mid} before so after added (Err e) is behind given refused o = record { ok = tt; refused = refused e o.refused; began = began_behind start mid before so after added is behind o.began }
+module _ {B : Type 0} {T : Took B} (l : SinkLaws T) where
+  pub began_behind : (start mid : ReaderState) (before so after : B) (added : List Shown) → T before added so → Behind start mid added → Began T mid so after → Began T start before after
+  began_behind start mid before so after added is behind k = record {
+    more = added ++ k.more;
+    is = l.joins before so after added k.more is k.is;
+    front = λ t.
+        let p = behind t in
+        let q = k.front p.0 in
+        let X = parts_bytes (map seen added) in
+        let Y = parts_bytes (map seen k.more) in (
+          q.0 ++ p.1.0,
+          p.1.1 ∙ ap (λ x. X ++ (x ++ p.1.0)) q.1 ∙ ap (λ x. X ++ x) (append_assoc Y q.0 p.1.0) ∙ sym (append_assoc X Y (q.0 ++ p.1.0)) ∙ ap (λ x. x ++ (q.0 ++ p.1.0)) (sym (added_bytes added k.more)),
+        );
+  }
 
--- so, where nothing was shown before it
-pub show_as : {A : Type 0} (g G : ReadGrammar (List Part)) {start mid inner new : ReaderState} (before after : List Shown) (r : Result A ReadError) → Behind start mid []
-    → ((w : List Part) → Gives g.reads mid inner w → Gives G.reads start new w)
-    → ((e : ReadError) → SchemaReadRefused g mid inner e → SchemaReadRefused G start new e)
-    → ShowOutcome g mid inner before after r → ShowOutcome G start new before after r
-show_as g G before after r behind given refused o = show_map g G before before after [] r (sym (append-nil before)) behind given refused o
+  -- what one call answers, behind what was shown before it, another does
+  pub show_map : {A : Type 0} (g G : ReadGrammar (List Part)) {start mid inner new : ReaderState} (before so after : B) (added : List Shown) (r : Result A ReadError) → T before added so → Behind start mid added
+      → ((w : List Part) → Gives g.reads mid inner w → Gives G.reads start new (map seen added ++ w))
+      → ((e : ReadError) → SchemaReadRefused g mid inner e → SchemaReadRefused G start new e)
+      → ShowOutcome T g mid inner so after r → ShowOutcome T G start new before after r
+  show_map g G {start} {mid} {inner} {new} before so after added (Ok x) is behind given refused o =
+      let s = o.ok in
+      record {
+        ok = record {
+          more = added ++ s.more;
+          is = l.joins before so after added s.more is s.is;
+          gives = subst (Gives G.reads start new) (sym (map-append seen added s.more)) (given (map seen s.more) s.gives);
+        };
+        refused = tt;
+        began = tt;
+      }
+  show_map g G {start} {mid} before so after added (Err e) is behind given refused o = record { ok = tt; refused = refused e o.refused; began = began_behind start mid before so after added is behind o.began }
 
--- a last part is added, behind others
-pub show_last : {A : Type 0} (G : ReadGrammar (List Part)) {start new : ReaderState} (before so after added : List Shown) (p : Shown) (r : Result A ReadError) → so ≡ before ++ added
-    → Gives G.reads start new (map seen (added ++ (p ∷ []))) → SchemaReadRefused G start new reading.OutOfMemory → Began start before so
-    → OnOk r (after ≡ so ++ (p ∷ [])) → IfErr r (λ e. (e ≡ reading.OutOfMemory) × (after ≡ so)) → ShowOutcome G start new before after r
-show_last G before so after added p (Ok x) is gives memory began ok err = record { ok = record { more = added ++ (p ∷ []); is = ok ∙ ap (λ t. t ++ (p ∷ [])) is ∙ append_assoc before added (p ∷ []); gives = gives }; refused = tt; began = tt }
-show_last G {start} {new} before so after added p (Err e) is gives memory began ok err =
-    let P : ReadError → Type 0 = SchemaReadRefused G start new in
-    record { ok = tt; refused = subst P (sym err.0) memory; began = subst (Began start before) (sym err.1) began }
+  -- so, where nothing was shown before it
+  pub show_as : {A : Type 0} (g G : ReadGrammar (List Part)) {start mid inner new : ReaderState} (before after : B) (r : Result A ReadError) → Behind start mid []
+      → ((w : List Part) → Gives g.reads mid inner w → Gives G.reads start new w)
+      → ((e : ReadError) → SchemaReadRefused g mid inner e → SchemaReadRefused G start new e)
+      → ShowOutcome T g mid inner before after r → ShowOutcome T G start new before after r
+  show_as g G before after r behind given refused o = show_map g G before before after [] r (l.none before) behind given refused o
+
+  -- a last part is added, behind others
+  pub show_last : {A : Type 0} (G : ReadGrammar (List Part)) {start new : ReaderState} (before so after : B) (added : List Shown) (p : Shown) (r : Result A ReadError) → T before added so
+      → Gives G.reads start new (map seen (added ++ (p ∷ []))) → SchemaReadRefused G start new reading.OutOfMemory → Began T start before so
+      → OnOk r (T so (p ∷ []) after) → IfErr r (λ e. (e ≡ reading.OutOfMemory) × T so [] after) → ShowOutcome T G start new before after r
+  show_last G before so after added p (Ok x) is gives memory began ok err = record { ok = record { more = added ++ (p ∷ []); is = l.joins before so after added (p ∷ []) is ok; gives = gives }; refused = tt; began = tt }
+  show_last G {start} {new} before so after added p (Err e) is gives memory began ok err =
+      let P : ReadError → Type 0 = SchemaReadRefused G start new in
+      record {
+        ok = tt;
+        refused = subst P (sym err.0) memory;
+        began = record { more = began.more ++ []; is = l.joins before so after began.more [] began.is err.1; front = λ t. let f = began.front t in (f.0, f.1 ∙ ap (λ x. parts_bytes (map seen x) ++ f.0) (sym (append-nil began.more))) };
+      }
+
+  -- one part alone, which a schema read
+  pub show_one : {A V : Type 0} (show : V → List Part) (g : ReadGrammar V) {start new : ReaderState} (before after : B) (v : V) (p : Shown) (r : Result A ReadError) → show v ≡ seen p ∷ [] → Gives g.reads start new v
+      → OnOk r (T before (p ∷ []) after) → IfErr r (λ e. (e ≡ reading.OutOfMemory) × T before [] after) → ShowOutcome T (shown_read show g) start new before after r
+  show_one show g {start} {new} before after v p r is gives ok err =
+      show_last (shown_read show g) before before after [] p r (l.none before) (subst (Gives (shown_read show g).reads start new) is (shown_gives show g start new v gives)) (shown_memory show g g.reads start new v gives) (began_none l start before) ok err
 
 -- the first of two parts
-pub began_first : (reads : List ℕ → List Part → Type 0) → HasBytes reads → (start new : ReaderState) (before so : List Shown) (p : Shown) (q : Part) → so ≡ before ++ (p ∷ []) → Gives reads start new (seen p ∷ q ∷ []) → Began start before so
+pub began_first : {B : Type 0} {T : Took B} (reads : List ℕ → List Part → Type 0) → HasBytes reads → (start new : ReaderState) (before so : B) (p : Shown) (q : Part) → T before (p ∷ []) so → Gives reads start new (seen p ∷ q ∷ []) → Began T start before so
 began_first reads bytes start new before so p q is r = record {
   more = p ∷ [];
   is = is;
   front = λ t.
       let f = r.found t in
-      let B = parts_bytes (q ∷ []) in
-      (B ++ new.rest, f.joins ∙ ap (λ x. x ++ new.rest) (bytes f.encoding (seen p ∷ q ∷ []) f.is_read) ∙ append_assoc (part_bytes (seen p)) B new.rest ∙ ap (λ x. x ++ (B ++ new.rest)) (sym (append-nil (part_bytes (seen p)))));
+      let Y = parts_bytes (q ∷ []) in
+      (Y ++ new.rest, f.joins ∙ ap (λ x. x ++ new.rest) (bytes f.encoding (seen p ∷ q ∷ []) f.is_read) ∙ append_assoc (part_bytes (seen p)) Y new.rest ∙ ap (λ x. x ++ (Y ++ new.rest)) (sym (append-nil (part_bytes (seen p)))));
 }
-
--- one part alone, which a schema read
-pub show_one : {A V : Type 0} (show : V → List Part) (g : ReadGrammar V) {start new : ReaderState} (before after : List Shown) (v : V) (p : Shown) (r : Result A ReadError) → show v ≡ seen p ∷ [] → Gives g.reads start new v
-    → OnOk r (after ≡ before ++ (p ∷ [])) → IfErr r (λ e. (e ≡ reading.OutOfMemory) × (after ≡ before)) → ShowOutcome (shown_read show g) start new before after r
-show_one show g {start} {new} before after v p r is gives ok err =
-    show_last (shown_read show g) before before after [] p r (sym (append-nil before)) (subst (Gives (shown_read show g).reads start new) is (shown_gives show g start new v gives)) (shown_memory show g g.reads start new v gives) (began_none start before) ok err
 
 -- ---- items
 
@@ -378,11 +388,11 @@ case_nameless n t apart g s =
 
 -- ---- bytes that are explained
 
-pub explains_read : (d : Described) (bytes : List ℕ) (w : List Part) (new : ReaderState) → Gives (described_read d).reads (memory nothing bytes) new w → Explains d bytes w None
-explains_read d bytes w new r = let f = r.found refl in ((new.rest, f.joins ∙ ap (λ x. x ++ new.rest) (described_bytes d f.encoding w f.is_read)), (new.rest, f))
+-- the parts of a value
+pub read_explains : (d : Described) (old new : ReaderState) (w : List Part) → Gives (described_read d).reads old new w → ExplainsRead d old new w None
+read_explains d old new w r = (λ t. let f = r.found t in (new.rest, f.joins ∙ ap (λ x. x ++ new.rest) (described_bytes d f.encoding w f.is_read)), r)
 
-pub explains_refused : (d : Described) (bytes : List ℕ) (new : ReaderState) (before after : List Shown) (e : ReadError) → before ≡ [] → Began (memory nothing bytes) before after → SchemaReadRefused (described_read d) (memory nothing bytes) new e → Explains d bytes (map seen after) (Some e)
-explains_refused d bytes new before after e none k x =
-    let f = k.front refl in
-    let whole : after ≡ k.more = k.is ∙ ap (λ t. t ++ k.more) none in
-    ((f.0, f.1 ∙ ap (λ t. parts_bytes (map seen t) ++ f.0) (sym whole)), (new, x))
+-- so, of bytes in memory
+pub memory_explains : (d : Described) (bytes : List ℕ) (new : ReaderState) (w : List Part) (refused : Option ReadError) → ExplainsRead d (memory nothing bytes) new w refused → Explains d bytes w refused
+memory_explains d bytes new w None x = (x.0 refl, (new.rest, x.1.found refl))
+memory_explains d bytes new w (Some e) x = (x.0 refl, (new, x.1))

@@ -1,8 +1,12 @@
 -- What is said of bytes that are explained by a type.
-use Rattle.std.specs.Prelude.{◌≡◌, ℕ, List, ◌++◌, Option, Some, None}
-use Rattle.wincode_io.specs.Readers.{memory, nothing}
-use Rattle.wincode_base.specs.Outcomes.{Found, FrontReadRefused}
+use Rattle.std.specs.Prelude.{◌≡◌, ◌⊎◌, ℕ, List, [], ◌++◌, length, IsTrue, Option, Some, None}
+use Rattle.wincode_io.specs.Readers.{ReaderState, memory, nothing}
+use Rattle.wincode_io.specs.Sources.{SourceState}
+use Rattle.wincode_io.specs.Streams.{streaming}
+use Rattle.wincode_io.specs.declared.error.ReadError.TheVariants as reader
+use Rattle.wincode_base.specs.Outcomes.{Found, Gives, SchemaReadRefused, FrontReadRefused}
 use Rattle.wincode_base.specs.declared.error.ReadError.{ReadError}
+use Rattle.wincode_base.specs.declared.error.ReadError.TheVariants as reading
 use Rattle.wincode_describe.specs.Parts.{Part, parts_bytes}
 use Rattle.wincode_describe.specs.Types.{described_read}
 use Rattle.wincode_describe.specs.declared.described.Described.{Described}
@@ -16,3 +20,20 @@ AreFront bytes parts = (rest : List ℕ) × (bytes ≡ parts_bytes parts ++ rest
 abbrev pub Explains : Described → List ℕ → List Part → Option ReadError → Type 0
 Explains d bytes parts None = AreFront bytes parts × ((rest : List ℕ) × Found (described_read d).reads bytes parts rest)
 Explains d bytes parts (Some e) = AreFront bytes parts × FrontReadRefused (described_read d) (memory nothing bytes) e
+
+-- So, of what a reader had.
+abbrev pub ExplainsRead : Described → ReaderState → ReaderState → List Part → Option ReadError → Type 0
+ExplainsRead d old new parts None = (IsTrue old.is_known → AreFront old.rest parts) × Gives (described_read d).reads old new parts
+ExplainsRead d old new parts (Some e) = (IsTrue old.is_known → AreFront old.rest parts) × SchemaReadRefused (described_read d) old new e
+
+-- So, of what comes of a source, read through a buffer; or memory for the buffer was wanted.
+abbrev pub ExplainsSource : Described → SourceState → List Part → Option ReadError → Type 0
+ExplainsSource d s parts None = (IsTrue s.is_known → AreFront s.coming parts) × (IsTrue s.is_known → (rest : List ℕ) × Found (described_read d).reads s.coming parts rest)
+ExplainsSource d s parts (Some e) = (IsTrue s.is_known → AreFront s.coming parts) × ((e ≡ reading.Io reader.OutOfMemory) ⊎ FrontReadRefused (described_read d) (streaming [] s) e)
+
+-- some parts of so many bytes explain them
+abbrev pub Checks : Described → List ℕ → ℕ → Option ReadError → Type 0
+Checks d bytes n refused = (parts : List Part) × (n ≡ length (parts_bytes parts)) × Explains d bytes parts refused
+
+abbrev pub ChecksRead : Described → ReaderState → ReaderState → ℕ → Option ReadError → Type 0
+ChecksRead d old new n refused = (parts : List Part) × (n ≡ length (parts_bytes parts)) × ExplainsRead d old new parts refused

@@ -6,3 +6,5 @@ pub mod TypeLaws
 pub mod TypeBytes
 pub mod Explained
 pub mod Spans
+pub mod SinkLaws
+pub mod SchemaLaws

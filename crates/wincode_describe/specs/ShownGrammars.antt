@@ -84,21 +84,30 @@ one_case n g = record { case = λ t. read_if (nat_eq n t) g (nameless_read t); m
 abbrev pub or_case : ℕ → ReadGrammar (List Part) → CaseGrammars → CaseGrammars
 or_case n g others = record { case = λ t. read_if (nat_eq n t) g (others.case t); meta = sides_meta g.meta others.meta; prealloc = max g.prealloc others.prealloc }
 
+-- what parts were given to what takes them, and what it is then
+abbrev pub Took : Type 0 → Type 1
+Took B = B → List Shown → B → Type 0
+
+-- Nothing is given at no step, and what is given in two steps is given in one.
+pub record SinkLaws {B : Type 0} (took : Took B) : Type 0 where
+  pub none : (s : B) → took s [] s
+  pub joins : (s t u : B) (xs ys : List Shown) → took s xs t → took t ys u → took s (xs ++ ys) u
+
 -- what reading gave is shown behind what was shown before
-pub record Shows (reads : List ℕ → List Part → Type 0) (old new : ReaderState) (before after : List Shown) : Type 0 where
+pub record Shows {B : Type 0} (took : Took B) (reads : List ℕ → List Part → Type 0) (old new : ReaderState) (before after : B) : Type 0 where
   pub more : List Shown
-  pub is : after ≡ before ++ more
+  pub is : took before more after
   pub gives : Gives reads old new (map seen more)
 
 -- some parts were shown, behind what was shown before, whose bytes are a front of what the reader had
-pub record Began (old : ReaderState) (before after : List Shown) : Type 0 where
+pub record Began {B : Type 0} (took : Took B) (old : ReaderState) (before after : B) : Type 0 where
   pub more : List Shown
-  pub is : after ≡ before ++ more
+  pub is : took before more after
   pub front : IsTrue old.is_known → (rest : List ℕ) × (old.rest ≡ parts_bytes (map seen more) ++ rest)
 
 -- What a read answers that shows its value: it is shown, behind what was shown before; or it was refused, as the grammar
 -- says, and the parts that were read before stay.
-pub record ShowOutcome {A : Type 0} (g : ReadGrammar (List Part)) (old new : ReaderState) (before after : List Shown) (r : Result A ReadError) : Type 0 where
-  pub ok : OnOk r (Shows g.reads old new before after)
+pub record ShowOutcome {A B : Type 0} (took : Took B) (g : ReadGrammar (List Part)) (old new : ReaderState) (before after : B) (r : Result A ReadError) : Type 0 where
+  pub ok : OnOk r (Shows took g.reads old new before after)
   pub refused : IfErr r (SchemaReadRefused g old new)
-  pub began : OnErr r (Began old before after)
+  pub began : OnErr r (Began took old before after)

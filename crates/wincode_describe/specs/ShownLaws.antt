@@ -6,7 +6,7 @@ use Rattle.wincode_base.specs.Grammar.{ReadGrammar, ReadLaws, IsReadStatic}
 use Rattle.wincode_base.specs.LeafLaws.{number_one}
 use Rattle.wincode_base.specs.Leaves.{number_read}
 use Rattle.wincode_base.specs.Pairs.{pair_meta}
-use Rattle.wincode_base.specs.Sequences.{Then, then_unambiguous}
+use Rattle.wincode_base.specs.Sequences.{then_unambiguous}
 use Rattle.wincode_base.specs.Tags.{sides_meta}
 use Rattle.wincode_base.specs.declared.meta.TypeMeta.{TypeMeta}
 use Rattle.wincode_base.specs.declared.meta.TypeMeta.TheVariants.{Static, Dynamic}

@@ -3,7 +3,7 @@ use Rattle.std.proofs.Common.{◌≡◌, ◌∙◌, sym, ap, ℕ, ◌<◌, ◌^�
 use Rattle.std.specs.Prelude.{Result, Option}
 use Rattle.wincode_io.specs.NumberLaws.{le-byte}
 use Rattle.wincode_io.specs.Numbers.{le}
-use Rattle.wincode_io.specs.Joins.{Joined, AreItems}
+use Rattle.wincode_io.specs.Joins.{Joined}
 use Rattle.wincode_base.specs.Grammar.{ReadGrammar}
 use Rattle.wincode_base.specs.Leaves.{number_read}
 use Rattle.wincode_base.specs.LengthLaws.{bincode_encoding_is}
@@ -11,9 +11,9 @@ use Rattle.wincode_base.specs.Lengths.{preallocation_limit}
 use Rattle.wincode_base.specs.Lists.{list_read}
 use Rattle.wincode_base.specs.ShortLaws.{short_is}
 use Rattle.wincode_base.specs.Tags.{option_read, result_read}
-use Rattle.wincode_describe.specs.Parts.{Part, Bytes, Length, Tag, part_bytes, parts_bytes, length_bytes}
+use Rattle.wincode_describe.specs.Parts.{Part, Bytes, Tag, part_bytes, parts_bytes, length_bytes}
 use Rattle.wincode_describe.specs.ShownGrammars.{shown_read, joined, chosen_read, nameless_read, read_if, CaseGrammars}
-use Rattle.wincode_describe.specs.Types.{integer_read, scheme_of, bytes_shown, list_shown, list_of, option_shown, result_shown, tag_bytes, described_read, cases_read}
+use Rattle.wincode_describe.specs.Types.{integer_read, scheme_of, bytes_shown, list_of, option_shown, result_shown, tag_bytes, described_read, cases_read}
 use Rattle.wincode_describe.specs.declared.described.Integer.{Integer}
 use Rattle.wincode_describe.specs.declared.described.Integer.TheVariants.{U8, U16, U32, U64, U128, Usize, I8, I16, I32, I64, I128, Isize}
 use Rattle.wincode_describe.specs.declared.described.LengthScheme.{LengthScheme}

@@ -1,5 +1,5 @@
 -- The laws of the grammars of described types.
-use Rattle.std.proofs.Common.{◌≡◌, ℕ, Bool, true, false, List, [], ◌∷◌, refl, arith, nat_eq, lit≤, Result, Ok, Err}
+use Rattle.std.proofs.Common.{◌≡◌, ℕ, Bool, true, false, List, [], ◌∷◌, refl, arith, nat_eq, lit≤}
 use Rattle.std.specs.Int.{w8, w16, w32, w64, w128}
 use Rattle.wincode_base.specs.ArrayLaws.{array_read_laws}
 use Rattle.wincode_base.specs.BoxedLaws.{boxed_read_laws}
@@ -13,8 +13,8 @@ use Rattle.wincode_base.specs.ShortLaws.{short_scheme_laws}
 use Rattle.wincode_base.specs.StringLaws.{char_read_laws, str_read_laws}
 use Rattle.wincode_base.specs.TagLaws.{option_read_laws, result_read_laws}
 use Rattle.wincode_describe.specs.Parts.{Part, Flag, Character, Bytes, Nothing}
-use Rattle.wincode_describe.specs.ShownGrammars.{joined, nameless_read, read_if, CaseGrammars}
-use Rattle.wincode_describe.specs.ShownLaws.{any, shown_laws, any_laws, CasesLaws, one_case_laws, or_case_laws, chosen_laws}
+use Rattle.wincode_describe.specs.ShownGrammars.{joined, nameless_read, read_if}
+use Rattle.wincode_describe.specs.ShownLaws.{any, shown_laws, CasesLaws, one_case_laws, or_case_laws, chosen_laws}
 use Rattle.wincode_describe.specs.Types.{natural_shown, signed_shown, integer_read, scheme_of, text_shown, bytes_shown, list_shown, option_shown, result_shown, both_shown, list_of, tag_bytes, described_read, cases_read}
 use Rattle.wincode_describe.specs.declared.described.Integer.{Integer}
 use Rattle.wincode_describe.specs.declared.described.Integer.TheVariants.{U8, U16, U32, U64, U128, Usize, I8, I16, I32, I64, I128, Isize}

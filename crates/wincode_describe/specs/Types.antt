@@ -1,5 +1,5 @@
 -- The grammar of a described type.
-use Rattle.std.specs.Prelude.{ℕ, ℤ, Bool, List, [], ◌∷◌, ◌++◌, length, true, false, Option, Some, None, Result, Ok, Err}
+use Rattle.std.specs.Prelude.{ℕ, ℤ, List, [], ◌∷◌, ◌++◌, length, true, false, Option, Some, None, Result, Ok, Err}
 use Rattle.std.specs.Int.{w8, w16, w32, w64, w128}
 use Rattle.wincode_base.specs.Arrays.{array_read}
 use Rattle.wincode_base.specs.Boxed.{boxed_read}

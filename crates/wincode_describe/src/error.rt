@@ -1,6 +1,7 @@
 //! Why a text describes no type.
 use std::alloc::{AllocError, AllocFailed};
 use thiserror::Error;
+use wincode_deriving::DeriveError;
 
 /// Why a text describes no type.
 #[derive(Debug, Drop, Error)]
@@ -11,6 +12,12 @@ pub enum DescribeError {
     /// The type at this byte is too deep.
     #[error("the type at byte {at} is more than 128 levels deep")]
     TooDeep { at: usize },
+    /// A field or a case of a declared type has a type that can't be described.
+    #[error("`{0}` describes no type")]
+    Undescribed(String),
+    /// A declaration can't be read.
+    #[error(transparent)]
+    Declaration(DeriveError),
     /// A growth for the type was refused.
     #[error("out of memory")]
     OutOfMemory,
@@ -21,6 +28,15 @@ pub type DescribeResult<T> = Result<T, DescribeError>;
 impl From<AllocError> for DescribeError {
     fn from(_refused: AllocError) -> DescribeError {
         DescribeError::OutOfMemory
+    }
+}
+
+impl From<DeriveError> for DescribeError {
+    fn from(error: DeriveError) -> DescribeError {
+        match error {
+            DeriveError::OutOfMemory => DescribeError::OutOfMemory,
+            error => DescribeError::Declaration(error),
+        }
     }
 }
 

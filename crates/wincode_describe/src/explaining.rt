@@ -1,15 +1,15 @@
-//! Bytes explained by a type: a line for each part.
-ghost use Rattle.std.specs.Prelude.{◌≡◌, map, length};
-ghost use Rattle.wincode_describe.specs.Explained.{Explains};
-ghost use Rattle.std.specs.Int.{byte_len};
-ghost use Rattle.wincode_describe.specs.Parts.{seen, part_bytes, width_of, length_bytes};
+//! Bytes explained by a type, part by part, and checked without their parts.
+ghost use Rattle.std.specs.Prelude.{map};
+ghost use Rattle.wincode_describe.specs.Explained.{Explains, ExplainsRead, Checks, ChecksRead};
+ghost use Rattle.wincode_describe.specs.Parts.{seen};
 
-use crate::described::{Described, Integer, LengthScheme};
+use crate::described::Described;
 use crate::reading::show_parts;
 use crate::shown::Shown;
+use crate::sink::PartsSize;
 use std::alloc::Global;
 use wincode_base::error::ReadError;
-use wincode_io::{Lending, ReadWindow, TrustedSliceReader};
+use wincode_io::{Lending, ReadWindow, Reader, TrustedSliceReader};
 
 /// What was read of bytes by a type.
 #[derive(Debug, Drop)]
@@ -20,14 +20,27 @@ pub struct Explained {
     pub refused: Option<ReadError>,
 }
 
-/// Reads a value of the type from the front of the bytes, and gives its parts; refused, it gives those that stand before
-/// what was refused. The parts' bytes, joined in order, are a front of the bytes: of a value, those that were read.
-pub fn explain<L: Lending>(alloc: Global, described: &Described, bytes: L::Bytes) -> Explained
-    ensures { Explains described.now (L.held bytes) (map seen result.parts.items) result.refused }
+/// What was read of bytes by a type, without its parts.
+#[derive(Debug, Drop)]
+pub struct Checked {
+    /// How many bytes the parts have: of the value at the front, or those that stand before what was refused.
+    pub bytes: usize,
+    /// Why no value was read, if none was.
+    pub refused: Option<ReadError>,
+}
+
+/// Reads a value of the type from the front of what the reader has, and gives its parts; refused, it gives those that
+/// stand before what was refused. The parts' bytes, joined in order, are a front of what the reader had; of a value,
+/// those that were read. The reader is left as by `read_described`.
+pub fn explain_read<L: Lending, R: Reader<L>>(
+    alloc: Global,
+    described: &Described,
+    reader: &mut R,
+) -> Explained
+    ensures { ExplainsRead described.now (R.state reader.old) (R.state reader.new) (map seen result.parts.items) result.refused }
 {
-    let mut window = ReadWindow::<L>::Plain(TrustedSliceReader::new(bytes));
     let mut parts = Vec::new(alloc);
-    match show_parts::<L>(alloc, described, &mut window, &mut parts) {
+    match show_parts::<L, R, Vec<Shown>>(alloc, described, reader, &mut parts) {
         Ok(()) => Explained {
             parts,
             refused: None,
@@ -39,44 +52,41 @@ pub fn explain<L: Lending>(alloc: Global, described: &Described, bytes: L::Bytes
     }
 }
 
-/// How many bytes an integer has.
-fn integer_size(integer: Integer) -> usize
-    ensures { result ≡ byte_len (width_of integer) }
+/// As `explain_read`, but no part is kept: it gives how many bytes they have. More than `usize::MAX` are refused as
+/// `OutOfMemory`.
+pub fn check_read<L: Lending, R: Reader<L>>(
+    alloc: Global,
+    described: &Described,
+    reader: &mut R,
+) -> Checked
+    ensures { ChecksRead described.now (R.state reader.old) (R.state reader.new) result.bytes result.refused }
 {
-    match integer {
-        Integer::U8 | Integer::I8 => 1,
-        Integer::U16 | Integer::I16 => 2,
-        Integer::U32 | Integer::I32 => 4,
-        Integer::U64 | Integer::I64 | Integer::Usize | Integer::Isize => 8,
-        Integer::U128 | Integer::I128 => 16,
+    let mut parts = PartsSize { bytes: 0 };
+    match show_parts::<L, R, PartsSize>(alloc, described, reader, &mut parts) {
+        Ok(()) => Checked {
+            bytes: parts.bytes,
+            refused: None,
+        },
+        Err(error) => Checked {
+            bytes: parts.bytes,
+            refused: Some(error),
+        },
     }
 }
 
-/// How many bytes a length has.
-fn length_size(scheme: LengthScheme, count: usize) -> usize
-    ensures { result ≡ length (length_bytes scheme count) }
+/// Reads a value of the type from the front of the bytes, and gives its parts; refused, it gives those that stand before
+/// what was refused. The parts' bytes, joined in order, are a front of the bytes: of a value, those that were read.
+pub fn explain<L: Lending>(alloc: Global, described: &Described, bytes: L::Bytes) -> Explained
+    ensures { Explains described.now (L.held bytes) (map seen result.parts.items) result.refused }
 {
-    match scheme {
-        LengthScheme::Eight => 8,
-        LengthScheme::Short if count < 128 => 1,
-        LengthScheme::Short if count < 16384 => 2,
-        LengthScheme::Short => 3,
-    }
+    let mut window = ReadWindow::<L>::Plain(TrustedSliceReader::new(bytes));
+    explain_read::<L, ReadWindow<L>>(alloc, described, &mut window)
 }
 
-/// How many bytes a part has.
-pub fn part_size(part: &Shown) -> usize
-    ensures { result ≡ length (part_bytes (seen part.now)) }
+/// As `explain`, but no part is kept: it gives how many bytes they have.
+pub fn check<L: Lending>(alloc: Global, described: &Described, bytes: L::Bytes) -> Checked
+    ensures { Checks described.now (L.held bytes) result.bytes result.refused }
 {
-    match part {
-        Shown::Natural { integer, .. } => integer_size(*integer),
-        Shown::Signed { integer, .. } => integer_size(*integer),
-        Shown::Flag(_) => 1,
-        Shown::Character(c) => c.len_utf8(),
-        Shown::Text(text) => text.len(),
-        Shown::Bytes(bytes) => bytes.len(),
-        Shown::Length { scheme, count } => length_size(*scheme, *count),
-        Shown::Tag { size, .. } => *size,
-        Shown::Nothing => 0,
-    }
+    let mut window = ReadWindow::<L>::Plain(TrustedSliceReader::new(bytes));
+    check_read::<L, ReadWindow<L>>(alloc, described, &mut window)
 }

@@ -1,12 +1,15 @@
 //! What is printed of bytes that are explained or checked.
-use crate::described::Described;
-use crate::explaining::{Explained, explain};
+use crate::described::{Described, LengthScheme};
+use crate::explaining::{Checked, Explained, check, check_read, explain};
+use crate::parts::part_size;
 use crate::places::places_of;
 use crate::printing::integer_word;
 use crate::shown::Shown;
 use crate::spans::{Span, spans};
+use crate::streaming::{bytes_left, explain_source};
 use std::alloc::{AllocError, Global};
-use wincode_io::Lifetime;
+use wincode_base::error::ReadResult;
+use wincode_io::{Lifetime, Source, StreamReader};
 
 /// How many bytes of a part are printed.
 const PRINTED: usize = 16;
@@ -106,26 +109,16 @@ fn push_line(
     text.push_str("\n")
 }
 
-/// What was explained, and where its parts stand.
-fn explain_spans(
+/// A line for each part that was explained: its offset, its bytes in hexadecimal, the first 16 where there are more, its
+/// place in the type and its value. A refusal is the last line: the offset behind the parts that were read, the place and
+/// the error.
+fn lines_of(
     alloc: Global,
     described: &Described,
-    bytes: &[u8],
-) -> Result<(Explained, Vec<Span>), AllocError> {
-    let explained = explain::<Lifetime>(alloc, described, bytes);
-    let spans = spans(alloc, explained.parts.as_slice())?;
-    Ok((explained, spans))
-}
-
-/// A line for each part of the value at the front of the bytes: its offset, its bytes in hexadecimal, the first 16 where
-/// there are more, its place in the type and its value. A refusal is the last line: the offset behind the parts that were
-/// read, the place and the error.
-pub fn explained_lines(
-    alloc: Global,
-    described: &Described,
+    explained: &Explained,
+    spans: &[Span],
     bytes: &[u8],
 ) -> Result<String, AllocError> {
-    let (explained, spans) = explain_spans(alloc, described, bytes)?;
     let places = places_of(alloc, described, explained.parts.as_slice())?;
     let mut text = String::new(alloc);
     for (i, (part, span)) in explained.parts.iter().zip(spans.iter()).enumerate() {
@@ -139,7 +132,7 @@ pub fn explained_lines(
         )?;
     }
     if let Some(error) = &explained.refused {
-        let at = end_of(spans.as_slice());
+        let at = end_of(spans);
         let begin = format!(in alloc; "{at}:")?;
         text.push_str(begin.as_str())?;
         push_place(
@@ -152,25 +145,136 @@ pub fn explained_lines(
     Ok(text)
 }
 
-/// One line: `ok, N bytes, M left`, or the refusal with its offset; and whether a value was read.
-pub fn checked_line(
+/// What was explained of bytes, and where its parts stand.
+fn explain_spans(
+    alloc: Global,
+    described: &Described,
+    bytes: &[u8],
+) -> Result<(Explained, Vec<Span>), AllocError> {
+    let explained = explain::<Lifetime>(alloc, described, bytes);
+    let spans = spans(alloc, explained.parts.as_slice())?;
+    Ok((explained, spans))
+}
+
+/// A line for each part of the value at the front of the bytes: its offset, its bytes in hexadecimal, the first 16 where
+/// there are more, its place in the type and its value. A refusal is the last line: the offset behind the parts that were
+/// read, the place and the error. And whether a value was read.
+pub fn explained_lines(
     alloc: Global,
     described: &Described,
     bytes: &[u8],
 ) -> Result<(bool, String), AllocError> {
     let (explained, spans) = explain_spans(alloc, described, bytes)?;
-    let at = end_of(spans.as_slice());
-    match &explained.refused {
+    let lines = lines_of(alloc, described, &explained, spans.as_slice(), bytes)?;
+    Ok((explained.refused.is_none(), lines))
+}
+
+/// What one line says of what was checked, behind which so many bytes are left; and whether a value was read.
+fn line_of(alloc: Global, checked: &Checked, left: usize) -> Result<(bool, String), AllocError> {
+    let bytes = checked.bytes;
+    match &checked.refused {
         None => {
-            let left = bytes.len().saturating_sub(at);
-            let line = format!(in alloc; "ok, {at} bytes, {left} left")?;
+            let line = format!(in alloc; "ok, {bytes} bytes, {left} left")?;
             Ok((true, line))
         }
         Some(error) => {
-            let line = format!(in alloc; "refused at {at}: {error}")?;
+            let line = format!(in alloc; "refused at {bytes}: {error}")?;
             Ok((false, line))
         }
     }
+}
+
+/// One line: `ok, N bytes, M left`, or the refusal with its offset; and whether a value was read. No part of the value is
+/// kept.
+pub fn checked_line(
+    alloc: Global,
+    described: &Described,
+    bytes: &[u8],
+) -> Result<(bool, String), AllocError> {
+    let checked = check::<Lifetime>(alloc, described, bytes);
+    let left = bytes.len().saturating_sub(checked.bytes);
+    line_of(alloc, &checked, left)
+}
+
+/// Adds the first so many of these bytes.
+fn push_front(bytes: &mut Vec<u8>, front: &[u8], size: usize) -> Result<(), AllocError> {
+    for byte in front.iter().take(size) {
+        bytes.push(*byte)?;
+    }
+    Ok(())
+}
+
+/// Adds the bytes of a length.
+fn push_length(bytes: &mut Vec<u8>, scheme: LengthScheme, count: usize) -> Result<(), AllocError> {
+    let groups = [
+        (count % 128) as u8,
+        (count / 128 % 128) as u8,
+        (count / 16384 % 128) as u8,
+    ];
+    match scheme {
+        LengthScheme::Eight => push_front(bytes, &count.to_le_bytes(), 8),
+        LengthScheme::Short if count < 128 => push_front(bytes, &groups, 1),
+        LengthScheme::Short if count < 16384 => {
+            push_front(bytes, &[groups[0] | 128, groups[1]], 2)
+        }
+        LengthScheme::Short => push_front(bytes, &[groups[0] | 128, groups[1] | 128, groups[2]], 3),
+    }
+}
+
+/// Adds the bytes of a part.
+fn push_bytes(bytes: &mut Vec<u8>, part: &Shown) -> Result<(), AllocError> {
+    let size = part_size(part);
+    match part {
+        Shown::Natural { value, .. } => push_front(bytes, &value.to_le_bytes(), size),
+        Shown::Signed { value, .. } => push_front(bytes, &value.to_le_bytes(), size),
+        Shown::Flag(flag) => push_front(bytes, &[*flag as u8], size),
+        Shown::Character(character) => {
+            let mut room = [0u8; 4];
+            push_front(bytes, character.encode_utf8(&mut room).as_bytes(), size)
+        }
+        Shown::Text(text) => push_front(bytes, text.as_bytes(), size),
+        Shown::Bytes(content) => push_front(bytes, content.as_slice(), size),
+        Shown::Length { scheme, count } => push_length(bytes, *scheme, *count),
+        Shown::Tag { tag, .. } => push_front(bytes, &tag.to_le_bytes(), size),
+        Shown::Nothing => Ok(()),
+    }
+}
+
+/// As `explained_lines`, of what comes of the source, of which no more is read than the value needs and a buffer holds.
+pub fn explained_source_lines<S: Source + Drop>(
+    alloc: Global,
+    described: &Described,
+    source: S,
+) -> ReadResult<(bool, String)> {
+    let explained = explain_source(alloc, described, source);
+    let mut bytes = Vec::new(alloc);
+    for part in explained.parts.iter() {
+        push_bytes(&mut bytes, part)?;
+    }
+    let spans = spans(alloc, explained.parts.as_slice())?;
+    let lines = lines_of(
+        alloc,
+        described,
+        &explained,
+        spans.as_slice(),
+        bytes.as_slice(),
+    )?;
+    Ok((explained.refused.is_none(), lines))
+}
+
+/// As `checked_line`, of what comes of the source. All of it is read, through a buffer, and none of it kept.
+pub fn checked_source_line<S: Source + Drop>(
+    alloc: Global,
+    described: &Described,
+    source: S,
+) -> ReadResult<(bool, String)> {
+    let mut reader = StreamReader::new(alloc, source)?;
+    let checked = check_read::<Lifetime, StreamReader<S>>(alloc, described, &mut reader);
+    let left = match &checked.refused {
+        None => bytes_left::<Lifetime, StreamReader<S>>(&mut reader)?,
+        Some(_) => 0,
+    };
+    Ok(line_of(alloc, &checked, left)?)
 }
 
 /// What can be written in a type, a line each with an example.

@@ -1,104 +1,99 @@
-//! The text of a type, word by word.
-use crate::error::{DescribeResult, wanted};
+//! The tokens of a type's text, one after another.
+use crate::error::{DescribeError, DescribeResult, wanted};
 use std::alloc::Global;
+use wincode_deriving::{DeriveError, Kind, Token, tokens_of};
 
-/// The bytes of a text, and the place of the next.
+/// The tokens of a text, and which of them is the next.
 #[derive(Drop)]
-pub(crate) struct Tokens {
-    text: Vec<u8>,
-    at: usize,
+pub(crate) struct Tokens<'a> {
+    /// A source file, whose declarations name types.
+    pub(crate) source: &'a [Token],
+    tokens: Vec<Token>,
+    next: usize,
+    /// How many bytes the text has.
+    size: usize,
 }
 
-/// Whether a byte may stand in a word.
-fn is_of_word(byte: u8) -> bool {
-    byte.is_ascii_alphanumeric() || byte == b'_'
-}
-
-impl Tokens {
-    /// From the first byte on.
-    pub(crate) fn new(alloc: Global, text: &str) -> DescribeResult<Tokens> {
-        let mut bytes = Vec::new(alloc);
-        for byte in text.as_bytes() {
-            bytes.push(*byte)?;
+impl<'a> Tokens<'a> {
+    /// From the first token on.
+    pub(crate) fn new(
+        alloc: Global,
+        source: &'a [Token],
+        text: &str,
+    ) -> DescribeResult<Tokens<'a>> {
+        match tokens_of(alloc, text) {
+            Ok(tokens) => Ok(Tokens {
+                source,
+                tokens,
+                next: 0,
+                size: text.len(),
+            }),
+            Err(DeriveError::OutOfMemory) => Err(DescribeError::OutOfMemory),
+            Err(_) => Err(wanted("the end of a text or a comment", text.len())),
         }
-        let mut tokens = Tokens { text: bytes, at: 0 };
-        tokens.skip();
-        Ok(tokens)
     }
 
-    /// The place of the next token.
+    /// The byte at which the next token begins.
     pub(crate) fn place(&self) -> usize {
-        self.at
+        match self.tokens.get(self.next) {
+            Some(token) => token.at,
+            None => self.size,
+        }
     }
 
     /// Whether no token is left.
     pub(crate) fn is_empty(&self) -> bool {
-        self.at >= self.text.len()
+        self.next >= self.tokens.len()
     }
 
-    /// Goes past spaces.
+    /// The text of the next token, if it is of the kind, and else none.
+    fn text_of(&self, kind: Kind) -> &str {
+        match self.tokens.get(self.next) {
+            Some(token) if token.kind == kind => token.text.as_str(),
+            _ => "",
+        }
+    }
+
+    /// Goes past the next token.
     fn skip(&mut self) {
-        for i in self.at..self.text.len() {
-            self.at = i;
-            if !self.text[i].is_ascii_whitespace() {
-                return;
-            }
-        }
-        self.at = self.text.len();
+        self.next = self.next.saturating_add(1);
     }
 
-    /// Takes the sign, if it is the next byte.
-    pub(crate) fn takes(&mut self, sign: u8) -> bool {
-        match self.text.get(self.at) {
-            Some(byte) if *byte == sign => {
-                self.at = self.at.saturating_add(1);
-                self.skip();
-                true
-            }
-            _ => false,
+    /// Takes the sign, if it is the next token.
+    pub(crate) fn takes(&mut self, sign: &str) -> bool {
+        if self.text_of(Kind::Sign) != sign {
+            return false;
         }
+        self.skip();
+        true
     }
 
-    /// Takes the sign, which has to be the next byte.
-    pub(crate) fn expect(&mut self, sign: u8, what: &'static str) -> DescribeResult<()> {
+    /// Takes the sign, which has to be the next token.
+    pub(crate) fn expect(&mut self, sign: &str, what: &'static str) -> DescribeResult<()> {
         if self.takes(sign) {
             Ok(())
         } else {
-            Err(wanted(what, self.at))
+            Err(wanted(what, self.place()))
         }
     }
 
-    /// Where the word ends that begins here.
-    fn word_end(&self) -> usize {
-        for i in self.at..self.text.len() {
-            if !is_of_word(self.text[i]) {
-                return i;
-            }
-        }
-        self.text.len()
-    }
-
-    /// Takes the word that begins here, which is empty where none does.
+    /// Takes the word that is the next token; it is empty where no word is.
     pub(crate) fn word(&mut self, alloc: Global) -> DescribeResult<String> {
-        let end = self.word_end();
-        let mut word = String::new(alloc);
-        for i in self.at..end {
-            if let Some(byte) = self.text.get(i) {
-                word.push(*byte as char)?;
-            }
+        let word = String::from_str(alloc, self.text_of(Kind::Word))?;
+        if !word.is_empty() {
+            self.skip();
         }
-        self.at = end;
-        self.skip();
         Ok(word)
     }
 
-    /// Takes the number that begins here.
-    pub(crate) fn number(&mut self, alloc: Global, what: &'static str) -> DescribeResult<usize> {
-        let at = self.at;
-        let word = self.word(alloc)?;
-        match word.as_str().parse::<usize>() {
-            Ok(number) if !word.as_str().starts_with('+') => Ok(number),
-            _ => Err(wanted(what, at)),
+    /// Takes the number that is the next token.
+    pub(crate) fn number(&mut self, what: &'static str) -> DescribeResult<usize> {
+        match self.text_of(Kind::Word).parse::<usize>() {
+            Ok(number) => {
+                self.skip();
+                Ok(number)
+            }
+            Err(_) => Err(wanted(what, self.place())),
         }
     }
 }

@@ -6,7 +6,7 @@ use wincode_describe::{Described, explained_lines};
 /// The lines of the bytes by the type.
 fn lines(alloc: Global, text: &str, bytes: &[u8]) -> Result<String, Fail> {
     let described = Described::parse(alloc, text)?;
-    Ok(explained_lines(alloc, &described, bytes)?)
+    Ok(explained_lines(alloc, &described, bytes)?.1)
 }
 
 /// A type, bytes and their lines.

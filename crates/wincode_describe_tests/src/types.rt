@@ -128,3 +128,111 @@ fn are_parsed_up_to_a_depth(rt: HostRuntime) -> Result<(), Fail> {
         }
     }
 }
+
+/// Declarations that name types.
+const SOURCE: &str = "
+use std::alloc::Global;
+
+/// An account, and whose it is.
+#[derive(Debug, Drop)]
+pub struct Account {
+    pub id: u64,
+    // wincode: with = containers::Vec<Owner, ShortU16Len>
+    owners: Vec<Owner>,
+    state: State,
+}
+
+struct Owner(String, [u8; 4]);
+
+struct Nothing;
+
+// wincode: tag_encoding = u8
+enum State {
+    Open,
+    // wincode: tag = 7
+    Closed(u16),
+    Moved { to: u64, when: Option<u32> },
+}
+
+struct Page<T> {
+    items: Vec<T>,
+}
+
+struct Odd {
+    file: File,
+}
+
+struct One {
+    other: Other,
+}
+
+struct Other {
+    one: Vec<One>,
+}
+
+struct Ring {
+    next: Option<Ring>,
+}
+";
+
+/// A type by these declarations, and what it is.
+const DECLARED: [(&str, &str); 5] = [
+    ("Owner", "struct { 0: String, 1: [u8; 4] }"),
+    ("Option<Nothing>", "Option<()>"),
+    (
+        "State",
+        "enum u8 { 0: (), 7: struct { 0: u16 }, 2: struct { to: u64, when: Option<u32> } }",
+    ),
+    (
+        "Vec<Account>",
+        "Vec<struct { id: u64, owners: short Vec<struct { 0: String, 1: [u8; 4] }>, state: enum u8 { 0: (), 7: struct { 0: u16 }, 2: struct { to: u64, when: Option<u32> } } }>",
+    ),
+    ("containers::Vec<u8, BincodeLen>", "Vec<u8>"),
+];
+
+#[test]
+fn are_named_by_declarations(rt: HostRuntime) -> Result<(), Fail> {
+    let alloc = rt.alloc();
+    for (text, written) in DECLARED {
+        let described = Described::parse_with(alloc, SOURCE, text)?;
+        let again = format!(in alloc; "{described}")?;
+        assert_eq!(rt; again.as_str(), written);
+        let parsed = Described::parse(alloc, written)?;
+        let once_more = format!(in alloc; "{parsed}")?;
+        assert_eq!(rt; once_more.as_str(), written);
+    }
+    Ok(())
+}
+
+/// What these declarations don't name, or what no type describes.
+const UNDECLARED: [(&str, &str); 6] = [
+    ("Vec<Person>", "a type is wanted at byte 4"),
+    ("Page", "a type without parameters is wanted at byte 0"),
+    ("(u8, Odd)", "`File` describes no type"),
+    (
+        "Vec<One>",
+        "the type at byte 4 is more than 128 levels deep",
+    ),
+    (
+        "Ring",
+        "line 42: no schema for a type that has itself for a part",
+    ),
+    (
+        "containers::Vec<u8, U>",
+        "`ShortU16Len` or `BincodeLen` is wanted at byte 20",
+    ),
+];
+
+#[test]
+fn are_refused_by_declarations(rt: HostRuntime) -> Result<(), Fail> {
+    let alloc = rt.alloc();
+    for (text, printed) in UNDECLARED {
+        match Described::parse_with(alloc, SOURCE, text) {
+            Ok(_) => return Err(Fail::from("parsed")),
+            Err(error) => {
+                assert_eq!(rt; format!(in alloc; "{error}")?.as_str(), printed);
+            }
+        }
+    }
+    Ok(())
+}

@@ -1,9 +1,7 @@
-//! An entry, by its schema by hand.
+//! An entry, whose schema `wincode_derive` wrote.
 use std::test::Fail;
-use wincode::io::Lifetime;
-use wincode::serialize;
+use wincode::{deserialize, serialize};
 use wincode_examples::entry::Entry;
-use wincode_uses::rewriting::rewrite;
 
 #[test]
 fn an_entry(rt: HostRuntime) -> Result<(), Fail> {
@@ -17,8 +15,10 @@ fn an_entry(rt: HostRuntime) -> Result<(), Fail> {
         text.as_slice(),
         [2u8, 1, 0, 0, 0, 0, 0, 0, 2, 0, 0, 0, 0, 0, 0, 0, 7, 9].as_slice()
     );
-    let mut reader = text.as_slice();
-    let again = rewrite::<Lifetime, &[u8], Entry>(alloc, &mut reader)?;
+    let back: Entry = deserialize(alloc, text.as_slice())?;
+    assert_eq!(rt; back.id, 258);
+    assert_eq!(rt; back.tags.as_slice(), [7u8, 9].as_slice());
+    let again = serialize(alloc, &back)?;
     assert!(rt; again == text);
     Ok(())
 }

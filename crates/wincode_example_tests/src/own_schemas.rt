@@ -54,7 +54,7 @@ fn shapes_written_as_their_parts(rt: HostRuntime) -> Result<(), Fail> {
             "01000000010000000000000061",
         ),
     ] {
-        let text = <By<Change> as Serialize>::serialize(alloc, &change)?;
+        let text = <Change as Serialize>::serialize(alloc, &change)?;
         assert!(rt; text == bytes_of(alloc, digits)?, "{digits}");
     }
     Ok(())
@@ -65,7 +65,7 @@ fn copied(alloc: Global, name: &str, bytes: &[u8]) -> Result<String, Fail> {
     match name {
         "Transfer" => transfer_copied(alloc, bytes),
         "Day" => copied_as::<By<Day>>(alloc, bytes),
-        _ => copied_as::<By<Change>>(alloc, bytes),
+        _ => copied_as::<Change>(alloc, bytes),
     }
 }
 

@@ -1,2 +1,1 @@
 mod Records
-mod Cases

@@ -32,6 +32,10 @@ IsStepped n old new = n + 8192 ≤ length new.at_hand → length new.at_hand ≤
 abbrev pub IsUnasked : {S : Type 0} → Streamed S → Streamed S → Type 0
 IsUnasked old new = IsTrue old.has_failed → new ≡ old
 
+-- a source that has failed is not asked by a call that takes bytes either, and its failure is not forgotten
+abbrev pub StaysFailed : {S : Type 0} → Streamed S → Streamed S → Type 0
+StaysFailed old new = IsTrue old.has_failed → (new.source ≡ old.source) × IsTrue new.has_failed
+
 -- a failure of the source is remembered
 abbrev pub Remembers : {S : Type 0} → Streamed S → ReadError → Type 0
 Remembers new (Io e) = IsTrue new.has_failed

@@ -87,6 +87,27 @@ impl Buffer {
         ensures kept { OnErr result (self.new ≡ self.old) }
         ensures err { IfErr result (IsUnread (S.state source.old) (S.state source.new)) }
     {
+        let at = self.end;
+        if let Some(alone) = Arc::get_mut(&mut self.bytes) {
+            if at < alone.len() {
+                return match read_alone(source, alone, at) {
+                    Ok(n) => {
+                        self.end += n;
+                        Ok(n)
+                    }
+                    Err(e) => Err(ReadError::Io(e)),
+                };
+            }
+        }
+        self.read_moved(source)
+    }
+
+    /// As `read`, of bytes behind which there is no room, or that a window shares.
+    fn read_moved<S: Source>(&mut self, source: &mut S) -> ReadResult<usize>
+        ensures ok { IfOk result (λ n. Came n self.old self.new (S.state source.old) (S.state source.new)) }
+        ensures kept { OnErr result (self.new ≡ self.old) }
+        ensures err { IfErr result (IsUnread (S.state source.old) (S.state source.new)) }
+    {
         let size = self.end - self.place;
         let place = make_room(&mut self.bytes, self.place, self.end)?;
         self.place = place;

@@ -7,7 +7,7 @@ ghost use Rattle.wincode_io.specs.Windows.{window_state};
 ghost use Rattle.std.specs.Io.BufRead.{Rests};
 ghost use types.Logic.{sem};
 ghost use Rattle.wincode_io.specs.contracts.stream_reader.StreamReader.{the_row as stream-row};
-ghost use Rattle.wincode_io.specs.Streams.{Streamed, stream_state, IsOver, IsStepped, IsUnasked, Remembers, FailsAgain};
+ghost use Rattle.wincode_io.specs.Streams.{Streamed, stream_state, IsOver, IsStepped, IsUnasked, StaysFailed, Remembers, FailsAgain};
 
 use super::buffer::Buffer;
 use super::error::{ReadError, ReadResult};
@@ -145,10 +145,24 @@ impl<S: Source> StreamReader<S> {
         Ok(())
     }
 
+    /// The first `n` bytes, where as many are at hand.
+    fn front(&self, n: usize) -> ReadResult<&[u8]>
+        ensures ok { IfOk result (λ s. (n ≤ length self.now.at_hand) × (s.now ≡ take n self.now.at_hand)) }
+        ensures err { IfErr result (λ e. (length self.now.at_hand < n) × (e ≡ ReadError.ReadSizeLimit n)) }
+    {
+        let bytes = self.buffer.as_slice();
+        if bytes.len() < n {
+            return Err(ReadError::ReadSizeLimit(n));
+        }
+        Ok(&bytes[..n])
+    }
+
     /// Goes on by `n` bytes, which are at hand.
     fn skip(&mut self, n: usize)
         requires { n ≤ length self.old.at_hand }
-        ensures { Loses n (stream_state S.state self.old) (stream_state S.state self.new) }
+        ensures loses { Loses n (stream_state S.state self.old) (stream_state S.state self.new) }
+        ensures failed { self.new.has_failed ≡ self.old.has_failed }
+        ensures source { self.new.source ≡ self.old.source }
     {
         self.buffer.consume(n);
     }
@@ -159,6 +173,8 @@ impl<S: Source> StreamReader<S> {
         ensures ok { IfOk result (λ w. Windowed n (stream_state S.state self.old) (stream_state S.state self.new) (counted w)) }
         ensures err { OnErr result (Stays (stream_state S.state self.old) (stream_state S.state self.new)) }
         ensures count { IfErr result (λ e. e ≡ ReadError.OutOfMemory) }
+        ensures failed { self.new.has_failed ≡ self.old.has_failed }
+        ensures source { self.new.source ≡ self.old.source }
     {
         let Ok(window) = self.buffer.window(n) else {
             return Err(ReadError::OutOfMemory);
@@ -198,6 +214,8 @@ impl<L: Lending, S: Source> Reader<L> for StreamReader<S> {
         ensures err { IfErr result (BytesReadRefused (IsShort n (stream_state S.state self.old)) ⊥ n (stream_state S.state self.old) (stream_state S.state self.new)) }
         ensures asked { OnErr result (length self.old.at_hand < n) }
         ensures again { IfErr result (FailsAgain self.old) }
+        ensures unasked { StaysFailed self.old self.new }
+        ensures remembered { IfErr result (Remembers self.new) }
     {
         self.fetch(n)?;
         if self.ready() < n {
@@ -251,9 +269,12 @@ impl<L: Lending, S: Source> Reader<L> for StreamReader<S> {
         ensures err { IfErr result (BytesReadRefused (IsShort (length dst.old) (stream_state S.state self.old)) ⊥ (length dst.old) (stream_state S.state self.old) (stream_state S.state self.new)) }
         ensures asked { OnErr result (length self.old.at_hand < length dst.old) }
         ensures again { IfErr result (FailsAgain self.old) }
+        ensures unasked { StaysFailed self.old self.new }
+        ensures remembered { IfErr result (Remembers self.new) }
     {
         let n = dst.len();
-        dst.copy_from_slice(<Self as Reader<L>>::fill_exact(self, n)?);
+        self.fetch(n)?;
+        dst.copy_from_slice(self.front(n)?);
         self.skip(n);
         Ok(())
     }
@@ -264,13 +285,16 @@ impl<L: Lending, S: Source> Reader<L> for StreamReader<S> {
         ensures vast { byte_limit < T.size → result ≡ Err (ReadError.ReadSizeLimit byte_limit) }
         ensures err { IfErr result (FormReadRefused T.size (stream_state S.state self.old) (stream_state S.state self.new)) }
         ensures asked { OnErr result (length self.old.at_hand < T.size) }
+        ensures unasked { StaysFailed self.old self.new }
+        ensures remembered { IfErr result (Remembers self.new) }
     {
         let Some(size) = T::form_size() else {
             // Fewer bytes are at hand, since their number fits.
             let _ready = self.ready();
             return Err(ReadError::ReadSizeLimit(usize::MAX));
         };
-        *dst = Some(T::of_form(<Self as Reader<L>>::fill_exact(self, size)?));
+        self.fetch(size)?;
+        *dst = Some(T::of_form(self.front(size)?));
         self.skip(size);
         Ok(())
     }
@@ -281,13 +305,16 @@ impl<L: Lending, S: Source> Reader<L> for StreamReader<S> {
         ensures vast { byte_limit < length dst.old * T.size → result ≡ Err (ReadError.ReadSizeLimit byte_limit) }
         ensures err { IfErr result (FormReadRefused (length dst.old * T.size) (stream_state S.state self.old) (stream_state S.state self.new)) }
         ensures asked { OnErr result (length self.old.at_hand < length dst.old * T.size) }
+        ensures unasked { StaysFailed self.old self.new }
+        ensures remembered { IfErr result (Remembers self.new) }
     {
         let Some(total) = total_size::<T>(dst.len()) else {
             // Fewer bytes are at hand, since their number fits.
             let _ready = self.ready();
             return Err(ReadError::ReadSizeLimit(usize::MAX));
         };
-        read_forms(<Self as Reader<L>>::fill_exact(self, total)?, dst);
+        self.fetch(total)?;
+        read_forms(self.front(total)?, dst);
         self.skip(total);
         Ok(())
     }
@@ -296,7 +323,11 @@ impl<L: Lending, S: Source> Reader<L> for StreamReader<S> {
         self.buffer.as_slice()
     }
 
-    fn consume_unchecked(&mut self, n: usize) {
+    fn consume_unchecked(&mut self, n: usize)
+        requires { n ≤ length self.old.at_hand }
+        ensures loses { Loses n (stream_state S.state self.old) (stream_state S.state self.new) }
+        ensures unasked { StaysFailed self.old self.new }
+    {
         self.skip(n);
     }
 
@@ -314,6 +345,8 @@ impl<L: Lending, S: Source> Reader<L> for StreamReader<S> {
         ensures ok { IfOk result (λ w. Windowed n (stream_state S.state self.old) (stream_state S.state self.new) (window_state w)) }
         ensures err { IfErr result (WindowRefused n (stream_state S.state self.old) (stream_state S.state self.new)) }
         ensures asked { IfErr result (λ e. n ≤ length self.old.at_hand → e ≡ ReadError.OutOfMemory) }
+        ensures unasked { StaysFailed self.old self.new }
+        ensures remembered { IfErr result (Remembers self.new) }
     {
         self.fetch(n)?;
         if self.ready() < n {

@@ -1,24 +1,26 @@
-//! `wincode_show SHAPE`: reads a value from standard input and writes it again to standard output;
-//! `wincode_show explain SHAPE`: writes its parts, a line each; `wincode_show relay --stream SHAPE`: as the
-//! first, without all of the input in memory.
+//! `wincode_show SHAPE`: reads a value from standard input and writes it again to standard output; `wincode_show relay
+//! --stream SHAPE`: so, without all of the input in memory; `wincode_show explain TYPE [FILE]` and `wincode_show check TYPE
+//! [FILE]`: shows bytes by their type, and says whether they begin with a value of it; `wincode_show --help` says all.
 #![tactic(auto)]
 
-mod explaining;
+mod asking;
 mod recoding;
 mod relaying;
 mod streaming;
 #[cfg(test)]
 mod tests;
 
-use explaining::explain;
+use asking::{Asked, Command, Fault, HELP, Question, print};
 use recoding::RelayError;
 use relaying::relay;
+use std::fs::File;
 use std::io::ErrorKind;
 use std::process::ExitCode;
-use std::rt::Env;
-use std::{env, io};
+use std::rt::{Env, Files};
+use std::{env, fs, io};
 use streaming::relay_stream;
 use wincode::io::StdSource;
+use wincode_describe::TYPES;
 
 /// Why the arguments aren't known: no memory for them, or one that is no text.
 fn unread(error: io::Error) -> RelayError {
@@ -28,50 +30,78 @@ fn unread(error: io::Error) -> RelayError {
     }
 }
 
-/// Recodes by the one argument that was given; explains by the second of two; or recodes what comes of the
-/// input as a stream, by the third of three.
-fn run(rt: &(impl Env + Input + Print + AllocGlobal)) -> Result<(), RelayError> {
-    let mut words = env::args(rt).map_err(unread)?.skip(1);
-    let Some(word) = words.next() else {
-        return Err(RelayError::UnknownShape);
+/// Explains or checks the bytes of a file, or of standard input; whether a value was read.
+fn look(
+    rt: &(impl Files + Input + Print + AllocGlobal),
+    is_check: bool,
+    words: &[String],
+) -> Result<bool, Fault> {
+    let alloc = rt.alloc();
+    let asked = Asked::of(words)?;
+    let source = match asked.types {
+        None => String::new(alloc),
+        Some(path) => fs::read_to_string(rt, path).map_err(Fault::Unread)?,
     };
-    let Some(second) = words.next() else {
-        return relay(
-            rt.alloc(),
-            word.as_str(),
-            &mut rt.reader(),
-            &mut io::writer(rt),
-        );
-    };
-    let Some(third) = words.next() else {
-        if word.as_str() != "explain" {
-            return Err(RelayError::UnknownShape);
-        }
-        return explain(
-            rt.alloc(),
-            second.as_str(),
-            &mut rt.reader(),
-            &mut io::writer(rt),
-        );
-    };
-    if words.next().is_some() || word.as_str() != "relay" || second.as_str() != "--stream" {
-        return Err(RelayError::UnknownShape);
+    let question = Question::of(alloc, is_check, &asked, source.as_str())?;
+    let mut output = io::writer(rt);
+    match asked.file {
+        None => question.answer(alloc, rt.reader(), &mut output),
+        Some(path) => match File::open(rt, path) {
+            Ok(file) => question.answer(alloc, file, &mut output),
+            Err(error) => Err(Fault::Unread(error)),
+        },
     }
-    relay_stream(
-        rt.alloc(),
-        third.as_str(),
-        StdSource::new(rt.reader()),
-        &mut io::writer(rt),
-    )
+}
+
+/// The words behind the program's name.
+fn words_of(rt: &(impl Env + AllocGlobal)) -> Result<Vec<String>, Fault> {
+    let mut words = Vec::new(rt.alloc());
+    for word in env::args(rt).map_err(unread)?.skip(1) {
+        words.push(word)?;
+    }
+    Ok(words)
+}
+
+/// Prints a text of the program's own.
+fn tell(rt: &impl Print, text: &str) -> Result<bool, Fault> {
+    print(&mut io::writer(rt), text)?;
+    Ok(true)
+}
+
+/// Reads a value of the shape from standard input, and writes it to standard output.
+fn recode(rt: &(impl Input + Print + AllocGlobal), shape: &str) -> Result<bool, Fault> {
+    relay(rt.alloc(), shape, &mut rt.reader(), &mut io::writer(rt))?;
+    Ok(true)
+}
+
+/// So, without all of the input in memory.
+fn recode_stream(rt: &(impl Input + Print + AllocGlobal), shape: &str) -> Result<bool, Fault> {
+    let source = StdSource::new(rt.reader());
+    relay_stream(rt.alloc(), shape, source, &mut io::writer(rt))?;
+    Ok(true)
+}
+
+/// Does what the arguments say; whether a value was read.
+fn run(rt: &(impl Env + Files + Input + Print + AllocGlobal)) -> Result<bool, Fault> {
+    let words = words_of(rt)?;
+    match Command::of(words.as_slice())? {
+        Command::Explain(words) => look(rt, false, words),
+        Command::Check(words) => look(rt, true, words),
+        Command::Types => tell(rt, TYPES),
+        Command::Help => tell(rt, HELP),
+        Command::Recode(shape) => recode(rt, shape),
+        Command::RecodeStream(shape) => recode_stream(rt, shape),
+    }
 }
 
 /// Runs, prints why it failed, and gives the status.
-fn status(rt: &(impl Env + Input + Print + Eprint + AllocGlobal)) -> u8 {
+fn status(rt: &(impl Env + Files + Input + Print + Eprint + AllocGlobal)) -> u8 {
     match run(rt) {
-        Ok(()) => 0,
-        Err(error) => {
-            let _ = eprintln!(rt; "{error}");
-            error.status()
+        Ok(true) => 0,
+        Ok(false) => 1,
+        Err(fault) => {
+            let _ = eprintln!(rt; "{fault}");
+            fault.status()
         }
     }
 }

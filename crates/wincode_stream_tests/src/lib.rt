@@ -2,6 +2,8 @@
 #![tactic(auto)]
 
 pub mod both;
+#[cfg(test)]
+mod described;
 pub mod front;
 #[cfg(test)]
 mod messages;

@@ -133,10 +133,46 @@ fn the_source_is_not_asked_again(rt: HostRuntime) -> Result<(), Fail> {
         panic!(rt; "no error");
     };
     assert!(rt; e.kind() == ErrorKind::TimedOut);
-    let Err(ReadError::Io(e)) = <Reads as Reader<Any>>::peek(&mut r) else {
-        panic!(rt; "no error");
-    };
-    assert!(rt; e.kind() == ErrorKind::Other);
+    for _ in 0..2 {
+        let Err(ReadError::Io(e)) = <Reads as Reader<Any>>::peek(&mut r) else {
+            panic!(rt; "no error");
+        };
+        assert!(rt; e.kind() == ErrorKind::Other);
+        assert!(rt; matches!(&fill_buf::<Any, Reads>(&mut r, 1), Err(ReadError::Io(_))));
+        assert!(rt; matches!(&fill_exact::<Any, Reads>(&mut r, 1), Err(ReadError::Io(_))));
+        assert_eq!(rt; fill_buf::<Any, Reads>(&mut r, 0)?.len(), 0);
+    }
+    assert_eq!(rt; r.into_source().into_inner().asked, 1);
+    Ok(())
+}
+
+/// Gives nothing, and counts.
+#[derive(Drop)]
+struct Empty {
+    asked: usize,
+}
+
+impl Read for Empty {
+    fn read(&mut self, _buf: &mut [u8]) -> io::Result<usize> {
+        self.asked = self.asked.saturating_add(1);
+        Ok(0)
+    }
+}
+
+#[test]
+fn the_source_is_not_asked_behind_its_end(rt: HostRuntime) -> Result<(), Fail> {
+    type Reads = StreamReader<StdSource<Empty>>;
+    let mut r = StreamReader::new(rt.alloc(), StdSource::new(Empty { asked: 0 }))?;
+    for _ in 0..2 {
+        let Err(ReadError::ReadSizeLimit(n)) = fill_exact::<Any, Reads>(&mut r, 5) else {
+            panic!(rt; "no refusal");
+        };
+        assert_eq!(rt; n, 5);
+        assert_eq!(rt; fill_buf::<Any, Reads>(&mut r, 1)?.len(), 0);
+        <Reads as Reader<Any>>::consume(&mut r, 0)?;
+        let mut window = window_of::<Any, Reads>(&mut r, 0)?;
+        assert_eq!(rt; window.fill_buf(1)?.len(), 0);
+    }
     assert_eq!(rt; r.into_source().into_inner().asked, 1);
     Ok(())
 }

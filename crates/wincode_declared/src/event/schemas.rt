@@ -17,6 +17,8 @@ use wincode_derived::sums::{Case, Last, OneOf};
 type EventCases = OneOf<<Event as EnumShape>::Tag, <Event as EnumShape>::Cases>;
 
 impl EnumParts for Event {
+    type Src = Event;
+
     type Parts = Result<(), Result<u64, Result<(u32, bool), (Order, Vec<u16>)>>>;
 
     ghost parts = { elim [ EventPing ↦ Ok tt | EventSent a ↦ Err (Ok a) | EventMoved a b ↦ Err (Err (Ok (a, b))) | EventNamed a b ↦ Err (Err (Err (a, b))) ] };
@@ -36,8 +38,8 @@ impl EnumShape for Event {
 
     type Cases = Case<0, (), Case<1, u64, Case<2, (u32, bool), Last<3, (Order, Vec<u16>)>>>>;
 
-    fn tag(&self) -> usize {
-        match self {
+    fn tag(src: &Event) -> usize {
+        match src {
             Event::Ping => 0,
             Event::Sent(_) => 1,
             Event::Moved(_, _) => 2,
@@ -45,8 +47,8 @@ impl EnumShape for Event {
         }
     }
 
-    fn part_size(&self) -> WriteResult<usize> {
-        match self {
+    fn part_size(src: &Event) -> WriteResult<usize> {
+        match src {
             Event::Ping => <() as SchemaWrite>::size_of(&()),
             Event::Sent(a) => <u64 as SchemaWrite>::size_of(a),
             Event::Moved(a, b) => size_of_members_2::<u32, bool>(a, b),
@@ -54,8 +56,8 @@ impl EnumShape for Event {
         }
     }
 
-    fn write_part<W: Writer>(&self, writer: &mut W) -> WriteResult<()> {
-        match self {
+    fn write_part<W: Writer>(writer: &mut W, src: &Event) -> WriteResult<()> {
+        match src {
             Event::Ping => <() as SchemaWrite>::write::<W>(writer, &()),
             Event::Sent(a) => <u64 as SchemaWrite>::write::<W>(writer, a),
             Event::Moved(a, b) => write_members_2::<u32, bool, W>(writer, a, b),

@@ -1,30 +1,354 @@
 //! Written by `wincode_derive`: the schemas of what the module above declares.
-ghost use Rattle.std.proofs.Common.{ap};
+ghost use Rattle.std.specs.Prelude.{◌≡◌};
+ghost use Rattle.wincode_base.specs.Outcomes.{ReadOutcome};
+ghost use Rattle.wincode_base.specs.PairLaws.{write_laws_by, reads_back_by};
 
 use super::*;
-use wincode::io::Writer;
-use wincode::schema::tuples::{size_of_members_2, write_members_2};
-use wincode::{Shape, WriteResult};
+use std::alloc::Global;
+use wincode::io::{Lifetime, Reader, Writer};
+use wincode::schema::tuples::{
+    size_of_members_2, size_of_members_5, write_members_2, write_members_5,
+};
+use wincode::{
+    OneText, ReadResult, RoundTrip, SchemaGet, SchemaRead, SchemaWrite, TypeMeta, WriteResult,
+};
+use wincode_derived::lent::Lends;
 
-impl<'a> Shape for Label<'a> {
+type LabelFields<'a> = (u64, &'a str);
+
+impl<'a> SchemaWrite for Label<'a> {
+    type Src = Label<'a>;
+
+    ghost Value = { ⟦<LabelFields<'a> as SchemaWrite>⟧.Value };
+
+    ghost model = { λ x. ⟦<LabelFields<'a> as SchemaWrite>⟧.model (x.number, x.name) };
+
+    ghost is_valid = { λ x. ⟦<LabelFields<'a> as SchemaWrite>⟧.is_valid (x.number, x.name) };
+
+    ghost writing = { ⟦<LabelFields<'a> as SchemaWrite>⟧.writing };
+
+    fn type_meta() -> TypeMeta
+        ensures { result ≡ ⟦<LabelFields<'a> as SchemaWrite>⟧.writing.meta }
+    {
+        <LabelFields<'a> as SchemaWrite>::type_meta()
+    }
+
+    fn size_of(src: &Label<'a>) -> WriteResult<usize> {
+        size_of_members_2::<u64, &'a str>(&src.number, &src.name)
+    }
+
+    fn write<W: Writer>(writer: &mut W, src: &Label<'a>) -> WriteResult<()> {
+        write_members_2::<u64, &'a str, W>(writer, &src.number, &src.name)
+    }
+
+    ghost write_laws = { write_laws_by (λ x. (x.number, x.name)) ⟦<LabelFields<'a> as SchemaWrite>⟧.write_laws };
+}
+
+impl<'a> Lends<Label<'static>> for Lifetime<'a> {
+    type Lent = Label<'a>;
+
     type Parts = (u64, &'a str);
 
-    type As = (u64, &'a str);
+    type As = LabelFields<'a>;
 
     ghost parts = { λ x. (x.number, x.name) };
 
-    ghost parts_tell = { λ x y same. ap (λ p. record { number = p.0; name = p.1 }) same };
-
-    fn make(made_of: Self::Parts) -> Label<'a> {
+    fn make(made_of: (u64, &'a str)) -> Label<'a> {
         let (number, name) = made_of;
         Label { number, name }
     }
+}
 
-    fn parts_size(&self) -> WriteResult<usize> {
-        size_of_members_2::<u64, &'a str>(&self.number, &self.name)
+impl<'a, L: Lends<Label<'static>>> SchemaRead<L> for Label<'a> {
+    type Dst = L::Lent;
+
+    ghost Value = { L.As.SchemaRead.Value };
+
+    ghost model = { λ x. L.As.SchemaRead.model (L.parts x) };
+
+    ghost is_valid = { L.As.SchemaRead.is_valid };
+
+    ghost reading = { L.As.SchemaRead.reading };
+
+    fn type_meta() -> TypeMeta
+        ensures { result ≡ L.As.SchemaRead.reading.meta }
+    {
+        <L::As as SchemaRead<L>>::type_meta()
     }
 
-    fn write_parts<W: Writer>(&self, writer: &mut W) -> WriteResult<()> {
-        write_members_2::<u64, &'a str, W>(writer, &self.number, &self.name)
+    fn prealloc_size() -> usize
+        ensures { result ≡ L.As.SchemaRead.reading.prealloc }
+    {
+        <L::As as SchemaRead<L>>::prealloc_size()
     }
+
+    fn read<R: Reader<L>>(
+        alloc: Global,
+        reader: &mut R,
+        dst: &mut Option<L::Lent>,
+    ) -> ReadResult<()>
+        ensures { ReadOutcome L.As.SchemaRead.reading (λ x. L.As.SchemaRead.model (L.parts x))
+            (R.state reader.old) (R.state reader.new) dst.old dst.new result }
+    {
+        let parts = <L::As as SchemaGet<L>>::get(alloc, reader)?;
+        *dst = Some(L::make(parts));
+        Ok(())
+    }
+
+    ghost read_laws = { L.As.SchemaRead.read_laws };
+}
+
+impl<'a, L: Lends<Label<'static>>> OneText<L> for Label<'a>
+where
+    L::As: OneText<L>,
+{
+    ghost one_text = { L.As.one_text };
+}
+
+impl<'a> RoundTrip<Lifetime<'a>> for Label<'a>
+where
+    LabelFields<'a>: RoundTrip<Lifetime<'a>, Src = (u64, &'a str)>,
+{
+    ghost reads_back = { reads_back_by (λ x. (x.number, x.name)) bound-1.reads_back };
+}
+
+type SheetFields<'a> = (
+    Label<'a>,
+    Vec<Label<'a>>,
+    BTreeMap<u16, Label<'a>>,
+    &'a [u8],
+    Option<Label<'a>>,
+);
+
+impl<'a> SchemaWrite for Sheet<'a> {
+    type Src = Sheet<'a>;
+
+    ghost Value = { ⟦<SheetFields<'a> as SchemaWrite>⟧.Value };
+
+    ghost model = { λ x. ⟦<SheetFields<'a> as SchemaWrite>⟧.model (x.title, x.labels, x.by_number, x.picture, x.last) };
+
+    ghost is_valid = { λ x. ⟦<SheetFields<'a> as SchemaWrite>⟧.is_valid (x.title, x.labels, x.by_number, x.picture, x.last) };
+
+    ghost writing = { ⟦<SheetFields<'a> as SchemaWrite>⟧.writing };
+
+    fn type_meta() -> TypeMeta
+        ensures { result ≡ ⟦<SheetFields<'a> as SchemaWrite>⟧.writing.meta }
+    {
+        <SheetFields<'a> as SchemaWrite>::type_meta()
+    }
+
+    fn size_of(src: &Sheet<'a>) -> WriteResult<usize> {
+        size_of_members_5::<
+            Label<'a>,
+            Vec<Label<'a>>,
+            BTreeMap<u16, Label<'a>>,
+            &'a [u8],
+            Option<Label<'a>>,
+        >(
+            &src.title,
+            &src.labels,
+            &src.by_number,
+            &src.picture,
+            &src.last,
+        )
+    }
+
+    fn write<W: Writer>(writer: &mut W, src: &Sheet<'a>) -> WriteResult<()> {
+        write_members_5::<
+            Label<'a>,
+            Vec<Label<'a>>,
+            BTreeMap<u16, Label<'a>>,
+            &'a [u8],
+            Option<Label<'a>>,
+            W,
+        >(
+            writer,
+            &src.title,
+            &src.labels,
+            &src.by_number,
+            &src.picture,
+            &src.last,
+        )
+    }
+
+    ghost write_laws = { write_laws_by (λ x. (x.title, x.labels, x.by_number, x.picture, x.last)) ⟦<SheetFields<'a> as SchemaWrite>⟧.write_laws };
+}
+
+impl<'a> Lends<Sheet<'static>> for Lifetime<'a> {
+    type Lent = Sheet<'a>;
+
+    type Parts = (
+        Label<'a>,
+        Vec<Label<'a>>,
+        BTreeMap<u16, Label<'a>>,
+        &'a [u8],
+        Option<Label<'a>>,
+    );
+
+    type As = SheetFields<'a>;
+
+    ghost parts = { λ x. (x.title, x.labels, x.by_number, x.picture, x.last) };
+
+    fn make(
+        made_of: (
+            Label<'a>,
+            Vec<Label<'a>>,
+            BTreeMap<u16, Label<'a>>,
+            &'a [u8],
+            Option<Label<'a>>,
+        ),
+    ) -> Sheet<'a> {
+        let (title, labels, by_number, picture, last) = made_of;
+        Sheet {
+            title,
+            labels,
+            by_number,
+            picture,
+            last,
+        }
+    }
+}
+
+impl<'a, L: Lends<Sheet<'static>>> SchemaRead<L> for Sheet<'a> {
+    type Dst = L::Lent;
+
+    ghost Value = { L.As.SchemaRead.Value };
+
+    ghost model = { λ x. L.As.SchemaRead.model (L.parts x) };
+
+    ghost is_valid = { L.As.SchemaRead.is_valid };
+
+    ghost reading = { L.As.SchemaRead.reading };
+
+    fn type_meta() -> TypeMeta
+        ensures { result ≡ L.As.SchemaRead.reading.meta }
+    {
+        <L::As as SchemaRead<L>>::type_meta()
+    }
+
+    fn prealloc_size() -> usize
+        ensures { result ≡ L.As.SchemaRead.reading.prealloc }
+    {
+        <L::As as SchemaRead<L>>::prealloc_size()
+    }
+
+    fn read<R: Reader<L>>(
+        alloc: Global,
+        reader: &mut R,
+        dst: &mut Option<L::Lent>,
+    ) -> ReadResult<()>
+        ensures { ReadOutcome L.As.SchemaRead.reading (λ x. L.As.SchemaRead.model (L.parts x))
+            (R.state reader.old) (R.state reader.new) dst.old dst.new result }
+    {
+        let parts = <L::As as SchemaGet<L>>::get(alloc, reader)?;
+        *dst = Some(L::make(parts));
+        Ok(())
+    }
+
+    ghost read_laws = { L.As.SchemaRead.read_laws };
+}
+
+impl<'a, L: Lends<Sheet<'static>>> OneText<L> for Sheet<'a>
+where
+    L::As: OneText<L>,
+{
+    ghost one_text = { L.As.one_text };
+}
+
+type PieceFields<'a> = &'a [u8];
+
+impl<'a> SchemaWrite for Piece<'a> {
+    type Src = Piece<'a>;
+
+    ghost Value = { ⟦<PieceFields<'a> as SchemaWrite>⟧.Value };
+
+    ghost model = { λ x. ⟦<PieceFields<'a> as SchemaWrite>⟧.model x.0 };
+
+    ghost is_valid = { λ x. ⟦<PieceFields<'a> as SchemaWrite>⟧.is_valid x.0 };
+
+    ghost writing = { ⟦<PieceFields<'a> as SchemaWrite>⟧.writing };
+
+    fn type_meta() -> TypeMeta
+        ensures { result ≡ ⟦<PieceFields<'a> as SchemaWrite>⟧.writing.meta }
+    {
+        <PieceFields<'a> as SchemaWrite>::type_meta()
+    }
+
+    fn size_of(src: &Piece<'a>) -> WriteResult<usize> {
+        <&'a [u8] as SchemaWrite>::size_of(&src.0)
+    }
+
+    fn write<W: Writer>(writer: &mut W, src: &Piece<'a>) -> WriteResult<()> {
+        <&'a [u8] as SchemaWrite>::write::<W>(writer, &src.0)
+    }
+
+    ghost write_laws = { write_laws_by (λ x. x.0) ⟦<PieceFields<'a> as SchemaWrite>⟧.write_laws };
+}
+
+impl<'a> Lends<Piece<'static>> for Lifetime<'a> {
+    type Lent = Piece<'a>;
+
+    type Parts = &'a [u8];
+
+    type As = PieceFields<'a>;
+
+    ghost parts = { λ x. x.0 };
+
+    fn make(made_of: &'a [u8]) -> Piece<'a> {
+        let a = made_of;
+        Piece(a)
+    }
+}
+
+impl<'a, L: Lends<Piece<'static>>> SchemaRead<L> for Piece<'a> {
+    type Dst = L::Lent;
+
+    ghost Value = { L.As.SchemaRead.Value };
+
+    ghost model = { λ x. L.As.SchemaRead.model (L.parts x) };
+
+    ghost is_valid = { L.As.SchemaRead.is_valid };
+
+    ghost reading = { L.As.SchemaRead.reading };
+
+    fn type_meta() -> TypeMeta
+        ensures { result ≡ L.As.SchemaRead.reading.meta }
+    {
+        <L::As as SchemaRead<L>>::type_meta()
+    }
+
+    fn prealloc_size() -> usize
+        ensures { result ≡ L.As.SchemaRead.reading.prealloc }
+    {
+        <L::As as SchemaRead<L>>::prealloc_size()
+    }
+
+    fn read<R: Reader<L>>(
+        alloc: Global,
+        reader: &mut R,
+        dst: &mut Option<L::Lent>,
+    ) -> ReadResult<()>
+        ensures { ReadOutcome L.As.SchemaRead.reading (λ x. L.As.SchemaRead.model (L.parts x))
+            (R.state reader.old) (R.state reader.new) dst.old dst.new result }
+    {
+        let parts = <L::As as SchemaGet<L>>::get(alloc, reader)?;
+        *dst = Some(L::make(parts));
+        Ok(())
+    }
+
+    ghost read_laws = { L.As.SchemaRead.read_laws };
+}
+
+impl<'a, L: Lends<Piece<'static>>> OneText<L> for Piece<'a>
+where
+    L::As: OneText<L>,
+{
+    ghost one_text = { L.As.one_text };
+}
+
+impl<'a> RoundTrip<Lifetime<'a>> for Piece<'a>
+where
+    PieceFields<'a>: RoundTrip<Lifetime<'a>, Src = &'a [u8]>,
+{
+    ghost reads_back = { reads_back_by (λ x. x.0) bound-1.reads_back };
 }

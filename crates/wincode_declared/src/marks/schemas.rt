@@ -520,6 +520,8 @@ where
 type MarkCases = OneOf<<Mark as EnumShape>::Tag, <Mark as EnumShape>::Cases>;
 
 impl EnumParts for Mark {
+    type Src = Mark;
+
     type Parts = Result<(), Result<(), ()>>;
 
     ghost parts = { elim [ MarkPlus ↦ Ok tt | MarkMinus ↦ Err (Ok tt) | MarkOther ↦ Err (Err tt) ] };
@@ -538,24 +540,24 @@ impl EnumShape for Mark {
 
     type Cases = Case<0, (), Case<1, (), Last<9, ()>>>;
 
-    fn tag(&self) -> usize {
-        match self {
+    fn tag(src: &Mark) -> usize {
+        match src {
             Mark::Plus => 0,
             Mark::Minus => 1,
             Mark::Other => 9,
         }
     }
 
-    fn part_size(&self) -> WriteResult<usize> {
-        match self {
+    fn part_size(src: &Mark) -> WriteResult<usize> {
+        match src {
             Mark::Plus => <() as SchemaWrite>::size_of(&()),
             Mark::Minus => <() as SchemaWrite>::size_of(&()),
             Mark::Other => <() as SchemaWrite>::size_of(&()),
         }
     }
 
-    fn write_part<W: Writer>(&self, writer: &mut W) -> WriteResult<()> {
-        match self {
+    fn write_part<W: Writer>(writer: &mut W, src: &Mark) -> WriteResult<()> {
+        match src {
             Mark::Plus => <() as SchemaWrite>::write::<W>(writer, &()),
             Mark::Minus => <() as SchemaWrite>::write::<W>(writer, &()),
             Mark::Other => <() as SchemaWrite>::write::<W>(writer, &()),
@@ -653,6 +655,8 @@ where
 type OnlyCases = OneOf<<Only as EnumShape>::Tag, <Only as EnumShape>::Cases>;
 
 impl EnumParts for Only {
+    type Src = Only;
+
     type Parts = Span;
 
     ghost parts = { elim [ OnlySpanned a ↦ a ] };
@@ -669,20 +673,20 @@ impl EnumShape for Only {
 
     type Cases = Last<0, Span>;
 
-    fn tag(&self) -> usize {
-        match self {
+    fn tag(src: &Only) -> usize {
+        match src {
             Only::Spanned(_) => 0,
         }
     }
 
-    fn part_size(&self) -> WriteResult<usize> {
-        match self {
+    fn part_size(src: &Only) -> WriteResult<usize> {
+        match src {
             Only::Spanned(a) => <Span as SchemaWrite>::size_of(a),
         }
     }
 
-    fn write_part<W: Writer>(&self, writer: &mut W) -> WriteResult<()> {
-        match self {
+    fn write_part<W: Writer>(writer: &mut W, src: &Only) -> WriteResult<()> {
+        match src {
             Only::Spanned(a) => <Span as SchemaWrite>::write::<W>(writer, a),
         }
     }

@@ -172,6 +172,8 @@ where
 type FateCases = OneOf<<Fate as EnumShape>::Tag, <Fate as EnumShape>::Cases>;
 
 impl EnumParts for Fate {
+    type Src = Fate;
+
     type Parts = Result<(Parcel, u16), Result<Vec<Parcel>, ()>>;
 
     ghost parts = { elim [ FateKept a b ↦ Ok (a, b) | FateSplit a ↦ Err (Ok a) | FateLost ↦ Err (Err tt) ] };
@@ -190,24 +192,24 @@ impl EnumShape for Fate {
 
     type Cases = Case<0, (Parcel, u16), Case<1, Vec<Parcel>, Last<2, ()>>>;
 
-    fn tag(&self) -> usize {
-        match self {
+    fn tag(src: &Fate) -> usize {
+        match src {
             Fate::Kept { .. } => 0,
             Fate::Split(_) => 1,
             Fate::Lost => 2,
         }
     }
 
-    fn part_size(&self) -> WriteResult<usize> {
-        match self {
+    fn part_size(src: &Fate) -> WriteResult<usize> {
+        match src {
             Fate::Kept { parcel, days } => size_of_members_2::<Parcel, u16>(parcel, days),
             Fate::Split(a) => <Vec<Parcel> as SchemaWrite>::size_of(a),
             Fate::Lost => <() as SchemaWrite>::size_of(&()),
         }
     }
 
-    fn write_part<W: Writer>(&self, writer: &mut W) -> WriteResult<()> {
-        match self {
+    fn write_part<W: Writer>(writer: &mut W, src: &Fate) -> WriteResult<()> {
+        match src {
             Fate::Kept { parcel, days } => write_members_2::<Parcel, u16, W>(writer, parcel, days),
             Fate::Split(a) => <Vec<Parcel> as SchemaWrite>::write::<W>(writer, a),
             Fate::Lost => <() as SchemaWrite>::write::<W>(writer, &()),

@@ -19,6 +19,8 @@ use wincode_derived::sums::{Case, Last, OneOf};
 type SignalCases = OneOf<<Signal as EnumShape>::Tag, <Signal as EnumShape>::Cases>;
 
 impl EnumParts for Signal {
+    type Src = Signal;
+
     type Parts = Result<(), Result<Note, Result<(u32, i16), (String, Vec<u16>, u64)>>>;
 
     ghost parts = { elim [ SignalStart ↦ Ok tt | SignalNoted a ↦ Err (Ok a) | SignalMoved a b ↦ Err (Err (Ok (a, b))) | SignalNamed a b c ↦ Err (Err (Err (a, b, c))) ] };
@@ -46,8 +48,8 @@ impl EnumShape for Signal {
         >,
     >;
 
-    fn tag(&self) -> usize {
-        match self {
+    fn tag(src: &Signal) -> usize {
+        match src {
             Signal::Start => 5,
             Signal::Noted(_) => 8,
             Signal::Moved(_, _) => 13,
@@ -55,8 +57,8 @@ impl EnumShape for Signal {
         }
     }
 
-    fn part_size(&self) -> WriteResult<usize> {
-        match self {
+    fn part_size(src: &Signal) -> WriteResult<usize> {
+        match src {
             Signal::Start => <() as SchemaWrite>::size_of(&()),
             Signal::Noted(a) => <Note as SchemaWrite>::size_of(a),
             Signal::Moved(a, b) => size_of_members_2::<u32, i16>(a, b),
@@ -68,8 +70,8 @@ impl EnumShape for Signal {
         }
     }
 
-    fn write_part<W: Writer>(&self, writer: &mut W) -> WriteResult<()> {
-        match self {
+    fn write_part<W: Writer>(writer: &mut W, src: &Signal) -> WriteResult<()> {
+        match src {
             Signal::Start => <() as SchemaWrite>::write::<W>(writer, &()),
             Signal::Noted(a) => <Note as SchemaWrite>::write::<W>(writer, a),
             Signal::Moved(a, b) => write_members_2::<u32, i16, W>(writer, a, b),

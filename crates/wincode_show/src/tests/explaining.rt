@@ -1,150 +1,235 @@
-//! Explained inputs: for each shape one that is explained whole and one that is refused.
-use crate::explaining::explain;
-use crate::recoding::RelayError;
+//! Explained and checked inputs: for each shape some that are explained whole and some that are refused.
+use crate::asking::{Asked, Fault, Question};
+use std::alloc::Global;
+use std::io::{self, ErrorKind, Write};
 use std::test::Fail;
 use wincode_tests::rows::bytes_of;
 
-/// The shape, the input, the lines, and the error's text, which is empty where the input is explained whole.
+/// The shape, the input, the lines, and the line of a check.
 const EXPLAINED: [(&str, &str, &str, &str); 17] = [
     (
         "nested",
         "0200000000000000010000000000000001000000000000000000000000000000ff",
-        "0: 0200000000000000 length 2\n8: 0100000000000000 length 1\n16: 0100000000000000 item 1\n24: 0000000000000000 length 0\n",
-        "",
+        "0: 0200000000000000 length 2\n8: 0100000000000000 [0] length 1\n16: 0100000000000000 [0][0] u64 1\n24: 0000000000000000 [1] length 0\n",
+        "ok, 32 bytes, 1 left",
     ),
     (
         "nested",
         "01000000000000000200000000000000010000000000000000",
-        "0: 0100000000000000 length 1\n8: 0200000000000000 length 2\n16: refused: Attempting to read 16 bytes\n",
-        "Attempting to read 16 bytes",
+        "0: 0100000000000000 length 1\n8: 0200000000000000 [0] length 2\n16: [0][0] refused: Attempting to read 16 bytes\n",
+        "refused at 16: Attempting to read 16 bytes",
     ),
     (
         "text",
         "1200000000000000616161616161616161616161616161616161",
-        "0: 1200000000000000 length 18\n8: 61616161616161616161616161616161.. (18 bytes) text\n",
-        "",
+        "0: 1200000000000000 length 18\n8: 61616161616161616161616161616161.. (18 bytes) text \"aaaaaaaaaaaaaaaaaa\"\n",
+        "ok, 26 bytes, 0 left",
     ),
     (
         "text",
         "030000000000000061",
-        "0: 0300000000000000 length 3\n8: refused: Attempting to read 3 bytes\n",
-        "Attempting to read 3 bytes",
+        "0: refused: Attempting to read 3 bytes\n",
+        "refused at 0: Attempting to read 3 bytes",
     ),
     (
         "short",
         "020709ff",
-        "0: 02 length 2\n1: 07 item 7\n2: 09 item 9\n",
-        "",
+        "0: 02 length 2\n1: 0709 bytes 2\n",
+        "ok, 3 bytes, 1 left",
     ),
     (
         "short",
         "0307",
-        "0: 03 length 3\n1: refused: Attempting to read 3 bytes\n",
-        "Attempting to read 3 bytes",
+        "0: refused: Attempting to read 3 bytes\n",
+        "refused at 0: Attempting to read 3 bytes",
     ),
     (
         "record",
         "0500000000000000010909090909090909090909090909090909090909090909090909090909090909",
-        "0: 0500000000000000 number 5\n8: 01 flag true\n9: 09090909090909090909090909090909.. (32 bytes) 32 bytes\n",
-        "",
+        "0: 0500000000000000 .0 u64 5\n8: 01 .1 flag true\n9: 09090909090909090909090909090909.. (32 bytes) .2 bytes 32\n",
+        "ok, 41 bytes, 0 left",
     ),
     (
         "record",
         "0500000000000000020909090909090909090909090909090909090909090909090909090909090909",
-        "0: 0500000000000000 number 5\n8: refused: Invalid bool encoding: 2\n",
-        "Invalid bool encoding: 2",
+        "0: 0500000000000000 .0 u64 5\n8: .1 refused: Invalid bool encoding: 2\n",
+        "refused at 8: Invalid bool encoding: 2",
     ),
     (
         "pairs",
         "020000000000000001020304",
-        "0: 0200000000000000 length 2\n8: 01 key 1\n9: 02 value 2\n10: 03 key 3\n11: 04 value 4\n",
-        "",
+        "0: 0200000000000000 length 2\n8: 01 [0].0 u8 1\n9: 02 [0].1 u8 2\n10: 03 [1].0 u8 3\n11: 04 [1].1 u8 4\n",
+        "ok, 12 bytes, 0 left",
     ),
     (
         "pairs",
         "0200000000",
         "0: refused: Attempting to read 8 bytes\n",
-        "Attempting to read 8 bytes",
+        "refused at 0: Attempting to read 8 bytes",
     ),
     (
         "record",
         "0500000000000000000909090909090909090909090909090909090909090909090909090909090909",
-        "0: 0500000000000000 number 5\n8: 00 flag false\n9: 09090909090909090909090909090909.. (32 bytes) 32 bytes\n",
-        "",
+        "0: 0500000000000000 .0 u64 5\n8: 00 .1 flag false\n9: 09090909090909090909090909090909.. (32 bytes) .2 bytes 32\n",
+        "ok, 41 bytes, 0 left",
     ),
     (
         "short",
         "8001070809",
-        "0: 8001 length 128\n2: refused: Attempting to read 128 bytes\n",
-        "Attempting to read 128 bytes",
+        "0: refused: Attempting to read 128 bytes\n",
+        "refused at 0: Attempting to read 128 bytes",
     ),
     (
         "text",
         "0200000000000000c328",
-        "0: 0200000000000000 length 2\n8: refused: invalid utf-8 sequence of 1 bytes from index 0\n",
-        "invalid utf-8 sequence of 1 bytes from index 0",
+        "0: refused: invalid utf-8 sequence of 1 bytes from index 0\n",
+        "refused at 0: invalid utf-8 sequence of 1 bytes from index 0",
     ),
     (
         "text",
         "0f00000000000000616161616161616161616161616161",
-        "0: 0f00000000000000 length 15\n8: 616161616161616161616161616161 text\n",
-        "",
+        "0: 0f00000000000000 length 15\n8: 616161616161616161616161616161 text \"aaaaaaaaaaaaaaa\"\n",
+        "ok, 23 bytes, 0 left",
     ),
     (
         "text",
         "100000000000000061616161616161616161616161616161",
-        "0: 1000000000000000 length 16\n8: 61616161616161616161616161616161 text\n",
-        "",
+        "0: 1000000000000000 length 16\n8: 61616161616161616161616161616161 text \"aaaaaaaaaaaaaaaa\"\n",
+        "ok, 24 bytes, 0 left",
     ),
     (
         "text",
         "11000000000000006161616161616161616161616161616161",
-        "0: 1100000000000000 length 17\n8: 61616161616161616161616161616161.. (17 bytes) text\n",
-        "",
+        "0: 1100000000000000 length 17\n8: 61616161616161616161616161616161.. (17 bytes) text \"aaaaaaaaaaaaaaaaa\"\n",
+        "ok, 25 bytes, 0 left",
     ),
     (
         "nested",
         "010000000000000007000000000000000100000000000000020000000000000003000000000000000400000000000000050000000000000006000000000000000700000000000000",
-        "\
-        0: 0100000000000000 length 1\n\
-        8: 0700000000000000 length 7\n\
-        16: 0100000000000000 item 1\n\
-        24: 0200000000000000 item 2\n\
-        32: 0300000000000000 item 3\n\
-        40: 0400000000000000 item 4\n\
-        48: 0500000000000000 item 5\n\
-        56: 0600000000000000 item 6\n\
-        64: 0700000000000000 item 7\n",
-        "",
+        "0: 0100000000000000 length 1\n\
+         8: 0700000000000000 [0] length 7\n\
+         16: 0100000000000000 [0][0] u64 1\n\
+         24: 0200000000000000 [0][1] u64 2\n\
+         32: 0300000000000000 [0][2] u64 3\n\
+         40: 0400000000000000 [0][3] u64 4\n\
+         48: 0500000000000000 [0][4] u64 5\n\
+         56: 0600000000000000 [0][5] u64 6\n\
+         64: 0700000000000000 [0][6] u64 7\n",
+        "ok, 72 bytes, 0 left",
     ),
 ];
 
+/// What is asked by the words, where these declarations name types.
+fn question(
+    alloc: Global,
+    is_check: bool,
+    words: &[&str],
+    source: &str,
+) -> Result<Question, Fault> {
+    let mut owned = Vec::new(alloc);
+    for word in words {
+        owned.push(String::from_str(alloc, *word)?)?;
+    }
+    Question::of(alloc, is_check, &Asked::of(owned.as_slice())?, source)
+}
+
+/// What is printed of the bytes, and whether a value was read.
+fn printed(alloc: Global, question: &Question, bytes: &[u8]) -> Result<(bool, String), Fail> {
+    let mut output = Vec::new(alloc);
+    match question.answer(alloc, bytes, &mut output) {
+        Ok(is_read) => Ok((
+            is_read,
+            String::from_str(alloc, str::from_utf8(output.as_slice())?)?,
+        )),
+        Err(_) => Err(Fail::from("a fault")),
+    }
+}
+
 #[test]
-fn explained_inputs(rt: HostRuntime) -> Result<(), Fail> {
+fn explained_and_checked_inputs(rt: HostRuntime) -> Result<(), Fail> {
     let alloc = rt.alloc();
-    for (shape, input, lines, error) in &EXPLAINED {
+    for (shape, input, lines, line) in &EXPLAINED {
         let bytes = bytes_of(alloc, *input)?;
-        let mut input = bytes.as_slice();
-        let mut output = Vec::new(alloc);
-        let answer = explain(alloc, *shape, &mut input, &mut output);
-        let text = match &answer {
-            Ok(()) => String::new(alloc),
-            Err(error) => format!(in alloc; "{error}")?,
-        };
-        assert_eq!(rt; str::from_utf8(output.as_slice())?, *lines);
-        assert_eq!(rt; text.as_str(), *error);
+        let line = format!(in alloc; "{line}\n")?;
+        for words in [&[*shape][..], &["--stream", *shape]] {
+            let explain = question(alloc, false, words, "")?;
+            let (is_read, text) = printed(alloc, &explain, bytes.as_slice())?;
+            assert_eq!(rt; text.as_str(), *lines);
+            assert_eq!(rt; is_read, line.as_str().starts_with("ok"));
+            let check = question(alloc, true, words, "")?;
+            let (is_ok, text) = printed(alloc, &check, bytes.as_slice())?;
+            assert_eq!(rt; text.as_str(), line.as_str());
+            assert_eq!(rt; is_ok, is_read);
+        }
     }
     Ok(())
 }
 
 #[test]
-fn an_unknown_shape_is_not_explained(rt: HostRuntime) -> Result<(), Fail> {
+fn declared_types(rt: HostRuntime) -> Result<(), Fail> {
     let alloc = rt.alloc();
-    let mut input = [1u8, 2].as_slice();
-    let mut output = Vec::new(alloc);
-    let answer = explain(alloc, "other", &mut input, &mut output);
-    assert!(rt; matches!(&answer, Err(RelayError::UnknownShape)));
-    assert_eq!(rt; input.len(), 2);
-    assert_eq!(rt; output.len(), 0);
+    let source = "struct Point { x: u8, y: u8 }";
+    let words = ["--types", "points.rs", "--stream", "Vec<Point>"];
+    let explain = question(alloc, false, &words, source)?;
+    let bytes = [1, 0, 0, 0, 0, 0, 0, 0, 3, 4];
+    let (is_read, text) = printed(alloc, &explain, &bytes)?;
+    assert!(rt; is_read);
+    assert_eq!(rt;
+        text.as_str(),
+        "0: 0100000000000000 length 1\n8: 03 [0].x u8 3\n9: 04 [0].y u8 4\n"
+    );
+    Ok(())
+}
+
+#[test]
+fn what_is_no_type_is_not_explained(rt: HostRuntime) -> Result<(), Fail> {
+    let alloc = rt.alloc();
+    assert!(rt; matches!(&question(alloc, false, &["other"], ""), Err(Fault::Type(_))));
+    assert!(rt;
+        matches!(
+            &question(alloc, true, &["--stream", "Vec<u8"], ""),
+            Err(Fault::Type(_))
+        )
+    );
+    assert!(rt; matches!(&question(alloc, true, &[], ""), Err(Fault::Usage)));
+    assert!(rt;
+        matches!(
+            &question(alloc, true, &["--types", "a"], ""),
+            Err(Fault::Usage)
+        )
+    );
+    assert!(rt;
+        matches!(
+            &question(alloc, true, &["u8", "one", "two"], ""),
+            Err(Fault::Usage)
+        )
+    );
+    Ok(())
+}
+
+/// An output that fails in this way.
+#[derive(Drop)]
+struct Broken(ErrorKind);
+
+impl Write for Broken {
+    fn write(&mut self, _bytes: &[u8]) -> io::Result<usize> {
+        Err(io::Error::from(self.0))
+    }
+
+    fn flush(&mut self) -> io::Result<()> {
+        Ok(())
+    }
+}
+
+/// A closed pipe ends quietly, and no other output does.
+#[test]
+fn a_closed_pipe(rt: HostRuntime) -> Result<(), Fail> {
+    let alloc = rt.alloc();
+    let check = question(alloc, true, &["u8"], "")?;
+    let bytes = [1u8].as_slice();
+    let answer = check.answer(alloc, bytes, &mut Broken(ErrorKind::BrokenPipe));
+    assert!(rt; matches!(&answer, Ok(true)));
+    let answer = check.answer(alloc, bytes, &mut Broken(ErrorKind::Other));
+    assert!(rt; matches!(&answer, Err(Fault::Unwritten(_))));
     Ok(())
 }

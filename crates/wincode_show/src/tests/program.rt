@@ -1,13 +1,16 @@
 //! The program under a runtime of the test's own: what it writes, what it prints, and its status.
 use super::NESTED;
+use crate::asking::HELP;
 use crate::status;
 use std::alloc::{Allocator, Global};
 use std::cell::Cell;
 use std::env::FillError;
 use std::fmt::Display;
+use std::fs::{File, Metadata, OpenOptions};
 use std::io::{self, BufRead, ErrorKind, Lines};
-use std::rt::Env;
+use std::rt::{Env, Files};
 use std::test::Fail;
+use wincode_describe::TYPES;
 
 /// Gives these arguments and this input, and keeps what is written and printed.
 #[derive(Drop)]
@@ -97,12 +100,78 @@ impl Eprint for Played<'_> {
     }
 }
 
+impl<'a> Files for Played<'a> {
+    type File = File;
+
+    type Dir = &'a [u8];
+
+    fn open_file(&self, _how: &OpenOptions, _path: &str) -> io::Result<File> {
+        Err(io::Error::from(ErrorKind::NotFound))
+    }
+
+    fn open_dir(&self, _path: &str) -> io::Result<&'a [u8]> {
+        Err(io::Error::from(ErrorKind::NotFound))
+    }
+
+    fn metadata(&self, _path: &str) -> io::Result<Metadata> {
+        Err(io::Error::from(ErrorKind::NotFound))
+    }
+
+    fn symlink_metadata(&self, _path: &str) -> io::Result<Metadata> {
+        Err(io::Error::from(ErrorKind::NotFound))
+    }
+
+    fn copy(&self, _from: &str, _to: &str) -> io::Result<u64> {
+        Err(io::Error::from(ErrorKind::Unsupported))
+    }
+
+    fn rename(&self, _from: &str, _to: &str) -> io::Result<()> {
+        Err(io::Error::from(ErrorKind::Unsupported))
+    }
+
+    fn remove_file(&self, _path: &str) -> io::Result<()> {
+        Err(io::Error::from(ErrorKind::Unsupported))
+    }
+
+    fn create_dir(&self, _path: &str) -> io::Result<()> {
+        Err(io::Error::from(ErrorKind::Unsupported))
+    }
+
+    fn remove_dir(&self, _path: &str) -> io::Result<()> {
+        Err(io::Error::from(ErrorKind::Unsupported))
+    }
+
+    fn remove_dir_all<B: Allocator>(&self, _alloc: B, _path: &str) -> io::Result<()> {
+        Err(io::Error::from(ErrorKind::Unsupported))
+    }
+}
+
+/// Two accounts, their type and their lines.
+const ACCOUNTS_TYPE: &str = "Vec<struct { id: u64, owner: Option<String>, key: [u8; 4] }>";
+
+const ACCOUNTS: [u8; 45] = [
+    2, 0, 0, 0, 0, 0, 0, 0, 7, 0, 0, 0, 0, 0, 0, 0, 1, 3, 0, 0, 0, 0, 0, 0, 0, 65, 100, 97, 1, 2,
+    3, 4, 8, 0, 0, 0, 0, 0, 0, 0, 0, 5, 6, 7, 8,
+];
+
+const ACCOUNTS_LINES: &[u8] = b"\
+0: 0200000000000000 length 2
+8: 0700000000000000 [0].id u64 7
+16: 01 [0].owner tag 1
+17: 0300000000000000 [0].owner length 3
+25: 416461 [0].owner text \"Ada\"
+28: 01020304 [0].key bytes 4
+32: 0800000000000000 [1].id u64 8
+40: 00 [1].owner tag 0
+41: 05060708 [1].key bytes 4
+";
+
 #[test]
 fn the_program(rt: HostRuntime) -> Result<(), Fail> {
     let alloc = rt.alloc();
     let mut record = [0u8; 41];
     record[8] = 2;
-    let rows: [(&[&'static str], &[u8], u8, &[u8], &str); 13] = [
+    let rows: [(&[&'static str], &[u8], u8, &[u8], &str); 22] = [
         (&["show", "nested"], &NESTED, 0, &NESTED, ""),
         (
             &["show", "nested"],
@@ -120,19 +189,25 @@ fn the_program(rt: HostRuntime) -> Result<(), Fail> {
             "Invalid bool encoding: 2\n",
         ),
         (&["show", "other"], &NESTED, 2, &[], "unknown shape\n"),
-        (&["show"], &NESTED, 2, &[], "unknown shape\n"),
+        (
+            &["show"],
+            &NESTED,
+            2,
+            &[],
+            "no such command: wincode_show --help says which there are\n",
+        ),
         (
             &["show", "nested", "nested"],
             &NESTED,
             2,
             &[],
-            "unknown shape\n",
+            "no such command: wincode_show --help says which there are\n",
         ),
         (
             &["show", "explain", "short"],
             &[1, 7, 255],
             0,
-            b"0: 01 length 1\n1: 07 item 7\n",
+            b"0: 01 length 1\n1: 07 bytes 1\n",
             "",
         ),
         (
@@ -140,14 +215,14 @@ fn the_program(rt: HostRuntime) -> Result<(), Fail> {
             &[],
             1,
             b"0: refused: Attempting to read 8 bytes\n",
-            "Attempting to read 8 bytes\n",
+            "",
         ),
         (
             &["show", "explain", "nested", "nested"],
             &NESTED,
             2,
             &[],
-            "unknown shape\n",
+            "the input can't be read: entity not found\n",
         ),
         (
             &["show", "relay", "--stream", "nested"],
@@ -168,7 +243,58 @@ fn the_program(rt: HostRuntime) -> Result<(), Fail> {
             &NESTED,
             2,
             &[],
-            "unknown shape\n",
+            "no such command: wincode_show --help says which there are\n",
+        ),
+        (
+            &["show", "explain", ACCOUNTS_TYPE],
+            &ACCOUNTS,
+            0,
+            ACCOUNTS_LINES,
+            "",
+        ),
+        (
+            &["show", "explain", "--stream", ACCOUNTS_TYPE],
+            &ACCOUNTS,
+            0,
+            ACCOUNTS_LINES,
+            "",
+        ),
+        (
+            &["show", "check", ACCOUNTS_TYPE],
+            &ACCOUNTS,
+            0,
+            b"ok, 45 bytes, 0 left\n",
+            "",
+        ),
+        (
+            &["show", "check", "--stream", "nested"],
+            &NESTED[..9],
+            1,
+            b"refused at 8: Attempting to read 8 bytes\n",
+            "",
+        ),
+        (
+            &["show", "check", "Vec<u7>"],
+            &NESTED,
+            2,
+            &[],
+            "a type is wanted at byte 4\n",
+        ),
+        (&["show", "types"], &[], 0, TYPES.as_bytes(), ""),
+        (&["show", "--help"], &[], 0, HELP.as_bytes(), ""),
+        (
+            &["show", "types", "u8"],
+            &[],
+            2,
+            &[],
+            "no such command: wincode_show --help says which there are\n",
+        ),
+        (
+            &["show", "check"],
+            &[],
+            2,
+            &[],
+            "no such command: wincode_show --help says which there are\n",
         ),
     ];
     for (words, input, wanted, output, errors) in &rows {

@@ -1,5 +1,5 @@
 //! A short value of one size is put together, and then written at once; many of them are written a block at a time.
-ghost use Rattle.std.specs.Prelude.{◌≡◌, ◌*◌, ◌<◌, ◌≤◌, true, false, map, IfOk, IfErr};
+ghost use Rattle.std.specs.Prelude.{◌≡◌, ◌*◌, ◌<◌, ◌≤◌, true, false, map, IfOk, IfErr, IfSome};
 ghost use Rattle.wincode_io.specs.Joins.{Each};
 ghost use Rattle.wincode_base.specs.InWindow.{windowed_write};
 ghost use Rattle.wincode_base.specs.Lists.{item_write, items_write};
@@ -12,10 +12,13 @@ use wincode_base::meta::TypeMeta;
 use wincode_io::Writer;
 
 /// How many bytes of encodings are put together at a time, where there are many of them.
-const BLOCK: usize = 1024;
+pub(crate) const BLOCK: usize = 1024;
 
 /// The longest encoding, in bytes, of which many are written by the schema's own `write_items`.
 const SMALL: usize = 16;
+
+/// How many items are written one by one, where a block for them costs more.
+const FEW: usize = 4;
 
 /// Writes the value by one call of the writer, where its schema puts it together; or answers `false`, and
 /// has written nothing.
@@ -56,6 +59,18 @@ pub(crate) fn write_item<T: SchemaWrite, W: Writer>(writer: &mut W, src: &T::Src
     T::write(writer, src)
 }
 
+/// The size, in bytes, of every encoding, where it is short enough for an encoding to be put together before it is
+/// written.
+#[inline(always)]
+pub(crate) fn short_size<T: SchemaWrite>() -> Option<usize>
+    ensures { IfSome result (λ n. (n ≤ 64) × (T.writing.meta ≡ Dynamic → ⊥)) }
+{
+    match T::type_meta() {
+        TypeMeta::Static { size, .. } if size <= LONGEST => Some(size),
+        _ => None,
+    }
+}
+
 /// Writes items of one size, at most `count` at a time: those that their schema puts together by one call of the
 /// writer, others as it writes them.
 fn write_blocks<T: SchemaWrite, W: Writer>(
@@ -84,7 +99,7 @@ fn write_blocks<T: SchemaWrite, W: Writer>(
     Ok(())
 }
 
-/// Writes items, one after another: many of one size a block at a time.
+/// Writes items, one after another: more than a few of one size a block at a time.
 #[inline]
 pub(crate) fn write_many<T: SchemaWrite, W: Writer>(
     writer: &mut W,
@@ -92,8 +107,8 @@ pub(crate) fn write_many<T: SchemaWrite, W: Writer>(
 ) -> WriteResult<()>
     ensures { WriteOutcome (items_write T.writing) (W.state writer.old) (W.state writer.new) (map T.model items.now) (Each T.is_valid items.now) result }
 {
-    match T::type_meta() {
-        TypeMeta::Static { size, .. } if SMALL < size && size <= LONGEST => {
+    match short_size::<T>() {
+        Some(size) if SMALL < size && FEW < items.len() => {
             write_blocks::<T, W>(writer, items, size, BLOCK / size)
         }
         _ => T::write_items::<W>(writer, items),

@@ -4,15 +4,17 @@ ghost use Rattle.std.specs.BinaryHeap.{heap_items};
 ghost use Rattle.std.specs.HashMap.{IsUnique};
 ghost use Rattle.std.specs.List.{IsDistinct};
 ghost use Rattle.std.specs.List.Sorted.{IsStrictlySortedBy};
-ghost use Rattle.std.specs.Prelude.{◌≡◌, ◌+◌, List, length, map, IfSome, IfOk, IfErr};
+ghost use Rattle.std.specs.Prelude.{◌≡◌, ◌+◌, ◌≤◌, List, length, map, IfSome, IsTrue, IfOk, IfErr};
 ghost use Rattle.wincode_io.specs.Joins.{Each, total};
 ghost use Rattle.wincode_base.specs.Lists.{item_write, items_write, each_write, parts_write, list_write_of, list_write, SizesRefused};
-ghost use Rattle.wincode_base.specs.Outcomes.{IsSized, SizeRefused, WriteOutcome};
+ghost use Rattle.wincode_base.specs.Outcomes.{IsSized, IsEncoded, SizeRefused, WriteOutcome};
+ghost use Rattle.wincode_base.specs.declared.meta.TypeMeta.TheVariants.{Dynamic};
+ghost use Rattle.wincode_collect.specs.Seen.{sees};
 ghost use Rattle.wincode_base.specs.Pairs.{pair_write};
 ghost use Rattle.wincode_base.specs.ItemSizes.{IsWriteItemSize};
 
 use crate::schema::SchemaWrite;
-use crate::schema::encoded::{write_item, write_many};
+use crate::schema::encoded::{BLOCK, short_size, write_item, write_many};
 use crate::schema::tuples::size_of_members_2;
 use std::collections::{BTreeMap, BTreeSet, BinaryHeap, HashMap, HashSet, LinkedList, VecDeque};
 use std::hash::Hash;
@@ -210,6 +212,9 @@ impl<A: Ord, B, K: SchemaWrite<Src = A>, V: SchemaWrite<Src = B>> ToItems<Member
     }
 
     fn write_to<W: Writer>(&self, writer: &mut W) -> WriteResult<()> {
+        if let Some(size) = short_size::<Members2<K, V>>() {
+            return write_sorted::<K, V, W>(writer, self, size);
+        }
         for (key, value) in self {
             write_pair::<K, V, W>(writer, key, value)?;
         }
@@ -307,6 +312,56 @@ impl<A: Eq + Hash, K: SchemaWrite<Src = A>> ToItems<K> for HashSet<A> {
         }
         Ok(())
     }
+}
+
+/// Writes pairs of one size of so many bytes, in the order of their keys, a block at a time.
+#[inline(always)]
+fn write_sorted<K: SchemaWrite, V: SchemaWrite, W: Writer>(
+    writer: &mut W,
+    pairs: &BTreeMap<K::Src, V::Src>,
+    size: usize,
+) -> WriteResult<()>
+where
+    K::Src: Ord,
+    requires one_size { (pair_write K.writing V.writing).meta ≡ Dynamic → ⊥ }
+    requires size { size ≤ 1024 }
+    ensures { WriteOutcome (items_write (pair_write K.writing V.writing)) (W.state writer.old) (W.state writer.new) (map (sees K.model V.model) pairs.now.entries)
+        (Each (λ e. K.is_valid e.0 × V.is_valid e.1) pairs.now.entries) result }
+{
+    let mut block = [0; BLOCK];
+    let mut filled = 0;
+    for (key, value) in pairs {
+        if !encode_pair::<K, V>(key, value, &mut block[filled..filled + size]) {
+            writer.write(&block[..filled])?;
+            filled = 0;
+            write_pair::<K, V, W>(writer, key, value)?;
+            continue;
+        }
+        filled += size;
+        if BLOCK - filled < size {
+            writer.write(&block[..filled])?;
+            filled = 0;
+        }
+    }
+    writer.write(&block[..filled])?;
+    Ok(())
+}
+
+/// Puts an encoding of a key, and then of its value, over all of the bytes; or answers `false`.
+#[inline(always)]
+fn encode_pair<K: SchemaWrite, V: SchemaWrite>(key: &K::Src, value: &V::Src, dst: &mut [u8]) -> bool
+    ensures { IsTrue result → IsEncoded (pair_write K.writing V.writing) (K.model key.now, V.model value.now) dst.new × (K.is_valid key.now × V.is_valid value.now) }
+{
+    encode_members::<&Member<K>, &Member<V>>(&(key, value), dst)
+}
+
+/// Puts an encoding of a pair over all of the bytes; or answers `false`.
+#[inline(always)]
+fn encode_members<A: SchemaWrite, B: SchemaWrite>(src: &(A::Src, B::Src), dst: &mut [u8]) -> bool
+    ensures { let members = ⟦<Members2<A, B> as SchemaWrite>⟧ in
+        IsTrue result → IsEncoded members.writing (members.model src.now) dst.new × members.is_valid src.now }
+{
+    <Members2<A, B> as SchemaWrite>::encode(src, dst)
 }
 
 /// Writes a key, and then its value, through no window of their own.

@@ -1,6 +1,5 @@
 use Rattle.std.proofs.Common.{rules, ◌≡◌, ◌∙◌, sym, ap, subst, ℕ, ◌<◌, ◌^◌, List, [], ◌∷◌, ◌++◌}
 use Rattle.std.proofs.lemmas.List.{map-id}
-use Rattle.wincode_io.specs.Windows.{window_state}
 use Rattle.wincode_base.specs.Outcomes.{Gives}
 use Rattle.wincode_base.specs.declared.error.ReadError.TheVariants as reading
 use Rattle.wincode_base.proofs.ReadAnswers.{get_refused}
@@ -26,5 +25,5 @@ returns g c =
     let fits : c.args.n < 2 ^ 64 = search rules in
     let a = c.in_ok-read_items.ensures.each.ok in
     let whole : c.read_items.new.into.items ≡ a.items = a.is ∙ ap (λ t. t ++ a.items) c.new-bytes.ensures.items in
-    let P : List ℕ → Type 0 = λ xs. Gives (described_read (type.ByteArray c.args.n)).reads (window_state c.args.reader.now) (window_state c.as_trusted_for.new.self) (Bytes xs ∷ []) in
+    let P : List ℕ → Type 0 = λ xs. Gives (described_read (type.ByteArray c.args.n)).reads (g.R.Reader.state c.args.reader.now) (g.R.Reader.state c.as_trusted_for.new.self) (Bytes xs ∷ []) in
     record { ok = subst P (map-id a.items ∙ sym whole) (array_gives c.args.n fits _ _ _ _ _ c.in_ok-window.ensures.ok a.gives); refused = tt; place = tt }

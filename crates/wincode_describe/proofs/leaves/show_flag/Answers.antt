@@ -1,13 +1,11 @@
-use Rattle.std.proofs.Common.{true, [], ◌∷◌}
-use Rattle.wincode_base.specs.Leaves.{number_read, bool_read, unit_read}
-use Rattle.wincode_base.specs.Strings.{char_read, str_read}
-use Rattle.wincode_describe.specs.Parts.{Flag, Character, Nothing}
+use Rattle.std.proofs.Common.{[], ◌∷◌}
+use Rattle.wincode_base.specs.Leaves.{bool_read}
+use Rattle.wincode_describe.specs.Parts.{Flag}
 use Rattle.wincode_describe.specs.ShownGrammars.{shown_read}
-use Rattle.wincode_describe.specs.Types.{natural_shown, tag_bytes, text_shown}
 use Rattle.wincode_describe.proofs.Shows.{show_refused, shown_refused, began_none}
 use Rattle.wincode_describe.proofs.leaves.show_flag.Goals as goal
 
 pub returns-in_err-value : goal.returns-in_err-value
 returns-in_err-value g c =
     let o = c.in_err-value.ensures in
-    show_refused (shown_read (λ b. Flag b ∷ []) bool_read) _ _ _ _ c.from_residual.ensures (shown_refused (λ b. Flag b ∷ []) bool_read _ _ _ (o.refused, o.place)) (began_none _ _)
+    show_refused (shown_read (λ b. Flag b ∷ []) bool_read) _ _ _ _ c.from_residual.ensures (shown_refused (λ b. Flag b ∷ []) bool_read _ _ _ (o.refused, o.place)) (began_none g.S.PartSink.sink_laws _ _)

@@ -1,5 +1,4 @@
-use Rattle.std.proofs.Common.{◌≡◌, ◌∙◌, sym, ap, subst, List, [], ◌++◌, map}
-use Rattle.wincode_io.specs.Windows.{window_state}
+use Rattle.std.proofs.Common.{◌≡◌, ◌∙◌, sym, ap, subst, List, ◌++◌, map}
 use Rattle.wincode_base.specs.Outcomes.{Gives}
 use Rattle.wincode_base.proofs.ReadAnswers.{get_refused}
 use Rattle.wincode_describe.specs.Parts.{seen}
@@ -14,5 +13,5 @@ pub returns : goal.returns
 returns g c =
     let s = c.in_ok-show_parts.ensures.ok in
     let whole : c.show_parts.new.shown.items ≡ s.more = s.is ∙ ap (λ t. t ++ s.more) c.new-shown.ensures.items in
-    let P : List Shown → Type 0 = λ xs. Gives (described_read c.args.described.now).reads (window_state c.args.reader.now) (window_state c.show_parts.new.reader) (map seen xs) in
+    let P : List Shown → Type 0 = λ xs. Gives (described_read c.args.described.now).reads (g.R.Reader.state c.args.reader.now) (g.R.Reader.state c.show_parts.new.reader) (map seen xs) in
     record { ok = subst P (sym whole) s.gives; refused = tt; place = tt }

@@ -1,16 +1,19 @@
-use Rattle.std.proofs.Common.{◌+◌, ◌-◌, ◌∙◌, arith}
+use Rattle.std.proofs.Common.{rules, ◌≡◌, ◌∙◌, ap, ◌+◌}
+use Rattle.std.specs.Arc.{arc_value}
 use Rattle.std.specs.List.{slice_range}
 use Rattle.wincode_io.proofs.Ranges.{same_front, came_behind, range_length}
 use Rattle.wincode_io.proofs.buffer.Buffer.read.Goals as goal
 
 pub returns-in-Ok-clause-ok : goal.returns-in-Ok-clause-ok
 returns-in-Ok-clause-ok g c =
-    let at = c.in_ok-place.place + (c.self.inside.end - c.self.inside.place) in
-    let bytes = c.read_behind.new.bytes.value.items in
+    let bytes = c.read_alone.new.bytes.items in
+    let at = c.self.inside.end in
     let within = c.in-Ok.ensures.within in
+    let was : c.in-Some.alone.now.items ≡ (arc_value c.self.inside.bytes).items = search rules in
+    let view : slice_range c.in-Some.alone.now.items c.self.inside.place at ≡ c.args.self.now = ap (λ l. slice_range l c.self.inside.place at) was ∙ c.self.view_is in
     record {
       piece = slice_range bytes at (at + c.in-Ok.n);
-      behind = came_behind c.make_room.new.bytes.value.items bytes c.args.self.now c.in_ok-place.place at c.in-Ok.n (omega arith) c.in-Ok.ensures.front (c.in_ok-place.ensures.same ∙ c.self.view_is);
+      behind = came_behind c.in-Some.alone.now.items bytes c.args.self.now c.self.inside.place at c.in-Ok.n c.self.invariant.0 c.in-Ok.ensures.front view;
       size = range_length bytes at c.in-Ok.n within.0;
       step = within.1;
       gave = c.in-Ok.ensures.ok;
@@ -18,5 +21,7 @@ returns-in-Ok-clause-ok g c =
 
 pub returns-in-Err-clause-kept : goal.returns-in-Err-clause-kept
 returns-in-Err-clause-kept g c =
-    let at = c.in_ok-place.place + (c.self.inside.end - c.self.inside.place) in
-    same_front c.read_behind.new.bytes.value.items c.make_room.new.bytes.value.items c.in_ok-place.place at (omega arith) c.in-Err.ensures.front ∙ (c.in_ok-place.ensures.same ∙ c.self.view_is)
+    let place = c.self.inside.place in
+    let at = c.self.inside.end in
+    let was : c.in-Some.alone.now.items ≡ (arc_value c.self.inside.bytes).items = search rules in
+    same_front c.read_alone.new.bytes.items c.in-Some.alone.now.items place at c.self.invariant.0 c.in-Err.ensures.front ∙ (ap (λ l. slice_range l place at) was ∙ c.self.view_is)

@@ -1,0 +1,243 @@
+//! Reading a value of a described type through a window, shown in parts. Its functions are those of `reading` once more: a
+//! function that is generic in its reader can't call itself at the reader's window.
+ghost use Rattle.std.specs.Prelude.{◌≡◌, map};
+ghost use Rattle.wincode_base.specs.Outcomes.{GetOutcome};
+ghost use Rattle.wincode_describe.specs.Parts.{seen};
+ghost use Rattle.wincode_io.specs.Windows.{window_state};
+ghost use Rattle.wincode_base.specs.Arrays.{array_read};
+ghost use Rattle.wincode_base.specs.InWindow.{windowed_read};
+ghost use Rattle.wincode_base.specs.ItemSizes.{item_size};
+ghost use Rattle.wincode_base.specs.Lists.{run_read};
+ghost use Rattle.wincode_describe.specs.ShownGrammars.{ShowOutcome, shown_read, joined, chosen_read};
+ghost use Rattle.wincode_describe.specs.Types.{described_read, cases_read, list_of, option_shown, tag_bytes};
+ghost use Rattle.wincode_base.specs.Tags.{option_read};
+
+use crate::described::{Cases, Described, LengthScheme, TagSize};
+use crate::leaves::{
+    read_case_tag, read_length, show_byte_array, show_bytes, show_character, show_flag,
+    show_integer, show_nothing, show_text,
+};
+use crate::shown::Shown;
+use crate::sink::PartSink;
+use crate::sizes::{prealloc_size, tag_bytes, type_meta};
+use std::alloc::Global;
+use wincode_base::error::{ReadResult, invalid_tag_encoding, read_length_encoding_overflow};
+use wincode_base::meta::TypeMeta;
+use wincode_base::sizes::{ItemSize, size_of_items};
+use wincode_base::tag::read_tag;
+use wincode_io::{Lending, ReadWindow, Reader};
+
+/// Reads a value of the type, and shows its parts. Refused, those that were read before stay.
+#[cycle(showing)]
+pub(crate) fn show_parts<L: Lending, S: PartSink>(
+    alloc: Global,
+    described: &Described,
+    reader: &mut ReadWindow<L>,
+    shown: &mut S,
+) -> ReadResult<()>
+    ensures { ShowOutcome S.took (described_read described.now) (window_state reader.old) (window_state reader.new) shown.old shown.new result }
+{
+    match described {
+        Described::Integer(integer) => show_integer::<L, ReadWindow<L>, S>(
+            alloc, *integer, reader, shown,
+        ),
+        Described::Bool => show_flag::<L, ReadWindow<L>, S>(alloc, reader, shown),
+        Described::Char => show_character::<L, ReadWindow<L>, S>(alloc, reader, shown),
+        Described::Unit => show_nothing::<L, ReadWindow<L>, S>(alloc, reader, shown),
+        Described::Text => show_text::<L, ReadWindow<L>, S>(alloc, reader, shown),
+        Described::ByteList(scheme) => show_bytes::<L, ReadWindow<L>, S>(
+            alloc, *scheme, reader, shown,
+        ),
+        Described::ByteArray(n) => show_byte_array::<L, ReadWindow<L>, S>(alloc, *n, reader, shown),
+        Described::Option(content) => show_option::<L, S>(alloc, content, reader, shown),
+        Described::Result(one, other) => {
+            let side = read_tag::<u32, L, ReadWindow<L>>(reader)?;
+            shown.add(Shown::Tag { size: 4, tag: side })?;
+            match side {
+                0 => show_parts::<L, S>(alloc, one, reader, shown),
+                1 => show_parts::<L, S>(alloc, other, reader, shown),
+                _ => Err(invalid_tag_encoding(side)),
+            }
+        }
+        Described::Boxed(content) => show_parts::<L, S>(alloc, content, reader, shown),
+        Described::List(scheme, item) => show_list::<L, S>(alloc, *scheme, item, reader, shown),
+        Described::Set(item) | Described::Map(item) => {
+            show_list::<L, S>(alloc, LengthScheme::Eight, item, reader, shown)
+        }
+        Described::Array(n, item) => show_array::<L, S>(alloc, *n, item, reader, shown),
+        Described::Tuple(parts) | Described::Struct(parts) => {
+            show_whole::<L, S>(alloc, parts, reader, shown)
+        }
+        Described::Joined(first, second) => {
+            show_parts::<L, S>(alloc, first, reader, shown)?;
+            show_parts::<L, S>(alloc, second, reader, shown)
+        }
+        Described::Field(_, content) => show_parts::<L, S>(alloc, content, reader, shown),
+        Described::Enum(size, cases) => show_enum::<L, S>(alloc, *size, cases, reader, shown),
+    }
+}
+
+/// A tag of one byte, and then the value, if there is one.
+#[cycle(showing)]
+fn show_option<L: Lending, S: PartSink>(
+    alloc: Global,
+    content: &Described,
+    reader: &mut ReadWindow<L>,
+    shown: &mut S,
+) -> ReadResult<()>
+    ensures { ShowOutcome S.took (shown_read option_shown (option_read 1 (described_read content.now))) (window_state reader.old) (window_state reader.new) shown.old shown.new result }
+{
+    let tag = read_tag::<u8, L, ReadWindow<L>>(reader)?;
+    shown.add(Shown::Tag { size: 1, tag })?;
+    match tag {
+        0 => Ok(()),
+        1 => show_parts::<L, S>(alloc, content, reader, shown),
+        _ => Err(invalid_tag_encoding(tag)),
+    }
+}
+
+/// Parts through one window of their size, where they have one.
+#[cycle(showing)]
+fn show_whole<L: Lending, S: PartSink>(
+    alloc: Global,
+    parts: &Described,
+    reader: &mut ReadWindow<L>,
+    shown: &mut S,
+) -> ReadResult<()>
+    ensures { ShowOutcome S.took (windowed_read (described_read parts.now)) (window_state reader.old) (window_state reader.new) shown.old shown.new result }
+{
+    match type_meta(parts) {
+        TypeMeta::Static { size, .. } => {
+            let mut window = reader.as_trusted_for(size)?;
+            show_parts::<L, S>(alloc, parts, &mut window, shown)
+        }
+        TypeMeta::Dynamic => show_parts::<L, S>(alloc, parts, reader, shown),
+    }
+}
+
+/// So many items, one after another.
+#[cycle(showing)]
+pub(crate) fn show_items<L: Lending, S: PartSink>(
+    alloc: Global,
+    n: usize,
+    item: &Described,
+    reader: &mut ReadWindow<L>,
+    shown: &mut S,
+) -> ReadResult<()>
+    ensures { ShowOutcome S.took (shown_read joined (array_read n (described_read item.now)))
+        (window_state reader.old) (window_state reader.new) shown.old shown.new result }
+{
+    for _i in 0..n {
+        show_parts::<L, S>(alloc, item, reader, shown)?;
+    }
+    Ok(())
+}
+
+/// So many items, through one window of all of them where they have one size.
+#[cycle(showing)]
+fn show_array<L: Lending, S: PartSink>(
+    alloc: Global,
+    n: usize,
+    item: &Described,
+    reader: &mut ReadWindow<L>,
+    shown: &mut S,
+) -> ReadResult<()>
+    ensures { ShowOutcome S.took (shown_read joined (windowed_read (array_read n (described_read item.now)))) (window_state reader.old) (window_state reader.new) shown.old shown.new result }
+{
+    match size_of_items(n, type_meta(item)) {
+        TypeMeta::Static { size, .. } => {
+            let mut window = reader.as_trusted_for(size)?;
+            show_items::<L, S>(alloc, n, item, &mut window, shown)
+        }
+        TypeMeta::Dynamic => show_items::<L, S>(alloc, n, item, reader, shown),
+    }
+}
+
+/// So many items of a list, through one window of all of them where they have one size.
+#[cycle(showing)]
+fn show_run<L: Lending, S: PartSink>(
+    alloc: Global,
+    n: usize,
+    item: &Described,
+    reader: &mut ReadWindow<L>,
+    shown: &mut S,
+) -> ReadResult<()>
+    ensures { ShowOutcome S.took (shown_read joined (run_read n (item_size (described_read item.now).meta) (described_read item.now)))
+        (window_state reader.old) (window_state reader.new) shown.old shown.new result }
+{
+    let size = ItemSize::of(type_meta(item));
+    if let ItemSize::Unknown = size {
+        return show_items::<L, S>(alloc, n, item, reader, shown);
+    }
+    match size.times(n) {
+        Some(total) => {
+            let mut window = reader.as_trusted_for(total)?;
+            show_items::<L, S>(alloc, n, item, &mut window, shown)
+        }
+        None => Err(read_length_encoding_overflow("usize::MAX")),
+    }
+}
+
+/// A length, and then so many items.
+#[cycle(showing)]
+fn show_list<L: Lending, S: PartSink>(
+    alloc: Global,
+    scheme: LengthScheme,
+    item: &Described,
+    reader: &mut ReadWindow<L>,
+    shown: &mut S,
+) -> ReadResult<()>
+    ensures { ShowOutcome S.took (list_of scheme (described_read item.now)) (window_state reader.old) (window_state reader.new) shown.old shown.new result }
+{
+    let count = read_length::<L, ReadWindow<L>>(scheme, prealloc_size(item), reader)?;
+    shown.add(Shown::Length { scheme, count })?;
+    show_run::<L, S>(alloc, count, item, reader, shown)
+}
+
+/// A tag, and then what it names.
+#[cycle(showing)]
+fn show_enum<L: Lending, S: PartSink>(
+    alloc: Global,
+    size: TagSize,
+    cases: &Cases,
+    reader: &mut ReadWindow<L>,
+    shown: &mut S,
+) -> ReadResult<()>
+    ensures { ShowOutcome S.took (chosen_read (tag_bytes size) (cases_read cases.now)) (window_state reader.old) (window_state reader.new) shown.old shown.new result }
+{
+    let tag = read_case_tag::<L, ReadWindow<L>>(size, reader)?;
+    shown.add(Shown::Tag {
+        size: tag_bytes(size),
+        tag,
+    })?;
+    show_case::<L, S>(alloc, cases, tag, reader, shown)
+}
+
+/// What stands behind the tag.
+#[cycle(showing)]
+fn show_case<L: Lending, S: PartSink>(
+    alloc: Global,
+    cases: &Cases,
+    tag: usize,
+    reader: &mut ReadWindow<L>,
+    shown: &mut S,
+) -> ReadResult<()>
+    ensures { ShowOutcome S.took ((cases_read cases.now).case tag) (window_state reader.old) (window_state reader.new) shown.old shown.new result }
+{
+    match cases {
+        Cases::Last(named, content) => {
+            if *named == tag {
+                show_parts::<L, S>(alloc, content, reader, shown)
+            } else {
+                Err(invalid_tag_encoding(tag))
+            }
+        }
+        Cases::Case(named, content, others) => {
+            if *named == tag {
+                show_parts::<L, S>(alloc, content, reader, shown)
+            } else {
+                show_case::<L, S>(alloc, others, tag, reader, shown)
+            }
+        }
+    }
+}

@@ -1,0 +1,108 @@
+//! Bytes of described types in pieces of many sizes, explained and checked as in a slice.
+use crate::pieces::in_pieces;
+use std::alloc::Global;
+use std::test::Fail;
+use wincode::io::StdSource;
+use wincode_describe::{
+    Described, checked_line, checked_source_line, explained_lines, explained_source_lines,
+};
+
+const SIZES: [usize; 5] = [1, 2, 3, 7, 8192];
+
+/// Types, and a value of each, behind which a byte stands.
+const ROWS: [(&str, &[u8]); 7] = [
+    (
+        "(u64, bool, [u8; 3])",
+        &[1, 2, 3, 4, 5, 6, 7, 8, 1, 9, 9, 9, 7],
+    ),
+    ("String", &[3, 0, 0, 0, 0, 0, 0, 0, 97, 98, 99, 7]),
+    (
+        "Vec<Option<i16>>",
+        &[2, 0, 0, 0, 0, 0, 0, 0, 0, 1, 254, 255, 7],
+    ),
+    (
+        "struct { a: char, b: short Vec<u8>, c: short Vec<(u8, i8)> }",
+        &[0xe2, 0x82, 0xac, 2, 8, 9, 1, 3, 255, 7],
+    ),
+    (
+        "enum u32 { 1: BTreeMap<u8, u8>, 2: Result<u8, ()> }",
+        &[1, 0, 0, 0, 1, 0, 0, 0, 0, 0, 0, 0, 7, 8, 7],
+    ),
+    ("(Result<u8, String>, [bool; 2])", &[0, 0, 0, 0, 5, 0, 1, 7]),
+    (
+        "Vec<Vec<u16>>",
+        &[
+            1, 0, 0, 0, 0, 0, 0, 0, 2, 0, 0, 0, 0, 0, 0, 0, 1, 2, 3, 4, 7,
+        ],
+    ),
+];
+
+/// The first size of pieces in which these bytes are explained or checked otherwise than in a slice, if there is one.
+fn first_unlike(alloc: Global, described: &Described, bytes: &[u8]) -> Result<Option<usize>, Fail> {
+    let (_, lines) = explained_lines(alloc, described, bytes)?;
+    let (is_ok, line) = checked_line(alloc, described, bytes)?;
+    for size in SIZES {
+        let source = in_pieces(alloc, bytes, size, false)?;
+        let (ok, found) = explained_source_lines(alloc, described, source)?;
+        if ok != is_ok || found != lines {
+            return Ok(Some(size));
+        }
+        let source = in_pieces(alloc, bytes, size, false)?;
+        let (ok, found) = checked_source_line(alloc, described, source)?;
+        if ok != is_ok || found != line {
+            return Ok(Some(size));
+        }
+    }
+    Ok(None)
+}
+
+#[test]
+fn fronts_and_changes(rt: HostRuntime) -> Result<(), Fail> {
+    let alloc = rt.alloc();
+    for (text, bytes) in ROWS {
+        let described = Described::parse(alloc, text)?;
+        for n in 0..=bytes.len() {
+            let unlike = first_unlike(alloc, &described, &bytes[..n])?;
+            assert!(rt; unlike == None, "{text} {n} {unlike:?}");
+        }
+        for i in 0..bytes.len() {
+            for change in [1u8, 127, 255] {
+                let mut changed = Vec::from_slice(alloc, bytes)?;
+                changed[i] ^= change;
+                let unlike = first_unlike(alloc, &described, changed.as_slice())?;
+                assert!(rt; unlike == None, "{text} {i} {unlike:?}");
+            }
+        }
+    }
+    Ok(())
+}
+
+/// A source that fails where its bytes end: what needs no more than came is explained.
+#[test]
+fn a_failure_behind_a_value(rt: HostRuntime) -> Result<(), Fail> {
+    let alloc = rt.alloc();
+    let described = Described::parse(alloc, "(u8, u16)")?;
+    let source = in_pieces(alloc, &[1, 2, 0], 1, true)?;
+    let (ok, lines) = explained_source_lines(alloc, &described, source)?;
+    assert!(rt; ok);
+    assert_eq!(rt; lines.as_str(), "0: 01 .0 u8 1\n1: 0200 .1 u16 2\n");
+    let source = in_pieces(alloc, &[1, 2, 0], 1, true)?;
+    assert!(rt; checked_source_line(alloc, &described, source).is_err());
+    Ok(())
+}
+
+/// A list that is larger than the buffer many times over, of one of std's readers.
+#[test]
+fn a_large_list(rt: HostRuntime) -> Result<(), Fail> {
+    let alloc = rt.alloc();
+    let mut bytes = Vec::from_slice(alloc, &[0, 0, 8, 0, 0, 0, 0, 0])?;
+    for i in 0..524290usize {
+        bytes.push(if i % 2 == 0 { 7 } else { 0 })?;
+    }
+    let described = Described::parse(alloc, "Vec<Box<u8>>")?;
+    let source = StdSource::new(bytes.as_slice());
+    let (ok, line) = checked_source_line(alloc, &described, source)?;
+    assert!(rt; ok);
+    assert_eq!(rt; line.as_str(), "ok, 524296 bytes, 2 left");
+    Ok(())
+}
