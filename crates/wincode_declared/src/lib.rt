@@ -1,13 +1,10 @@
-//! Structs and enums with the schemas that `wincode_derive` wrote of their declarations.
+//! Structs and enums of one another, generic ones and ones with maps, with the schemas that `wincode_derive` wrote of
+//! their declarations.
 #![tactic(auto)]
 
 pub mod event;
-pub mod kinds;
-pub mod label;
-pub mod marks;
 pub mod order;
 pub mod pages;
 pub mod parcel;
-pub mod readings;
 pub mod signal;
 pub mod stock;

@@ -1,16 +1,22 @@
-//! Structs whose fields are maps, sets and heaps.
+//! Structs whose fields are maps, sets and heaps, and the struct that is a key in them.
 mod schemas;
 
-use crate::marks::Range;
 use crate::order::Note;
 use std::collections::{BTreeMap, BTreeSet, BinaryHeap, HashMap, HashSet};
+
+/// Where something stands.
+#[derive(Debug, Clone, Copy, PartialEq, Eq, PartialOrd, Ord, Hash)]
+pub struct Place {
+    pub hall: u32,
+    pub shelf: u32,
+}
 
 /// What is there.
 #[derive(Debug, Drop)]
 pub struct Stock {
     pub by_name: BTreeMap<String, Note>,
     pub counts: HashMap<u64, u32>,
-    pub ranges: BTreeSet<Range>,
+    pub places: BTreeSet<Place>,
     pub tags: HashSet<String>,
     pub waiting: BinaryHeap<u32>,
 }
@@ -19,6 +25,6 @@ pub struct Stock {
 #[derive(Debug, Drop)]
 pub struct Depot {
     pub stocks: Vec<Stock>,
-    pub places: BTreeMap<Range, Stock>,
+    pub by_place: BTreeMap<Place, Stock>,
     pub last: Option<HashMap<(u8, char), Vec<Stock>>>,
 }

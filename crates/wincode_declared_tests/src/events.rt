@@ -2,9 +2,9 @@
 use std::test::Fail;
 use wincode::{ReadError, deserialize, serialize};
 use wincode_declared::event::Event;
-use wincode_declared::marks::{Mark, Only, Span};
 use wincode_declared::parcel::Fate;
 use wincode_declared::signal::Signal;
+use wincode_declared_keys::marks::{Mark, Only, Span};
 
 #[test]
 fn events(rt: HostRuntime) -> Result<(), Fail> {

@@ -3,7 +3,7 @@ use std::alloc::Global;
 use std::collections::{BTreeMap, BTreeSet, HashMap};
 use std::test::Fail;
 use wincode::{ReadError, deserialize, serialize};
-use wincode_declared::kinds::{Day, Kind, Name, Tally};
+use wincode_declared_keys::kinds::{Day, Kind, Name, Tally};
 
 /// The encoding of 5 plain ones, 6 at 1 and -1, 7 of size 9 on a Sunday, and `a`, which is plain.
 const TALLY: [u8; 91] = [

@@ -5,9 +5,9 @@ use wincode::io::Lifetime;
 use wincode::serde::{Deserialize, Serialize};
 use wincode::{ReadError, deserialize, serialize};
 use wincode_declared::event::Event;
-use wincode_declared::label::Label;
-use wincode_declared::marks::Range;
 use wincode_declared::signal::Signal;
+use wincode_declared_fields::label::Label;
+use wincode_declared_keys::marks::Range;
 
 #[test]
 fn records_of_one_size(rt: HostRuntime) -> Result<(), Fail> {

@@ -3,7 +3,7 @@ use std::alloc::Global;
 use std::collections::BTreeMap;
 use std::test::Fail;
 use wincode::{ReadError, ReadResult, deserialize, serialize};
-use wincode_declared::label::{Label, Piece, Sheet};
+use wincode_declared_fields::label::{Label, Piece, Sheet};
 
 /// The encoding of number 5 with the name `a`.
 const LABEL: [u8; 17] = [5, 0, 0, 0, 0, 0, 0, 0, 1, 0, 0, 0, 0, 0, 0, 0, 97];

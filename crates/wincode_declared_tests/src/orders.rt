@@ -4,8 +4,8 @@ use std::collections::BTreeMap;
 use std::test::Fail;
 use wincode::io::Lifetime;
 use wincode::{deserialize, serialize, serialized_size};
-use wincode_declared::marks::{Account, Marker, Range, Span};
 use wincode_declared::order::{Note, Order};
+use wincode_declared_keys::marks::{Account, Marker, Range, Span};
 use wincode_uses::copying::copy_front;
 
 /// The encoding of number 7, paid, without a note, with one item: number 2, the text `a` and the marks 5 and 6.

@@ -3,7 +3,7 @@ use std::alloc::Global;
 use std::test::Fail;
 use wincode::io::Lifetime;
 use wincode::{ReadError, SchemaRead, SchemaWrite, TypeMeta, deserialize, serialize};
-use wincode_declared::readings::{Reading, Report, Row};
+use wincode_declared_fields::readings::{Reading, Report, Row};
 
 /// At 1 from station 2: 3, -1, 4, -2, 5, 6, 7, 8, 9, 10, checked.
 const READING: [u8; 38] = [

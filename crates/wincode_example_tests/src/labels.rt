@@ -1,14 +1,12 @@
 //! Labels, whose names stand in what was read.
 use std::alloc::Global;
 use std::test::Fail;
-use wincode::io::Lifetime;
-use wincode::serde::{Deserialize, Serialize};
-use wincode::{By, ReadResult};
+use wincode::{ReadResult, deserialize, serialize};
 use wincode_examples::label::Label;
 
 /// The label in front of the bytes.
 fn label_of<'a>(alloc: Global, bytes: &'a [u8]) -> ReadResult<Label<'a>> {
-    <By<Label<'a>> as Deserialize<Lifetime<'a>>>::deserialize(alloc, bytes)
+    deserialize(alloc, bytes)
 }
 
 #[test]
@@ -23,7 +21,7 @@ fn a_label(rt: HostRuntime) -> Result<(), Fail> {
                 name: "ab"
             }
     );
-    let text = <By<Label> as Serialize>::serialize(alloc, &label)?;
+    let text = serialize(alloc, &label)?;
     assert!(rt; bytes.starts_with(text.as_slice()));
     assert_eq!(rt; text.len(), 18);
     Ok(())

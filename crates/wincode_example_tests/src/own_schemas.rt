@@ -1,12 +1,14 @@
-//! Structs and an enum by their shape: what they are written as, and that it is copied from a reader as it was read.
+//! Structs and an enum: what they are written as, and that it is copied from a reader as it was read. And a type that is
+//! written as another.
 use crate::copied::copied_as;
 use std::alloc::Global;
 use std::test::Fail;
-use wincode::By;
-use wincode::io::{Lending, Reader};
-use wincode::serde::Serialize;
+use wincode::io::{Lending, Lifetime, Reader};
+use wincode::serde::{Deserialize, Serialize};
+use wincode::{By, ReadResult, serialize};
 use wincode_examples::change::Change;
 use wincode_examples::transfer::{Account, Day, Payment, Transfer};
+use wincode_examples::turn::Turn;
 use wincode_tests::rows::{bytes_of, outcome};
 use wincode_uses::copying::copy_front;
 
@@ -27,7 +29,7 @@ const DAY: &str = concat!(
 );
 
 #[test]
-fn shapes_written_as_their_parts(rt: HostRuntime) -> Result<(), Fail> {
+fn structs_and_an_enum_written(rt: HostRuntime) -> Result<(), Fail> {
     let alloc = rt.alloc();
     let transfer = Transfer {
         from: [1; 32],
@@ -35,8 +37,7 @@ fn shapes_written_as_their_parts(rt: HostRuntime) -> Result<(), Fail> {
         amount: 3,
         memo: Some(String::from_str(alloc, "a")?),
     };
-    let text = <By<Transfer> as Serialize>::serialize(alloc, &transfer)?;
-    assert!(rt; text == bytes_of(alloc, TRANSFER)?);
+    assert!(rt; serialize(alloc, &transfer)? == bytes_of(alloc, TRANSFER)?);
     let payment = Payment {
         to: Account([2; 32]),
         amount: 5,
@@ -45,8 +46,7 @@ fn shapes_written_as_their_parts(rt: HostRuntime) -> Result<(), Fail> {
         number: 7,
         paid: vec![in alloc; payment]?,
     };
-    let text = <By<Day> as Serialize>::serialize(alloc, &day)?;
-    assert!(rt; text == bytes_of(alloc, DAY)?);
+    assert!(rt; serialize(alloc, &day)? == bytes_of(alloc, DAY)?);
     for (change, digits) in [
         (Change::Closed(5), "000000000500000000000000"),
         (
@@ -54,17 +54,18 @@ fn shapes_written_as_their_parts(rt: HostRuntime) -> Result<(), Fail> {
             "01000000010000000000000061",
         ),
     ] {
-        let text = <Change as Serialize>::serialize(alloc, &change)?;
+        let text = serialize(alloc, &change)?;
         assert!(rt; text == bytes_of(alloc, digits)?, "{digits}");
     }
     Ok(())
 }
 
-/// The encoding of the value of this name in front of the bytes, and how many bytes are left.
+/// What copying the value of this name from the front of the bytes answers.
 fn copied(alloc: Global, name: &str, bytes: &[u8]) -> Result<String, Fail> {
     match name {
         "Transfer" => transfer_copied(alloc, bytes),
-        "Day" => copied_as::<By<Day>>(alloc, bytes),
+        "Day" => copied_as::<Day>(alloc, bytes),
+        "Turns" => copied_as::<Vec<By<Turn>>>(alloc, bytes),
         _ => copied_as::<Change>(alloc, bytes),
     }
 }
@@ -72,24 +73,28 @@ fn copied(alloc: Global, name: &str, bytes: &[u8]) -> Result<String, Fail> {
 /// So of a transfer.
 fn transfer_copied(alloc: Global, bytes: &[u8]) -> Result<String, Fail> {
     let mut reader = bytes;
-    let text = copy_shape(alloc, &mut reader);
+    let text = copy_transfer(alloc, &mut reader);
     let left = reader.len();
     outcome(alloc, text, left)
 }
 
 /// A transfer from any reader.
-fn copy_shape<L: Lending, R: Reader<L>>(alloc: Global, reader: &mut R) -> wincode::Result<Vec<u8>> {
-    copy_front::<L, R, By<Transfer>>(alloc, reader)
+fn copy_transfer<L: Lending, R: Reader<L>>(
+    alloc: Global,
+    reader: &mut R,
+) -> wincode::Result<Vec<u8>> {
+    copy_front::<L, R, Transfer>(alloc, reader)
 }
 
 #[test]
-fn shapes_copied(rt: HostRuntime) -> Result<(), Fail> {
+fn encodings_copied(rt: HostRuntime) -> Result<(), Fail> {
     let alloc = rt.alloc();
     for (name, digits) in [
         ("Transfer", TRANSFER),
         ("Day", DAY),
         ("Change", "000000000500000000000000"),
         ("Change", "01000000010000000000000061"),
+        ("Turns", "0300000000000000010001"),
     ] {
         let wanted = format!(in alloc; "ok 0 {digits}")?;
         let bytes = bytes_of(alloc, digits)?;
@@ -104,10 +109,38 @@ fn shapes_copied(rt: HostRuntime) -> Result<(), Fail> {
             "err Io(ReadSizeLimit(40)) 1",
         ),
         ("Transfer", "01", "err Io(ReadSizeLimit(32)) 1"),
+        (
+            "Turns",
+            "020000000000000000020101",
+            "err InvalidBoolEncoding(2) 2",
+        ),
+        (
+            "Turns",
+            "03000000000000000001",
+            "err Io(ReadSizeLimit(3)) 2",
+        ),
     ] {
         let bytes = bytes_of(alloc, digits)?;
         let found = copied(alloc, name, bytes.as_slice())?;
         assert_eq!(rt; found.as_str(), wanted);
     }
+    Ok(())
+}
+
+/// The turns in front of the bytes.
+fn turns_of<'a>(alloc: Global, bytes: &'a [u8]) -> ReadResult<Vec<Turn>> {
+    <Vec<By<Turn>> as Deserialize<Lifetime<'a>>>::deserialize(alloc, bytes)
+}
+
+#[test]
+fn turns_written_as_flags(rt: HostRuntime) -> Result<(), Fail> {
+    let alloc = rt.alloc();
+    let turns = vec![in alloc; Turn::Right, Turn::Left, Turn::Right]?;
+    let text = <Vec<By<Turn>> as Serialize>::serialize(alloc, &turns)?;
+    let wanted = [3u8, 0, 0, 0, 0, 0, 0, 0, 1, 0, 1];
+    assert_eq!(rt; text.as_slice(), wanted.as_slice());
+    assert!(rt; turns_of(alloc, text.as_slice())? == turns);
+    let text = <By<Turn> as Serialize>::serialize(alloc, &Turn::Left)?;
+    assert_eq!(rt; text.as_slice(), [0u8].as_slice());
     Ok(())
 }

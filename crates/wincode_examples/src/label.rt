@@ -1,36 +1,9 @@
-//! A struct with a borrowed field, by its shape: what it borrows is the reader's own bytes.
-ghost use Rattle.std.proofs.Common.{ap};
-
-use wincode::io::Writer;
-use wincode::schema::tuples::{size_of_members_2, write_members_2};
-use wincode::{Shape, WriteResult};
+//! A struct with a borrowed field, whose schema `wincode_derive` wrote: what it borrows is the reader's own bytes.
+mod schemas;
 
 /// A number with a name that stands in what was read.
 #[derive(Debug, Clone, Copy, PartialEq)]
 pub struct Label<'a> {
     pub number: u64,
     pub name: &'a str,
-}
-
-impl<'a> Shape for Label<'a> {
-    type Parts = (u64, &'a str);
-
-    type As = (u64, &'a str);
-
-    ghost parts = { λ l. (l.number, l.name) };
-
-    ghost parts_tell = { λ x y same. ap (λ p. record { number = p.0; name = p.1 }) same };
-
-    fn make(made_of: Self::Parts) -> Label<'a> {
-        let (number, name) = made_of;
-        Label { number, name }
-    }
-
-    fn parts_size(&self) -> WriteResult<usize> {
-        size_of_members_2::<u64, &'a str>(&self.number, &self.name)
-    }
-
-    fn write_parts<W: Writer>(&self, writer: &mut W) -> WriteResult<()> {
-        write_members_2::<u64, &'a str, W>(writer, &self.number, &self.name)
-    }
 }

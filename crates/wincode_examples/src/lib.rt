@@ -1,4 +1,4 @@
-//! Schemas of a user's own, by hand and by shape, and devices that fail.
+//! Schemas of a user's own, from declarations and by shape, and devices that fail.
 #![tactic(auto)]
 
 pub mod change;
@@ -8,3 +8,4 @@ pub mod faults;
 pub mod label;
 pub mod message;
 pub mod transfer;
+pub mod turn;

@@ -1,22 +1,177 @@
 //! Written by `wincode_derive`: the schemas of what the module above declares.
 ghost use Rattle.wincode_base.specs.PairLaws.{write_laws_by, reads_back_by};
+ghost use Rattle.wincode_declared.specs.contracts.stock.PlaceEq.TheImpl.Laws as PlaceEqLaws;
+ghost use Rattle.wincode_declared.specs.contracts.stock.PlaceOrd.TheImpl.Laws as PlaceOrdLaws;
 
 use super::*;
 use std::alloc::Global;
 use wincode::io::{Lending, Reader, Writer};
 use wincode::schema::tuples::{
-    size_of_members_3, size_of_members_5, write_members_3, write_members_5,
+    encode_members_2, size_of_members_2, size_of_members_3, size_of_members_5, write_members_2,
+    write_members_3, write_members_5,
 };
 use wincode::{
-    OneText, ReadResult, RoundTrip, SchemaGet, SchemaRead, SchemaReadOwned, SchemaWrite, TypeMeta,
-    WriteResult,
+    Key, OneText, ReadResult, RoundTrip, SchemaGet, SchemaRead, SchemaReadOwned, SchemaWrite,
+    TypeMeta, WriteResult,
 };
+use wincode_derived::keys::LawfulKey;
 use wincode_derived::laws::{FieldsOneText, FieldsReadOwned, Lawful};
+
+type PlaceFields = (u32, u32);
+
+impl SchemaWrite for Place {
+    type Src = Place;
+
+    ghost Value = { ⟦<PlaceFields as SchemaWrite>⟧.Value };
+
+    ghost model = { λ x. ⟦<PlaceFields as SchemaWrite>⟧.model (x.hall, x.shelf) };
+
+    ghost is_valid = { λ x. ⟦<PlaceFields as SchemaWrite>⟧.is_valid (x.hall, x.shelf) };
+
+    ghost writing = { ⟦<PlaceFields as SchemaWrite>⟧.writing };
+
+    fn type_meta() -> TypeMeta {
+        <PlaceFields as SchemaWrite>::type_meta()
+    }
+
+    fn size_of(src: &Place) -> WriteResult<usize> {
+        size_of_members_2::<u32, u32>(&src.hall, &src.shelf)
+    }
+
+    fn write<W: Writer>(writer: &mut W, src: &Place) -> WriteResult<()> {
+        write_members_2::<u32, u32, W>(writer, &src.hall, &src.shelf)
+    }
+
+    #[inline(always)]
+    fn encode(src: &Place, dst: &mut [u8]) -> bool {
+        encode_members_2::<u32, u32>(&src.hall, &src.shelf, dst)
+    }
+
+    ghost write_laws = { write_laws_by (λ x. (x.hall, x.shelf)) ⟦<PlaceFields as SchemaWrite>⟧.write_laws };
+}
+
+impl<L: Lending> SchemaRead<L> for Place {
+    type Dst = Place;
+
+    ghost Value = { ⟦<PlaceFields as SchemaRead<L>>⟧.Value };
+
+    ghost model = { λ x. ⟦<PlaceFields as SchemaRead<L>>⟧.model (x.hall, x.shelf) };
+
+    ghost is_valid = { ⟦<PlaceFields as SchemaRead<L>>⟧.is_valid };
+
+    ghost reading = { ⟦<PlaceFields as SchemaRead<L>>⟧.reading };
+
+    fn type_meta() -> TypeMeta {
+        <PlaceFields as SchemaRead<L>>::type_meta()
+    }
+
+    fn prealloc_size() -> usize {
+        <PlaceFields as SchemaRead<L>>::prealloc_size()
+    }
+
+    fn read<R: Reader<L>>(
+        alloc: Global,
+        reader: &mut R,
+        dst: &mut Option<Place>,
+    ) -> ReadResult<()> {
+        let (hall, shelf) = <PlaceFields as SchemaGet<L>>::get(alloc, reader)?;
+        *dst = Some(Place { hall, shelf });
+        Ok(())
+    }
+
+    #[inline(always)]
+    fn blank() -> Option<Place> {
+        let (hall, shelf) = <PlaceFields as SchemaRead<L>>::blank()?;
+        Some(Place { hall, shelf })
+    }
+
+    #[inline(always)]
+    fn decode(bytes: &[u8], place: &mut Place) -> bool {
+        let Some(mut parts) = <PlaceFields as SchemaRead<L>>::blank() else {
+            return false;
+        };
+        if !<PlaceFields as SchemaRead<L>>::decode(bytes, &mut parts) {
+            return false;
+        }
+        let (hall, shelf) = parts;
+        *place = Place { hall, shelf };
+        true
+    }
+
+    ghost read_laws = { ⟦<PlaceFields as Lawful<L>>⟧.read_laws };
+}
+
+impl<L: Lending> Lawful<L> for Place {
+    type Dst = Place;
+
+    ghost Value = { ⟦<PlaceFields as Lawful<L>>⟧.Value };
+
+    ghost model = { λ x. ⟦<PlaceFields as Lawful<L>>⟧.model (x.hall, x.shelf) };
+
+    ghost is_valid = { ⟦<PlaceFields as Lawful<L>>⟧.is_valid };
+
+    ghost reading = { ⟦<PlaceFields as Lawful<L>>⟧.reading };
+
+    ghost read_laws = { ⟦<PlaceFields as Lawful<L>>⟧.read_laws };
+}
+
+impl<L: Lending> RoundTrip<L> for Place
+where
+    PlaceFields: RoundTrip<L>,
+{
+    ghost reads_back = { reads_back_by (λ x. (x.hall, x.shelf)) bound-5.reads_back };
+}
+
+impl<L: Lending> OneText<L> for Place
+where
+    PlaceFields: FieldsOneText<L>,
+{
+    ghost one_text = { bound-5.fields_one_text };
+}
+
+impl<L: Lending> SchemaReadOwned<L> for Place
+where
+    PlaceFields: FieldsReadOwned<L>,
+{
+    ghost owned = { bound-5.fields_owned };
+}
+
+type PlacePairs = (u32, u32);
+
+impl<L: Lending> Key<L> for Place {
+    ghost alike = { ⟦<Place as LawfulKey<L>>⟧.alike };
+}
+
+impl<L: Lending> LawfulKey<L> for Place {
+    type Dst = Place;
+
+    ghost Value = { ⟦<PlaceFields as Lawful<L>>⟧.Value };
+
+    ghost model = { λ x. ⟦<PlaceFields as Lawful<L>>⟧.model (x.hall, x.shelf) };
+
+    ghost is_valid = { ⟦<PlaceFields as Lawful<L>>⟧.is_valid };
+
+    ghost reading = { ⟦<PlaceFields as Lawful<L>>⟧.reading };
+
+    ghost read_laws = { ⟦<PlaceFields as Lawful<L>>⟧.read_laws };
+
+    ghost equal = { ⟦<Place as PartialEq>⟧.eq };
+
+    ghost equivalence = { PlaceEqLaws.laws-law };
+
+    ghost alike = { λ x y. ⟦<PlacePairs as LawfulKey<L>>⟧.alike (x.hall, x.shelf) (y.hall, y.shelf) };
+
+    ghost order = { ⟦<Place as Ord>⟧.cmp };
+
+    ghost order_total = { PlaceOrdLaws.total-law };
+
+    ghost order_ties = { PlaceOrdLaws.matches_eq-law };
+}
 
 type StockFields = (
     BTreeMap<String, Note>,
     HashMap<u64, u32>,
-    BTreeSet<Range>,
+    BTreeSet<Place>,
     HashSet<String>,
     BinaryHeap<u32>,
 );
@@ -26,9 +181,9 @@ impl SchemaWrite for Stock {
 
     ghost Value = { ⟦<StockFields as SchemaWrite>⟧.Value };
 
-    ghost model = { λ x. ⟦<StockFields as SchemaWrite>⟧.model (x.by_name, x.counts, x.ranges, x.tags, x.waiting) };
+    ghost model = { λ x. ⟦<StockFields as SchemaWrite>⟧.model (x.by_name, x.counts, x.places, x.tags, x.waiting) };
 
-    ghost is_valid = { λ x. ⟦<StockFields as SchemaWrite>⟧.is_valid (x.by_name, x.counts, x.ranges, x.tags, x.waiting) };
+    ghost is_valid = { λ x. ⟦<StockFields as SchemaWrite>⟧.is_valid (x.by_name, x.counts, x.places, x.tags, x.waiting) };
 
     ghost writing = { ⟦<StockFields as SchemaWrite>⟧.writing };
 
@@ -40,13 +195,13 @@ impl SchemaWrite for Stock {
         size_of_members_5::<
             BTreeMap<String, Note>,
             HashMap<u64, u32>,
-            BTreeSet<Range>,
+            BTreeSet<Place>,
             HashSet<String>,
             BinaryHeap<u32>,
         >(
             &src.by_name,
             &src.counts,
-            &src.ranges,
+            &src.places,
             &src.tags,
             &src.waiting,
         )
@@ -56,7 +211,7 @@ impl SchemaWrite for Stock {
         write_members_5::<
             BTreeMap<String, Note>,
             HashMap<u64, u32>,
-            BTreeSet<Range>,
+            BTreeSet<Place>,
             HashSet<String>,
             BinaryHeap<u32>,
             W,
@@ -64,13 +219,13 @@ impl SchemaWrite for Stock {
             writer,
             &src.by_name,
             &src.counts,
-            &src.ranges,
+            &src.places,
             &src.tags,
             &src.waiting,
         )
     }
 
-    ghost write_laws = { write_laws_by (λ x. (x.by_name, x.counts, x.ranges, x.tags, x.waiting)) ⟦<StockFields as SchemaWrite>⟧.write_laws };
+    ghost write_laws = { write_laws_by (λ x. (x.by_name, x.counts, x.places, x.tags, x.waiting)) ⟦<StockFields as SchemaWrite>⟧.write_laws };
 }
 
 impl<L: Lending> SchemaRead<L> for Stock {
@@ -78,7 +233,7 @@ impl<L: Lending> SchemaRead<L> for Stock {
 
     ghost Value = { ⟦<StockFields as SchemaRead<L>>⟧.Value };
 
-    ghost model = { λ x. ⟦<StockFields as SchemaRead<L>>⟧.model (x.by_name, x.counts, x.ranges, x.tags, x.waiting) };
+    ghost model = { λ x. ⟦<StockFields as SchemaRead<L>>⟧.model (x.by_name, x.counts, x.places, x.tags, x.waiting) };
 
     ghost is_valid = { ⟦<StockFields as SchemaRead<L>>⟧.is_valid };
 
@@ -97,13 +252,13 @@ impl<L: Lending> SchemaRead<L> for Stock {
         reader: &mut R,
         dst: &mut Option<Stock>,
     ) -> ReadResult<()> {
-        let (by_name, counts, ranges, tags, waiting) = <StockFields as SchemaGet<L>>::get(
+        let (by_name, counts, places, tags, waiting) = <StockFields as SchemaGet<L>>::get(
             alloc, reader,
         )?;
         *dst = Some(Stock {
             by_name,
             counts,
-            ranges,
+            places,
             tags,
             waiting,
         });
@@ -118,7 +273,7 @@ impl<L: Lending> Lawful<L> for Stock {
 
     ghost Value = { ⟦<StockFields as Lawful<L>>⟧.Value };
 
-    ghost model = { λ x. ⟦<StockFields as Lawful<L>>⟧.model (x.by_name, x.counts, x.ranges, x.tags, x.waiting) };
+    ghost model = { λ x. ⟦<StockFields as Lawful<L>>⟧.model (x.by_name, x.counts, x.places, x.tags, x.waiting) };
 
     ghost is_valid = { ⟦<StockFields as Lawful<L>>⟧.is_valid };
 
@@ -131,7 +286,7 @@ impl<L: Lending> RoundTrip<L> for Stock
 where
     StockFields: RoundTrip<L>,
 {
-    ghost reads_back = { reads_back_by (λ x. (x.by_name, x.counts, x.ranges, x.tags, x.waiting)) bound-5.reads_back };
+    ghost reads_back = { reads_back_by (λ x. (x.by_name, x.counts, x.places, x.tags, x.waiting)) bound-5.reads_back };
 }
 
 impl<L: Lending> OneText<L> for Stock
@@ -150,7 +305,7 @@ where
 
 type DepotFields = (
     Vec<Stock>,
-    BTreeMap<Range, Stock>,
+    BTreeMap<Place, Stock>,
     Option<HashMap<(u8, char), Vec<Stock>>>,
 );
 
@@ -159,9 +314,9 @@ impl SchemaWrite for Depot {
 
     ghost Value = { ⟦<DepotFields as SchemaWrite>⟧.Value };
 
-    ghost model = { λ x. ⟦<DepotFields as SchemaWrite>⟧.model (x.stocks, x.places, x.last) };
+    ghost model = { λ x. ⟦<DepotFields as SchemaWrite>⟧.model (x.stocks, x.by_place, x.last) };
 
-    ghost is_valid = { λ x. ⟦<DepotFields as SchemaWrite>⟧.is_valid (x.stocks, x.places, x.last) };
+    ghost is_valid = { λ x. ⟦<DepotFields as SchemaWrite>⟧.is_valid (x.stocks, x.by_place, x.last) };
 
     ghost writing = { ⟦<DepotFields as SchemaWrite>⟧.writing };
 
@@ -172,21 +327,21 @@ impl SchemaWrite for Depot {
     fn size_of(src: &Depot) -> WriteResult<usize> {
         size_of_members_3::<
             Vec<Stock>,
-            BTreeMap<Range, Stock>,
+            BTreeMap<Place, Stock>,
             Option<HashMap<(u8, char), Vec<Stock>>>,
-        >(&src.stocks, &src.places, &src.last)
+        >(&src.stocks, &src.by_place, &src.last)
     }
 
     fn write<W: Writer>(writer: &mut W, src: &Depot) -> WriteResult<()> {
         write_members_3::<
             Vec<Stock>,
-            BTreeMap<Range, Stock>,
+            BTreeMap<Place, Stock>,
             Option<HashMap<(u8, char), Vec<Stock>>>,
             W,
-        >(writer, &src.stocks, &src.places, &src.last)
+        >(writer, &src.stocks, &src.by_place, &src.last)
     }
 
-    ghost write_laws = { write_laws_by (λ x. (x.stocks, x.places, x.last)) ⟦<DepotFields as SchemaWrite>⟧.write_laws };
+    ghost write_laws = { write_laws_by (λ x. (x.stocks, x.by_place, x.last)) ⟦<DepotFields as SchemaWrite>⟧.write_laws };
 }
 
 impl<L: Lending> SchemaRead<L> for Depot {
@@ -194,7 +349,7 @@ impl<L: Lending> SchemaRead<L> for Depot {
 
     ghost Value = { ⟦<DepotFields as SchemaRead<L>>⟧.Value };
 
-    ghost model = { λ x. ⟦<DepotFields as SchemaRead<L>>⟧.model (x.stocks, x.places, x.last) };
+    ghost model = { λ x. ⟦<DepotFields as SchemaRead<L>>⟧.model (x.stocks, x.by_place, x.last) };
 
     ghost is_valid = { ⟦<DepotFields as SchemaRead<L>>⟧.is_valid };
 
@@ -213,10 +368,10 @@ impl<L: Lending> SchemaRead<L> for Depot {
         reader: &mut R,
         dst: &mut Option<Depot>,
     ) -> ReadResult<()> {
-        let (stocks, places, last) = <DepotFields as SchemaGet<L>>::get(alloc, reader)?;
+        let (stocks, by_place, last) = <DepotFields as SchemaGet<L>>::get(alloc, reader)?;
         *dst = Some(Depot {
             stocks,
-            places,
+            by_place,
             last,
         });
         Ok(())
@@ -230,7 +385,7 @@ impl<L: Lending> Lawful<L> for Depot {
 
     ghost Value = { ⟦<DepotFields as Lawful<L>>⟧.Value };
 
-    ghost model = { λ x. ⟦<DepotFields as Lawful<L>>⟧.model (x.stocks, x.places, x.last) };
+    ghost model = { λ x. ⟦<DepotFields as Lawful<L>>⟧.model (x.stocks, x.by_place, x.last) };
 
     ghost is_valid = { ⟦<DepotFields as Lawful<L>>⟧.is_valid };
 
@@ -243,7 +398,7 @@ impl<L: Lending> RoundTrip<L> for Depot
 where
     DepotFields: RoundTrip<L>,
 {
-    ghost reads_back = { reads_back_by (λ x. (x.stocks, x.places, x.last)) bound-5.reads_back };
+    ghost reads_back = { reads_back_by (λ x. (x.stocks, x.by_place, x.last)) bound-5.reads_back };
 }
 
 impl<L: Lending> OneText<L> for Depot

@@ -2,15 +2,15 @@
 ghost use Rattle.std.specs.Prelude.{Ok, Err, refl};
 ghost use Rattle.wincode_base.specs.PairLaws.{write_laws_by, reads_back_by};
 ghost use Rattle.wincode_derived.specs.Keys.{ok_same, err_same, ok_not_err, err_not_ok};
-ghost use Rattle.wincode_declared.specs.contracts.kinds.KindEq.TheImpl.Laws as KindEqLaws;
-ghost use Rattle.wincode_declared.specs.contracts.kinds.KindOrd.TheImpl.Laws as KindOrdLaws;
-ghost use Rattle.wincode_declared.specs.contracts.kinds.DayEq.TheImpl.Laws as DayEqLaws;
-ghost use Rattle.wincode_declared.specs.contracts.kinds.DayOrd.TheImpl.Laws as DayOrdLaws;
-ghost use Rattle.wincode_declared.specs.contracts.kinds.NameEq.TheImpl.Laws as NameEqLaws;
-ghost use Rattle.wincode_declared.specs.contracts.kinds.NameOrd.TheImpl.Laws as NameOrdLaws;
-ghost use Rattle.wincode_declared.specs.declared.kinds.Kind.TheVariants.{Plain as KindPlain, Sized as KindSized, Placed as KindPlaced};
-ghost use Rattle.wincode_declared.specs.declared.kinds.Day.TheVariants.{Monday as DayMonday, Tuesday as DayTuesday, Wednesday as DayWednesday, Thursday as DayThursday, Friday as DayFriday, Saturday as DaySaturday, Sunday as DaySunday};
-ghost use Rattle.wincode_declared.specs.declared.kinds.Name.TheVariants.{Known as NameKnown, Written as NameWritten};
+ghost use Rattle.wincode_declared_keys.specs.contracts.kinds.KindEq.TheImpl.Laws as KindEqLaws;
+ghost use Rattle.wincode_declared_keys.specs.contracts.kinds.KindOrd.TheImpl.Laws as KindOrdLaws;
+ghost use Rattle.wincode_declared_keys.specs.contracts.kinds.DayEq.TheImpl.Laws as DayEqLaws;
+ghost use Rattle.wincode_declared_keys.specs.contracts.kinds.DayOrd.TheImpl.Laws as DayOrdLaws;
+ghost use Rattle.wincode_declared_keys.specs.contracts.kinds.NameEq.TheImpl.Laws as NameEqLaws;
+ghost use Rattle.wincode_declared_keys.specs.contracts.kinds.NameOrd.TheImpl.Laws as NameOrdLaws;
+ghost use Rattle.wincode_declared_keys.specs.declared.kinds.Kind.TheVariants.{Plain as KindPlain, Sized as KindSized, Placed as KindPlaced};
+ghost use Rattle.wincode_declared_keys.specs.declared.kinds.Day.TheVariants.{Monday as DayMonday, Tuesday as DayTuesday, Wednesday as DayWednesday, Thursday as DayThursday, Friday as DayFriday, Saturday as DaySaturday, Sunday as DaySunday};
+ghost use Rattle.wincode_declared_keys.specs.declared.kinds.Name.TheVariants.{Known as NameKnown, Written as NameWritten};
 
 use super::*;
 use std::alloc::Global;

@@ -1,10 +1,10 @@
 //! Written by `wincode_derive`: the schemas of what the module above declares.
 ghost use Rattle.std.specs.Prelude.{Ok, Err};
 ghost use Rattle.wincode_base.specs.PairLaws.{write_laws_by, reads_back_by};
-ghost use Rattle.wincode_declared.specs.contracts.marks.RangeEq.TheImpl.Laws as RangeEqLaws;
-ghost use Rattle.wincode_declared.specs.contracts.marks.RangeOrd.TheImpl.Laws as RangeOrdLaws;
-ghost use Rattle.wincode_declared.specs.declared.marks.Mark.TheVariants.{Plus as MarkPlus, Minus as MarkMinus, Other as MarkOther};
-ghost use Rattle.wincode_declared.specs.declared.marks.Only.TheVariants.{Spanned as OnlySpanned};
+ghost use Rattle.wincode_declared_keys.specs.contracts.marks.RangeEq.TheImpl.Laws as RangeEqLaws;
+ghost use Rattle.wincode_declared_keys.specs.contracts.marks.RangeOrd.TheImpl.Laws as RangeOrdLaws;
+ghost use Rattle.wincode_declared_keys.specs.declared.marks.Mark.TheVariants.{Plus as MarkPlus, Minus as MarkMinus, Other as MarkOther};
+ghost use Rattle.wincode_declared_keys.specs.declared.marks.Only.TheVariants.{Spanned as OnlySpanned};
 
 use super::*;
 use std::alloc::Global;
