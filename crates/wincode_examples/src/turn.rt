@@ -1,5 +1,5 @@
 //! A type that is read and written as another, by its shape: it has no grammar and no law of its own.
-ghost use Rattle.std.specs.Prelude.{◌≡◌, true, false, refl, absurd};
+ghost use Rattle.std.specs.Prelude.{◌≡◌, true, false, refl};
 ghost use Rattle.std.proofs.lemmas.Bool.{true≢false, false≢true};
 ghost use Rattle.wincode_examples.specs.declared.turn.Turn.TheVariants.{Left, Right};
 
