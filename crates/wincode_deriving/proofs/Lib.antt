@@ -1,1 +1,2 @@
-pub mod Splitting
+mod Splitting
+pub mod SplitLaws

@@ -1,7 +1,6 @@
 -- The tokens of a text in which no quote and no slash stands.
-use Rattle.std.specs.Prelude.{◌≡◌, ℕ, Bool, true, false, ◌||◌, ◌==◌, if◌then◌else◌, List, [], ◌∷◌, ◌++◌, map, Option, Some, None, Result, Ok, Err, MatchOption, option_and_then, option_map}
+use Rattle.std.specs.Prelude.{◌≡◌, ℕ, Bool, true, ◌||◌, ◌&&◌, ◌==◌, if◌then◌else◌, List, [], ◌∷◌, ◌++◌, map, Option, Some, None, Result, Ok, Err, MatchOption, option_and_then, option_map}
 use Rattle.std.specs.Char.{encode_utf8, is_ascii_alphanumeric, is_whitespace}
-use Rattle.std.specs.Str.{chars}
 use Rattle.std.specs.String.{string_bytes}
 use Rattle.std.specs.Global.{Vec}
 use Rattle.wincode_deriving.specs.declared.error.DeriveError.{DeriveError}
@@ -16,6 +15,11 @@ use Rattle.wincode_deriving.specs.declared.tokens.Token.{Token}
 -- a letter, a digit or `_`
 abbrev pub of_word : ℕ → Bool
 of_word c = is_ascii_alphanumeric c || (c == 95)
+
+-- letters, digits and `_` alone
+abbrev pub all_of_word : List ℕ → Bool
+all_of_word [] = true
+all_of_word (c ∷ cs) = of_word c && all_of_word cs
 
 -- what a token is, and its bytes
 abbrev pub piece : Token → Kind × List ℕ
@@ -74,9 +78,13 @@ splits place.Between word [] = Some []
 splits _ word [] = None
 splits p word (c ∷ cs) = option_and_then (λ t. option_map (λ ts. t.ended ++ ts) (splits t.reached.place t.reached.word cs)) (taken p word c)
 
+-- the tokens of what is left, where none is being read
+abbrev pub tokens_from : List ℕ → Option (List (Kind × List ℕ))
+tokens_from cs = splits place.Between [] cs
+
 -- the tokens of a text, which ends as a line does
 abbrev pub tokens_in : List ℕ → Option (List (Kind × List ℕ))
-tokens_in cs = splits place.Between [] (cs ++ 10 ∷ [])
+tokens_in cs = tokens_from (cs ++ 10 ∷ [])
 
 -- these are the tokens, if they are known, or there was no memory
 abbrev pub Splits : Option (List (Kind × List ℕ)) → Result (Vec Token) DeriveError → Type 0
