@@ -81,7 +81,7 @@ fn place_of_module(alloc: Global, module: &str) -> DeriveResult<Place> {
 
 /// Whether a character is of the text and not of its layout.
 fn is_of_text(c: char) -> bool {
-    !c.is_whitespace() && c != ',' && c != '{' && c != '}'
+    !c.is_whitespace() && c != ',' && c != '{' && c != '}' && c != '|'
 }
 
 /// Whether two modules are the same but for their layout.

@@ -4,7 +4,7 @@ use crate::enums::{is_enum_key, put_enum};
 use crate::error::{DeriveError, DeriveResult};
 use crate::lent::{is_lent_key, put_lent};
 use crate::parsing::declarations_of;
-use crate::printing::{Words, fill, joined, owned, put, put_use};
+use crate::printing::{Words, broken, fill, joined, owned, put, put_use};
 use crate::structs::{has_plain, is_lawful_key, put_key, put_struct};
 use crate::tokens::tokens_of;
 use std::alloc::Global;
@@ -436,5 +436,5 @@ pub fn module_of(
     )?;
     put_uses(alloc, &mut out, needs, body)?;
     out.push_str(body)?;
-    Ok(out)
+    broken(alloc, out.as_str())
 }

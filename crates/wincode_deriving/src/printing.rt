@@ -5,6 +5,9 @@ use std::alloc::Global;
 /// The longest line.
 const WIDTH: usize = 100;
 
+/// The column from which on a line of a ghost member is broken.
+const WIDE: usize = 140;
+
 /// The longest arguments of a call that stand on its line.
 const ARGUMENTS: usize = 60;
 
@@ -81,6 +84,35 @@ pub fn joined(alloc: Global, texts: &[String], between: &str) -> DeriveResult<St
             out.push_str(between)?;
         }
         out.push_str(text.as_str())?;
+    }
+    Ok(out)
+}
+
+/// The text, with its widest lines broken behind a comma or in front of a case: `rt fmt` then gives each part of these
+/// a line.
+pub fn broken(alloc: Global, text: &str) -> DeriveResult<String> {
+    let mut out = String::new(alloc);
+    let mut column = 0usize;
+    let mut last = '\n';
+    let mut is_behind_space = false;
+    for c in text.chars() {
+        if is_behind_space && column >= WIDE && (last == ',' || c == '|') {
+            out.push_str("\n        ")?;
+            column = 8;
+        } else if is_behind_space {
+            out.push(' ')?;
+            column = column.saturating_add(1);
+        }
+        is_behind_space = c == ' ';
+        if !is_behind_space {
+            out.push(c)?;
+            last = c;
+            column = if c == '\n' {
+                0
+            } else {
+                column.saturating_add(1)
+            };
+        }
     }
     Ok(out)
 }

@@ -1,66 +1,18 @@
 //! A first program: an order goes to a file and comes back, and a file that was damaged is refused.
 #![tactic(auto)]
 
-ghost use Rattle.std.proofs.Common.{ap};
+mod order;
 
+use order::Order;
 use std::alloc::{AllocError, Global};
 use std::process::ExitCode;
 use std::rt::Files;
 use std::{fs, io};
 use thiserror::Error;
 use wincode::prelude::*;
-use wincode::schema::tuples::{size_of_members_4, write_members_4};
 
 /// Where the order is kept.
 const PATH: &str = "order.bin";
-
-#[derive(Debug, Drop, PartialEq)]
-struct Order {
-    id: u64,
-    paid: bool,
-    buyer: String,
-    items: Vec<u32>,
-}
-
-/// An order is its four fields, in this order.
-impl Shape for Order {
-    type Parts = (u64, bool, String, Vec<u32>);
-
-    type As = (u64, bool, String, Vec<u32>);
-
-    ghost parts = { λ o. (o.id, o.paid, o.buyer, o.items) };
-
-    ghost parts_tell = { λ x y same. ap (λ p. record { id = p.0; paid = p.1; buyer = p.2; items = p.3 }) same };
-
-    fn make(made_of: Self::Parts) -> Order {
-        let (id, paid, buyer, items) = made_of;
-        Order {
-            id,
-            paid,
-            buyer,
-            items,
-        }
-    }
-
-    fn parts_size(&self) -> WriteResult<usize> {
-        size_of_members_4::<u64, bool, String, Vec<u32>>(
-            &self.id,
-            &self.paid,
-            &self.buyer,
-            &self.items,
-        )
-    }
-
-    fn write_parts<W: Writer>(&self, writer: &mut W) -> WriteResult<()> {
-        write_members_4::<u64, bool, String, Vec<u32>, W>(
-            writer,
-            &self.id,
-            &self.paid,
-            &self.buyer,
-            &self.items,
-        )
-    }
-}
 
 /// Why the program, or a part of it, ends early.
 #[derive(Debug, Drop, Error)]
@@ -85,7 +37,7 @@ fn first_order(alloc: Global) -> Result<Order, Fault> {
 }
 
 fn save(rt: &(impl Files + AllocGlobal), order: &Order) -> Result<(), Fault> {
-    let bytes = <By<Order> as Serialize>::serialize(rt.alloc(), order)?;
+    let bytes = serialize(rt.alloc(), order)?;
     fs::write(rt, PATH, bytes.as_slice())?;
     Ok(())
 }
@@ -93,7 +45,7 @@ fn save(rt: &(impl Files + AllocGlobal), order: &Order) -> Result<(), Fault> {
 fn load(rt: &(impl Files + AllocGlobal)) -> Result<Order, Fault> {
     let bytes = fs::read(rt, PATH)?;
     let mut cursor = Cursor::new(bytes.as_slice());
-    match <By<Order> as SchemaGet<Lifetime>>::get(rt.alloc(), &mut cursor) {
+    match Order::get(rt.alloc(), &mut cursor) {
         Ok(order) => Ok(order),
         Err(error) => {
             let offset = cursor.position();

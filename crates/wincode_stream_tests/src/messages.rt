@@ -105,3 +105,19 @@ fn failing(rt: HostRuntime) -> Result<(), Fail> {
     }
     Ok(())
 }
+
+/// The reader behind some messages gives what follows them.
+#[test]
+fn taken_apart(rt: HostRuntime) -> Result<(), Fail> {
+    let alloc = rt.alloc();
+    for size in SIZES {
+        let mut messages = log(alloc, 4, size, 0, false)?;
+        for _ in 0..3u8 {
+            assert!(rt; matches!(messages.next(), Some(Ok(_))));
+        }
+        let mut reader = messages.into_reader();
+        let word: String = deserialize_from::<Lifetime, _, _>(alloc, &mut reader)?;
+        assert!(rt; word.as_str() == "message 3");
+    }
+    Ok(())
+}
