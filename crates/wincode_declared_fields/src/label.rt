@@ -1,10 +1,10 @@
 //! Structs whose texts and bytes stand in what was read.
 mod schemas;
 
-use std::collections::BTreeMap;
+use std::collections::{BTreeMap, BTreeSet};
 
 /// A number with a name.
-#[derive(Debug, Clone, Copy, PartialEq)]
+#[derive(Debug, Clone, Copy, PartialEq, Eq, PartialOrd, Ord, Hash)]
 pub struct Label<'a> {
     pub number: u64,
     pub name: &'a str,
@@ -18,6 +18,22 @@ pub struct Sheet<'a> {
     pub by_number: BTreeMap<u16, Label<'a>>,
     pub picture: &'a [u8],
     pub last: Option<Label<'a>>,
+}
+
+/// A place in a text.
+#[derive(Debug, Clone, Copy, PartialEq, Eq, PartialOrd, Ord, Hash)]
+pub struct Spot<'a> {
+    pub text: &'a str,
+    pub seal: [u8; 2],
+    pub at: i16,
+    pub is_marked: bool,
+}
+
+/// How often each label was seen, and which were left out.
+#[derive(Debug, Drop)]
+pub struct Index<'a> {
+    pub counts: BTreeMap<Label<'a>, u32>,
+    pub left_out: BTreeSet<Label<'a>>,
 }
 
 /// Bytes that were read.

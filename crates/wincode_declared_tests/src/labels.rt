@@ -1,9 +1,9 @@
 //! Structs with borrowed fields: their bytes, alone, in lists, in maps and in another's field.
 use std::alloc::Global;
-use std::collections::BTreeMap;
+use std::collections::{BTreeMap, BTreeSet, HashMap};
 use std::test::Fail;
 use wincode::{ReadError, ReadResult, deserialize, serialize};
-use wincode_declared_fields::label::{Label, Piece, Sheet};
+use wincode_declared_fields::label::{Index, Label, Piece, Sheet, Spot};
 
 /// The encoding of number 5 with the name `a`.
 const LABEL: [u8; 17] = [5, 0, 0, 0, 0, 0, 0, 0, 1, 0, 0, 0, 0, 0, 0, 0, 97];
@@ -19,6 +19,13 @@ const ONE: Label<'static> = Label {
     number: 5,
     name: "a",
 };
+
+/// That of an index: number 4 with the name `b`, seen 7 times, and this label, seen 6 times; and it left out.
+const INDEX: [u8; 75] = [
+    2, 0, 0, 0, 0, 0, 0, 0, 4, 0, 0, 0, 0, 0, 0, 0, 1, 0, 0, 0, 0, 0, 0, 0, 98, 7, 0, 0, 0, 5, 0,
+    0, 0, 0, 0, 0, 0, 1, 0, 0, 0, 0, 0, 0, 0, 97, 6, 0, 0, 0, 1, 0, 0, 0, 0, 0, 0, 0, 5, 0, 0, 0,
+    0, 0, 0, 0, 1, 0, 0, 0, 0, 0, 0, 0, 97,
+];
 
 /// The labels in front of the bytes.
 fn labels_of<'a>(alloc: Global, bytes: &'a [u8]) -> ReadResult<Vec<Label<'a>>> {
@@ -84,6 +91,58 @@ fn a_sheet(rt: HostRuntime) -> Result<(), Fail> {
     assert!(rt; back.picture == picture.as_slice() && back.last.is_none());
     let again = serialize(alloc, &back)?;
     assert_eq!(rt; again.as_slice(), text.as_slice());
+    Ok(())
+}
+
+/// The index in front of the bytes.
+fn index_of<'a>(alloc: Global, bytes: &'a [u8]) -> ReadResult<Index<'a>> {
+    deserialize(alloc, bytes)
+}
+
+#[test]
+fn labels_as_keys(rt: HostRuntime) -> Result<(), Fail> {
+    let alloc = rt.alloc();
+    let other = Label {
+        number: 4,
+        name: "b",
+    };
+    let mut counts = BTreeMap::new(alloc);
+    counts.insert(ONE, 6u32)?;
+    counts.insert(other, 7)?;
+    let mut left_out = BTreeSet::new(alloc);
+    left_out.insert(ONE)?;
+    let text = serialize(alloc, &Index { counts, left_out })?;
+    assert_eq!(rt; text.as_slice(), INDEX.as_slice());
+    let back = index_of(alloc, text.as_slice())?;
+    assert!(rt; back.counts.get(&other) == Some(&7) && back.counts.get(&ONE) == Some(&6));
+    assert!(rt; back.left_out.contains(&ONE) && !back.left_out.contains(&other));
+    let mut hashed = HashMap::new(alloc);
+    hashed.insert(ONE, 9u8)?;
+    let text = serialize(alloc, &hashed)?;
+    assert_eq!(rt; &text.as_slice()[8..25], LABEL.as_slice());
+    let back: HashMap<Label, u8> = deserialize(alloc, text.as_slice())?;
+    assert!(rt; back.get(&ONE) == Some(&9));
+    Ok(())
+}
+
+#[test]
+fn a_spot_as_a_key(rt: HostRuntime) -> Result<(), Fail> {
+    let alloc = rt.alloc();
+    let spot = Spot {
+        text: "a",
+        seal: [1, 2],
+        at: -1,
+        is_marked: true,
+    };
+    let mut spots = BTreeMap::new(alloc);
+    spots.insert(spot, 6u8)?;
+    let text = serialize(alloc, &spots)?;
+    let wanted = [
+        1u8, 0, 0, 0, 0, 0, 0, 0, 1, 0, 0, 0, 0, 0, 0, 0, 97, 1, 2, 255, 255, 1, 6,
+    ];
+    assert_eq!(rt; text.as_slice(), wanted.as_slice());
+    let back: BTreeMap<Spot, u8> = deserialize(alloc, text.as_slice())?;
+    assert!(rt; back.get(&spot) == Some(&6));
     Ok(())
 }
 

@@ -1,9 +1,10 @@
 //! The schema of a struct with a borrowed field.
-use crate::declarations::{Declaration, Fields};
+use crate::declarations::{Declaration, Field, Fields};
 use crate::error::{DeriveResult, unsupported};
 use crate::printing::{Words, fill, owned};
 use crate::structs::{
-    bindings, groups_of, made_of, schemas_of, set_calls, tuple_of, types_of, values_of,
+    bindings, groups_of, is_plain_key, made_of, named_fields, pairs_of_all, schemas_of, set_calls,
+    tuple_of, types_of, values_of,
 };
 use crate::tokens::{Kind, tokens_of};
 use std::alloc::Global;
@@ -132,6 +133,17 @@ where
 }
 ";
 
+const KEY: &str = "
+type @type@Pairs<@lifetime@> = @pairs@;
+
+impl<@lifetime@> Key<Lifetime<@lifetime@>> for @self@
+where
+    @type@Pairs<@lifetime@>: Key<Lifetime<@lifetime@>, Dst = @pairs@>,
+{
+    ghost alike = { λ x y. bound-1.alike @one@ @other@ };
+}
+";
+
 /// Whether a word of a type is known to own no memory: a name of these, or a number.
 fn is_plain(word: &str) -> bool {
     PLAIN.iter().any(|known| *known == word) || word.chars().all(|c| c.is_ascii_digit())
@@ -147,6 +159,53 @@ fn own_no_memory(alloc: Global, fields: &Fields) -> DeriveResult<bool> {
         }
     }
     Ok(true)
+}
+
+/// Whether a field is a key by its name: as in other structs, or a borrowed text.
+fn is_lent_key_field(lifetime: &str, field: &Field) -> bool {
+    let schema = field.schema.as_str();
+    let text = match schema.strip_prefix("&") {
+        Some(rest) => match rest.strip_prefix(lifetime) {
+            Some(rest) => rest,
+            None => schema,
+        },
+        None => schema,
+    };
+    text == " str" || is_plain_key(schema)
+}
+
+/// Whether a struct with a borrowed field is a key of maps: it derives `Eq`, and its fields are keys by their names and
+/// own no memory.
+pub fn is_lent_key(
+    alloc: Global,
+    declaration: &Declaration,
+    fields: &Fields,
+) -> DeriveResult<bool> {
+    let Some(lifetime) = &declaration.generics.lifetime else {
+        return Ok(false);
+    };
+    let lifetime = lifetime.as_str();
+    let are_keys = fields
+        .fields
+        .iter()
+        .all(|field| is_lent_key_field(lifetime, field));
+    Ok(declaration.is_eq && are_keys && own_no_memory(alloc, fields)?)
+}
+
+/// Appends that a struct with a borrowed field is a key of maps.
+fn put_lent_key(
+    alloc: Global,
+    out: &mut String,
+    words: &mut Words,
+    fields: &Fields,
+) -> DeriveResult<()> {
+    let schemas = schemas_of(alloc, fields)?;
+    let one = named_fields(alloc, "x.", fields)?;
+    let other = named_fields(alloc, "y.", fields)?;
+    words.set("pairs", pairs_of_all(alloc, schemas.as_slice())?)?;
+    words.set("one", pairs_of_all(alloc, one.as_slice())?)?;
+    words.set("other", pairs_of_all(alloc, other.as_slice())?)?;
+    fill(out, KEY, words)
 }
 
 /// Appends the schema of a struct that names a lifetime.
@@ -181,6 +240,9 @@ pub fn put_lent(
     fill(out, READING, &words)?;
     if own_no_memory(alloc, fields)? {
         fill(out, ROUND_TRIP, &words)?;
+    }
+    if is_lent_key(alloc, declaration, fields)? {
+        put_lent_key(alloc, out, &mut words, fields)?;
     }
     Ok(())
 }

@@ -2,7 +2,7 @@
 use crate::declarations::{Cases, Declaration, DeclaredShape, Fields, Variant};
 use crate::enums::{is_enum_key, put_enum};
 use crate::error::{DeriveError, DeriveResult};
-use crate::lent::put_lent;
+use crate::lent::{is_lent_key, put_lent};
 use crate::parsing::declarations_of;
 use crate::printing::{Words, broken, fill, joined, owned, put, put_use};
 use crate::structs::{has_plain, is_lawful_key, put_key, put_struct};
@@ -103,7 +103,7 @@ fn with_cases(needs: Needs, declaration: &Declaration, cases: &Cases) -> Needs {
 }
 
 /// What all declarations need.
-fn needs_of(declarations: &[Declaration]) -> Needs {
+fn needs_of(alloc: Global, declarations: &[Declaration]) -> DeriveResult<Needs> {
     let mut needs = Needs {
         structs: false,
         enums: false,
@@ -122,7 +122,8 @@ fn needs_of(declarations: &[Declaration]) -> Needs {
                 needs.lent = needs.lent || is_lent;
                 needs.structs = needs.structs || !is_lent;
                 let is_lawful = is_lawful_key(declaration, fields);
-                needs.keys = needs.keys || is_key(declaration, fields);
+                let is_lent_key = is_lent_key(alloc, declaration, fields)?;
+                needs.keys = needs.keys || is_lent_key || is_key(declaration, fields);
                 needs.key_bounds = needs.key_bounds || (is_key(declaration, fields) && !is_lawful);
                 let is_plain = !is_lent && has_plain(fields);
                 needs.plain |= if is_plain {
@@ -134,7 +135,7 @@ fn needs_of(declarations: &[Declaration]) -> Needs {
             DeclaredShape::Enum(cases) => needs = with_cases(needs, declaration, cases),
         }
     }
-    needs
+    Ok(needs)
 }
 
 /// Adds the name where it is needed.
@@ -414,7 +415,7 @@ pub fn module_of(
             return Err(DeriveError::Undeclared(String::from_str(alloc, name.as_str())?));
         }
     }
-    let needs = needs_of(declarations.as_slice());
+    let needs = needs_of(alloc, declarations.as_slice())?;
     let mut body = String::new(alloc);
     for declaration in declarations.as_slice() {
         put_schema(alloc, &mut body, declaration)?;

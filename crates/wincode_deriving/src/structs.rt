@@ -574,7 +574,7 @@ fn may_have_one_size(schema: &str) -> bool {
 }
 
 /// Whether a schema is that of a key by its name: of a number, a flag, a text, or an array of such.
-fn is_plain_key(schema: &str) -> bool {
+pub fn is_plain_key(schema: &str) -> bool {
     let name = match schema.split_once(';') {
         Some((item, _)) => item.trim_start_matches('['),
         None => schema,
