@@ -1,4 +1,7 @@
 //! Why no schemas are written.
+ghost use Rattle.std.specs.Prelude.{◌≡◌};
+ghost use Rattle.wincode_deriving.specs.declared.error.DeriveError.TheVariants.{OutOfMemory};
+
 use std::alloc::{AllocError, AllocFailed};
 use thiserror::Error;
 
@@ -30,12 +33,16 @@ pub enum DeriveError {
 pub type DeriveResult<T> = Result<T, DeriveError>;
 
 impl From<AllocError> for DeriveError {
+    ghost from_gives = { λ refused made. made ≡ OutOfMemory };
+
     fn from(_refused: AllocError) -> DeriveError {
         DeriveError::OutOfMemory
     }
 }
 
 impl<T: Drop> From<AllocFailed<T>> for DeriveError {
+    ghost from_gives = { λ refused made. made ≡ OutOfMemory };
+
     fn from(_refused: AllocFailed<T>) -> DeriveError {
         DeriveError::OutOfMemory
     }

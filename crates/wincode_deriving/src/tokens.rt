@@ -1,4 +1,9 @@
 //! A source file as tokens.
+ghost use Rattle.std.specs.Prelude.{◌≡◌, [], ◌∷◌};
+ghost use Rattle.std.specs.Str.{chars};
+ghost use Rattle.std.specs.String.{string_bytes};
+ghost use Rattle.wincode_deriving.specs.Splits.{of_word, between, begun, in_front, taken, Takes, TakesIfKnown, tokens_in, Splits};
+
 use crate::error::{DeriveResult, malformed};
 use std::alloc::Global;
 
@@ -55,13 +60,18 @@ struct Lexer {
     begin: usize,
 }
 
-fn is_of_word(c: char) -> bool {
+fn is_of_word(c: char) -> bool
+    ensures { result ≡ of_word c }
+{
     c.is_ascii_alphanumeric() || c == '_'
 }
 
 impl Lexer {
     /// Ends the token that was being read.
-    fn end(&mut self, alloc: Global, kind: Kind) -> DeriveResult<()> {
+    fn end(&mut self, alloc: Global, kind: Kind) -> DeriveResult<()>
+        ensures { Takes self.old self.new result
+            (record { ended = (kind, string_bytes self.old.word) ∷ []; reached = between }) }
+    {
         let text = String::from_str(alloc, self.word.as_str())?;
         self.tokens.push(Token {
             kind,
@@ -75,7 +85,9 @@ impl Lexer {
     }
 
     /// A character behind the end of a token.
-    fn begin(&mut self, alloc: Global, c: char) -> DeriveResult<()> {
+    fn begin(&mut self, alloc: Global, c: char) -> DeriveResult<()>
+        ensures { TakesIfKnown self.old self.new result (begun c) }
+    {
         self.word.clear();
         self.begin = self.at;
         self.place = match c {
@@ -97,7 +109,10 @@ impl Lexer {
     }
 
     /// A character that may end a token, and then begins the next.
-    fn end_and_begin(&mut self, alloc: Global, kind: Kind, c: char) -> DeriveResult<()> {
+    fn end_and_begin(&mut self, alloc: Global, kind: Kind, c: char) -> DeriveResult<()>
+        ensures { TakesIfKnown self.old self.new result
+            (in_front kind (string_bytes self.old.word) (begun c)) }
+    {
         self.end(alloc, kind)?;
         self.begin(alloc, c)
     }
@@ -130,34 +145,52 @@ impl Lexer {
         self.end(alloc, Kind::Note)
     }
 
-    /// Reads one more character.
-    fn step(&mut self, alloc: Global, c: char) -> DeriveResult<()> {
+    /// The next character, as where it stands has it.
+    fn take(&mut self, alloc: Global, c: char) -> DeriveResult<()>
+        ensures { TakesIfKnown self.old self.new result
+            (taken self.old.place (string_bytes self.old.word) c) }
+    {
         match self.place {
-            Place::Between => self.begin(alloc, c)?,
+            Place::Between => return self.begin(alloc, c),
             Place::Word if is_of_word(c) => self.word.push(c)?,
-            Place::Word => self.end_and_begin(alloc, Kind::Word, c)?,
+            Place::Word => return self.end_and_begin(alloc, Kind::Word, c),
+            Place::Colon if c == ':' => {
+                self.word.push(c)?;
+                return self.end(alloc, Kind::Sign);
+            }
+            Place::Colon => return self.end_and_begin(alloc, Kind::Sign, c),
+            _ => return self.pass(alloc, c),
+        }
+        Ok(())
+    }
+
+    /// The next character of a quote, a text or a comment.
+    fn pass(&mut self, alloc: Global, c: char) -> DeriveResult<()> {
+        match self.place {
             Place::Quote => self.quoted(alloc, c)?,
             Place::QuoteEscape => self.place = Place::Quote,
             Place::Text if c == '"' => self.end(alloc, Kind::Literal)?,
             Place::Text if c == '\\' => self.place = Place::TextEscape,
-            Place::Text => {}
             Place::TextEscape => self.place = Place::Text,
-            Place::Colon if c == ':' => {
-                self.word.push(c)?;
-                self.end(alloc, Kind::Sign)?;
-            }
-            Place::Colon => self.end_and_begin(alloc, Kind::Sign, c)?,
             Place::Slash if c == '/' => self.place = Place::Comment,
             Place::Slash if c == '*' => self.place = Place::Block,
             Place::Slash => self.begin(alloc, c)?,
             Place::Comment if c == '\n' => self.end_comment(alloc)?,
             Place::Comment => self.word.push(c)?,
             Place::Block if c == '*' => self.place = Place::BlockStar,
-            Place::Block => {}
             Place::BlockStar if c == '/' => self.place = Place::Between,
-            Place::BlockStar if c == '*' => {}
-            Place::BlockStar => self.place = Place::Block,
+            Place::BlockStar if c != '*' => self.place = Place::Block,
+            _ => {}
         }
+        Ok(())
+    }
+
+    /// Reads one more character.
+    fn step(&mut self, alloc: Global, c: char) -> DeriveResult<()>
+        ensures { TakesIfKnown self.old self.new result
+            (taken self.old.place (string_bytes self.old.word) c) }
+    {
+        self.take(alloc, c)?;
         if c == '\n' {
             self.line = self.line.saturating_add(1);
         }
@@ -167,7 +200,9 @@ impl Lexer {
 }
 
 /// The tokens of a source file. A text or a comment that isn't ended is refused, with the line where the file ends.
-pub fn tokens_of(alloc: Global, source: &str) -> DeriveResult<Vec<Token>> {
+pub fn tokens_of(alloc: Global, source: &str) -> DeriveResult<Vec<Token>>
+    ensures { Splits (tokens_in (chars source.now)) result }
+{
     let mut lexer = Lexer {
         tokens: Vec::new(alloc),
         word: String::new(alloc),

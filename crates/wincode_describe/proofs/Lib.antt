@@ -2,3 +2,7 @@ pub mod Shows
 pub mod ByteArrays
 pub mod Spanned
 pub mod Left
+mod Fronts
+mod ReadSteps
+mod ReadsBack
+mod WrittenSplits

@@ -8,3 +8,8 @@ pub mod Explained
 pub mod Spans
 pub mod SinkLaws
 pub mod SchemaLaws
+pub mod Forms
+pub mod Phrases
+pub mod Readers
+pub mod Written
+pub mod Spelled

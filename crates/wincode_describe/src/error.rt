@@ -1,4 +1,7 @@
 //! Why a text describes no type.
+ghost use Rattle.std.specs.Prelude.{◌≡◌};
+ghost use Rattle.wincode_describe.specs.declared.error.DescribeError.TheVariants.{OutOfMemory};
+
 use std::alloc::{AllocError, AllocFailed};
 use thiserror::Error;
 use wincode_deriving::DeriveError;
@@ -26,6 +29,8 @@ pub enum DescribeError {
 pub type DescribeResult<T> = Result<T, DescribeError>;
 
 impl From<AllocError> for DescribeError {
+    ghost from_gives = { λ refused made. made ≡ OutOfMemory };
+
     fn from(_refused: AllocError) -> DescribeError {
         DescribeError::OutOfMemory
     }
@@ -41,6 +46,8 @@ impl From<DeriveError> for DescribeError {
 }
 
 impl<T: Drop> From<AllocFailed<T>> for DescribeError {
+    ghost from_gives = { λ refused made. made ≡ OutOfMemory };
+
     fn from(_refused: AllocFailed<T>) -> DescribeError {
         DescribeError::OutOfMemory
     }

@@ -1,4 +1,14 @@
 //! The text of a type, as a Rust programmer writes it, to its description.
+ghost use Rattle.std.specs.Prelude.{◌≡◌, ◌<◌, option_map, length};
+ghost use Rattle.std.specs.String.{string_bytes};
+ghost use Rattle.std.specs.Str.{chars};
+ghost use Rattle.wincode_deriving.specs.Splits.{tokens_in};
+ghost use Rattle.wincode_describe.specs.Forms.{Both, Choice, Form, Group, LastCase, Named, OneCase, Record, seen, seen_cases};
+ghost use Rattle.wincode_describe.specs.Phrases.{left, Reads};
+ghost use Rattle.wincode_describe.specs.Readers.{Makes, Parses, and_then, array_by, array_form, enum_by, goes_on, greatest_of, has_tag, held_form, item_by, list_form, opening_of, pair_form, plain_of, readers, short_by, struct_by, tag_of, two_by, whole};
+ghost use Rattle.wincode_describe.specs.Spelled.{IsType};
+ghost use Rattle.wincode_describe.specs.Written.{written};
+
 use crate::described::{Cases, Described, Integer, LengthScheme, TagSize};
 use crate::error::{DescribeError, DescribeResult, wanted};
 use crate::tokens::Tokens;
@@ -13,7 +23,10 @@ pub const MAX_DEPTH: usize = 128;
 impl Described {
     /// Reads a type as a Rust programmer writes it: `Vec<(u64, Option<String>, [u8; 32])>`. An error says what was
     /// wanted and at which byte of the text.
-    pub fn parse(alloc: Global, text: &str) -> DescribeResult<Described> {
+    pub fn parse(alloc: Global, text: &str) -> DescribeResult<Described>
+        ensures { (form : Form) → IsType MAX_DEPTH form → text.now ≡ written form
+            → Makes seen form result }
+    {
         whole_type(alloc, &[], text, MAX_DEPTH)
     }
 
@@ -26,8 +39,39 @@ impl Described {
     }
 }
 
+/// What holds one type.
+#[derive(Clone, Copy)]
+enum Holder {
+    Option,
+    Boxed,
+    Set,
+    List,
+}
+
+/// What holds two types.
+#[derive(Clone, Copy)]
+enum Pair {
+    Result,
+    Map,
+}
+
+/// What is to stand behind a word.
+#[derive(Clone, Copy)]
+enum Opening {
+    Struct,
+    Enum,
+    ShortList,
+    One(Holder),
+    Two(Pair),
+    Container,
+    /// Nothing: it may be the name of a declared type.
+    Name,
+}
+
 /// The type of a word that has no parts.
-fn plain(word: &str) -> Option<Described> {
+fn plain(word: &str) -> Option<Described>
+    ensures { option_map seen result ≡ plain_of word.now }
+{
     let integer = match word {
         "bool" => return Some(Described::Bool),
         "char" => return Some(Described::Char),
@@ -49,8 +93,29 @@ fn plain(word: &str) -> Option<Described> {
     Some(Described::Integer(integer))
 }
 
+/// What is to stand behind a word that is no type by itself.
+fn opened_by(word: &str) -> Opening
+    ensures { result ≡ opening_of word.now }
+{
+    match word {
+        "struct" => Opening::Struct,
+        "enum" => Opening::Enum,
+        "short" => Opening::ShortList,
+        "Result" => Opening::Two(Pair::Result),
+        "BTreeMap" | "HashMap" => Opening::Two(Pair::Map),
+        "Option" => Opening::One(Holder::Option),
+        "Box" | "Rc" => Opening::One(Holder::Boxed),
+        "BTreeSet" | "HashSet" => Opening::One(Holder::Set),
+        "Vec" | "VecDeque" | "LinkedList" | "BinaryHeap" => Opening::One(Holder::List),
+        "containers" => Opening::Container,
+        _ => Opening::Name,
+    }
+}
+
 /// The tag scheme of a word.
-fn tag_size(word: &str) -> Option<TagSize> {
+fn tag_size(word: &str) -> Option<TagSize>
+    ensures { result ≡ tag_of word.now }
+{
     match word {
         "u8" => Some(TagSize::U8),
         "u16" => Some(TagSize::U16),
@@ -61,7 +126,9 @@ fn tag_size(word: &str) -> Option<TagSize> {
 }
 
 /// The greatest tag of a scheme.
-fn greatest_tag(size: TagSize) -> usize {
+fn greatest_tag(size: TagSize) -> usize
+    ensures { result ≡ greatest_of size }
+{
     match size {
         TagSize::U8 => 255,
         TagSize::U16 => 65535,
@@ -71,20 +138,129 @@ fn greatest_tag(size: TagSize) -> usize {
 }
 
 /// A list of such items; of bytes, all of which are one part.
-fn list(alloc: Global, scheme: LengthScheme, item: Described) -> DescribeResult<Described> {
+fn list(alloc: Global, scheme: LengthScheme, item: Described) -> DescribeResult<Described>
+    ensures { Makes seen (list_form scheme (seen item)) result }
+{
     match item {
         Described::Integer(Integer::U8) => Ok(Described::ByteList(scheme)),
         item => Ok(Described::List(scheme, Box::new(alloc, item)?)),
     }
 }
 
+/// An array of such items; of bytes, all of which are one part.
+fn array(alloc: Global, n: usize, item: Described) -> DescribeResult<Described>
+    ensures { Makes seen (array_form n (seen item)) result }
+{
+    match item {
+        Described::Integer(Integer::U8) => Ok(Described::ByteArray(n)),
+        item => Ok(Described::Array(n, Box::new(alloc, item)?)),
+    }
+}
+
+/// What holds one type, with that type.
+fn held(alloc: Global, holder: Holder, part: Described) -> DescribeResult<Described>
+    ensures { Makes seen (held_form holder (seen part)) result }
+{
+    match holder {
+        Holder::Option => Ok(Described::Option(Box::new(alloc, part)?)),
+        Holder::Boxed => Ok(Described::Boxed(Box::new(alloc, part)?)),
+        Holder::Set => Ok(Described::Set(Box::new(alloc, part)?)),
+        Holder::List => list(alloc, LengthScheme::Eight, part),
+    }
+}
+
+/// Two parts, one after the other.
+fn joined(alloc: Global, first: Described, others: Described) -> DescribeResult<Described>
+    ensures { Makes seen (Both (seen first) (seen others)) result }
+{
+    Ok(Described::Joined(Box::new(alloc, first)?, Box::new(alloc, others)?))
+}
+
+/// What holds two types, with those types.
+fn paired(
+    alloc: Global,
+    pair: Pair,
+    first: Described,
+    second: Described,
+) -> DescribeResult<Described>
+    ensures { Makes seen (pair_form pair (seen first) (seen second)) result }
+{
+    match pair {
+        Pair::Result => { Ok(Described::Result(Box::new(alloc, first)?, Box::new(alloc, second)?)) }
+        Pair::Map => {
+            let pair = joined(alloc, first, second)?;
+            Ok(Described::Map(Box::new(alloc, pair)?))
+        }
+    }
+}
+
+/// A tuple of a first member and the others.
+fn tuple(alloc: Global, first: Described, others: Described) -> DescribeResult<Described>
+    ensures { Makes seen (Group (Both (seen first) (seen others))) result }
+{
+    let members = joined(alloc, first, others)?;
+    Ok(Described::Tuple(Box::new(alloc, members)?))
+}
+
+/// A field of a struct.
+fn field(alloc: Global, name: String, content: Described) -> DescribeResult<Described>
+    ensures { Makes seen (Named (string_bytes name) (seen content)) result }
+{
+    Ok(Described::Field(name, Box::new(alloc, content)?))
+}
+
+/// A struct of these fields.
+fn structure(alloc: Global, fields: Described) -> DescribeResult<Described>
+    ensures { Makes seen (Record (seen fields)) result }
+{
+    Ok(Described::Struct(Box::new(alloc, fields)?))
+}
+
+/// An enum of these cases.
+fn choice(alloc: Global, size: TagSize, cases: Cases) -> DescribeResult<Described>
+    ensures { Makes seen (Choice size (seen_cases cases)) result }
+{
+    Ok(Described::Enum(size, Box::new(alloc, cases)?))
+}
+
+/// The last case of an enum.
+fn last_case(alloc: Global, tag: usize, content: Described) -> DescribeResult<Cases>
+    ensures { Makes seen_cases (LastCase tag (seen content)) result }
+{
+    Ok(Cases::Last(tag, Box::new(alloc, content)?))
+}
+
+/// A case in front of others.
+fn one_case(alloc: Global, tag: usize, content: Described, others: Cases) -> DescribeResult<Cases>
+    ensures { Makes seen_cases (OneCase tag (seen content) (seen_cases others)) result }
+{
+    Ok(Cases::Case(tag, Box::new(alloc, content)?, Box::new(alloc, others)?))
+}
+
 /// Whether a case has the tag.
 #[cycle(naming)]
-fn has_case(cases: &Cases, tag: usize) -> bool {
+fn has_case(cases: &Cases, tag: usize) -> bool
+    ensures { result ≡ has_tag (seen_cases cases.now) tag }
+{
     match cases {
         Cases::Last(named, _) => *named == tag,
         Cases::Case(named, _, others) => *named == tag || has_case(others, tag),
     }
+}
+
+/// Whether a list in brackets goes on here, behind a comma, or is closed.
+fn goes_on(tokens: &mut Tokens, closing: &str, what: &'static str) -> DescribeResult<bool>
+    requires { 0 < length closing.now }
+    ensures { Reads (λ b. b) (goes_on closing.now (left tokens.old)) result (left tokens.new) }
+{
+    let goes_on = tokens.takes(",");
+    if tokens.takes(closing) {
+        return Ok(false);
+    }
+    if !goes_on {
+        return Err(wanted(what, tokens.place()));
+    }
+    Ok(true)
 }
 
 /// The type that all of the text is.
@@ -94,7 +270,9 @@ fn whole_type(
     source: &[Token],
     text: &str,
     levels: usize,
-) -> DescribeResult<Described> {
+) -> DescribeResult<Described>
+    ensures { Parses (and_then (tokens_in (chars text.now)) (whole levels)) result }
+{
     let mut tokens = Tokens::new(alloc, source, text)?;
     let described = type_at(alloc, &mut tokens, levels)?;
     if tokens.is_empty() {
@@ -106,7 +284,9 @@ fn whole_type(
 
 /// The type that begins here.
 #[cycle(parsing)]
-fn type_at(alloc: Global, tokens: &mut Tokens, levels: usize) -> DescribeResult<Described> {
+fn type_at(alloc: Global, tokens: &mut Tokens, levels: usize) -> DescribeResult<Described>
+    ensures { Reads seen ((readers levels).types (left tokens.old)) result (left tokens.new) }
+{
     let at = tokens.place();
     let Some(below) = levels.checked_sub(1) else {
         return Err(DescribeError::TooDeep { at });
@@ -121,28 +301,22 @@ fn type_at(alloc: Global, tokens: &mut Tokens, levels: usize) -> DescribeResult<
     if let Some(described) = plain(word.as_str()) {
         return Ok(described);
     }
-    match word.as_str() {
-        "struct" => struct_at(alloc, tokens, below),
-        "enum" => enum_at(alloc, tokens, below),
-        "short" => short_at(alloc, tokens, below),
-        "Result" | "BTreeMap" | "HashMap" => two_at(alloc, tokens, word.as_str(), below),
-        "Vec"
-        | "VecDeque"
-        | "LinkedList"
-        | "BinaryHeap"
-        | "BTreeSet"
-        | "HashSet"
-        | "Option"
-        | "Box"
-        | "Rc" => { one_at(alloc, tokens, word.as_str(), below) }
-        "containers" => container_at(alloc, tokens, below),
-        name => named_type(alloc, tokens.source, name, at, below),
+    match opened_by(word.as_str()) {
+        Opening::Struct => struct_at(alloc, tokens, below),
+        Opening::Enum => enum_at(alloc, tokens, below),
+        Opening::ShortList => short_at(alloc, tokens, below),
+        Opening::Two(pair) => two_at(alloc, tokens, pair, below),
+        Opening::One(holder) => one_at(alloc, tokens, holder, below),
+        Opening::Container => container_at(alloc, tokens, below),
+        Opening::Name => named_type(alloc, tokens.source, word.as_str(), at, below),
     }
 }
 
 /// The members of a tuple, behind its bracket.
 #[cycle(parsing)]
-fn tuple_at(alloc: Global, tokens: &mut Tokens, levels: usize) -> DescribeResult<Described> {
+fn tuple_at(alloc: Global, tokens: &mut Tokens, levels: usize) -> DescribeResult<Described>
+    ensures { Reads seen ((readers levels).tuple (left tokens.old)) result (left tokens.new) }
+{
     if tokens.takes(")") {
         return Ok(Described::Unit);
     }
@@ -152,44 +326,44 @@ fn tuple_at(alloc: Global, tokens: &mut Tokens, levels: usize) -> DescribeResult
         return Err(DescribeError::TooDeep { at: tokens.place() });
     };
     let others = members_at(alloc, tokens, below)?;
-    let members = Described::Joined(Box::new(alloc, first)?, Box::new(alloc, others)?);
-    Ok(Described::Tuple(Box::new(alloc, members)?))
+    tuple(alloc, first, others)
 }
 
 /// The members of a tuple from one on, and its closing bracket.
 #[cycle(parsing)]
-fn members_at(alloc: Global, tokens: &mut Tokens, levels: usize) -> DescribeResult<Described> {
+fn members_at(alloc: Global, tokens: &mut Tokens, levels: usize) -> DescribeResult<Described>
+    ensures { Reads seen ((readers levels).members (left tokens.old)) result (left tokens.new) }
+{
     let first = type_at(alloc, tokens, levels)?;
-    let goes_on = tokens.takes(",");
-    if tokens.takes(")") {
+    if !goes_on(tokens, ")", "`,` or `)`")? {
         return Ok(first);
     }
     let Some(below) = levels.checked_sub(1) else {
         return Err(DescribeError::TooDeep { at: tokens.place() });
     };
-    if !goes_on {
-        return Err(wanted("`,` or `)`", tokens.place()));
-    }
     let others = members_at(alloc, tokens, below)?;
-    Ok(Described::Joined(Box::new(alloc, first)?, Box::new(alloc, others)?))
+    joined(alloc, first, others)
 }
 
 /// An array, behind its bracket.
 #[cycle(parsing)]
-fn array_at(alloc: Global, tokens: &mut Tokens, levels: usize) -> DescribeResult<Described> {
+fn array_at(alloc: Global, tokens: &mut Tokens, levels: usize) -> DescribeResult<Described>
+    ensures { Reads seen (array_by (readers levels).types (left tokens.old)) result
+        (left tokens.new) }
+{
     let item = type_at(alloc, tokens, levels)?;
     tokens.expect(";", "`;`")?;
     let n = tokens.number("how many items the array has")?;
     tokens.expect("]", "`]`")?;
-    match item {
-        Described::Integer(Integer::U8) => Ok(Described::ByteArray(n)),
-        item => Ok(Described::Array(n, Box::new(alloc, item)?)),
-    }
+    array(alloc, n, item)
 }
 
 /// A list behind a short length, behind its first word.
 #[cycle(parsing)]
-fn short_at(alloc: Global, tokens: &mut Tokens, levels: usize) -> DescribeResult<Described> {
+fn short_at(alloc: Global, tokens: &mut Tokens, levels: usize) -> DescribeResult<Described>
+    ensures { Reads seen (short_by (readers levels).types (left tokens.old)) result
+        (left tokens.new) }
+{
     let at = tokens.place();
     let word = tokens.word(alloc)?;
     if word.as_str() != "Vec" {
@@ -206,18 +380,16 @@ fn short_at(alloc: Global, tokens: &mut Tokens, levels: usize) -> DescribeResult
 fn one_at(
     alloc: Global,
     tokens: &mut Tokens,
-    word: &str,
+    holder: Holder,
     levels: usize,
-) -> DescribeResult<Described> {
+) -> DescribeResult<Described>
+    ensures { Reads seen (item_by (readers levels).types (held_form holder) (left tokens.old))
+        result (left tokens.new) }
+{
     tokens.expect("<", "`<`")?;
     let part = type_at(alloc, tokens, levels)?;
     tokens.expect(">", "`>`")?;
-    match word {
-        "Option" => Ok(Described::Option(Box::new(alloc, part)?)),
-        "Box" | "Rc" => Ok(Described::Boxed(Box::new(alloc, part)?)),
-        "BTreeSet" | "HashSet" => Ok(Described::Set(Box::new(alloc, part)?)),
-        _ => list(alloc, LengthScheme::Eight, part),
-    }
+    held(alloc, holder, part)
 }
 
 /// A type of two parts, behind its word.
@@ -225,33 +397,36 @@ fn one_at(
 fn two_at(
     alloc: Global,
     tokens: &mut Tokens,
-    word: &str,
+    pair: Pair,
     levels: usize,
-) -> DescribeResult<Described> {
+) -> DescribeResult<Described>
+    ensures { Reads seen (two_by (readers levels).types (pair_form pair) (left tokens.old))
+        result (left tokens.new) }
+{
     tokens.expect("<", "`<`")?;
     let first = type_at(alloc, tokens, levels)?;
     tokens.expect(",", "`,`")?;
     let second = type_at(alloc, tokens, levels)?;
     tokens.expect(">", "`>`")?;
-    let first = Box::new(alloc, first)?;
-    let second = Box::new(alloc, second)?;
-    if word == "Result" {
-        return Ok(Described::Result(first, second));
-    }
-    Ok(Described::Map(Box::new(alloc, Described::Joined(first, second))?))
+    paired(alloc, pair, first, second)
 }
 
 /// A struct, behind its word.
 #[cycle(parsing)]
-fn struct_at(alloc: Global, tokens: &mut Tokens, levels: usize) -> DescribeResult<Described> {
+fn struct_at(alloc: Global, tokens: &mut Tokens, levels: usize) -> DescribeResult<Described>
+    ensures { Reads seen (struct_by (readers levels).fields (left tokens.old)) result
+        (left tokens.new) }
+{
     tokens.expect("{", "`{`")?;
     let fields = fields_at(alloc, tokens, levels)?;
-    Ok(Described::Struct(Box::new(alloc, fields)?))
+    structure(alloc, fields)
 }
 
 /// The fields of a struct from one on, and its closing bracket.
 #[cycle(parsing)]
-fn fields_at(alloc: Global, tokens: &mut Tokens, levels: usize) -> DescribeResult<Described> {
+fn fields_at(alloc: Global, tokens: &mut Tokens, levels: usize) -> DescribeResult<Described>
+    ensures { Reads seen ((readers levels).fields (left tokens.old)) result (left tokens.new) }
+{
     let at = tokens.place();
     let Some(below) = levels.checked_sub(1) else {
         return Err(DescribeError::TooDeep { at });
@@ -262,21 +437,20 @@ fn fields_at(alloc: Global, tokens: &mut Tokens, levels: usize) -> DescribeResul
     }
     tokens.expect(":", "`:`")?;
     let content = type_at(alloc, tokens, below)?;
-    let field = Described::Field(name, Box::new(alloc, content)?);
-    let goes_on = tokens.takes(",");
-    if tokens.takes("}") {
+    let field = field(alloc, name, content)?;
+    if !goes_on(tokens, "}", "`,` or `}`")? {
         return Ok(field);
     }
-    if !goes_on {
-        return Err(wanted("`,` or `}`", tokens.place()));
-    }
     let others = fields_at(alloc, tokens, below)?;
-    Ok(Described::Joined(Box::new(alloc, field)?, Box::new(alloc, others)?))
+    joined(alloc, field, others)
 }
 
 /// An enum, behind its word.
 #[cycle(parsing)]
-fn enum_at(alloc: Global, tokens: &mut Tokens, levels: usize) -> DescribeResult<Described> {
+fn enum_at(alloc: Global, tokens: &mut Tokens, levels: usize) -> DescribeResult<Described>
+    ensures { Reads seen (enum_by (readers levels).cases (left tokens.old)) result
+        (left tokens.new) }
+{
     let at = tokens.place();
     let word = tokens.word(alloc)?;
     let Some(size) = tag_size(word.as_str()) else {
@@ -284,7 +458,7 @@ fn enum_at(alloc: Global, tokens: &mut Tokens, levels: usize) -> DescribeResult<
     };
     tokens.expect("{", "`{`")?;
     let cases = cases_at(alloc, tokens, greatest_tag(size), levels)?;
-    Ok(Described::Enum(size, Box::new(alloc, cases)?))
+    choice(alloc, size, cases)
 }
 
 /// The cases of an enum from one on, and its closing bracket.
@@ -294,7 +468,10 @@ fn cases_at(
     tokens: &mut Tokens,
     greatest: usize,
     levels: usize,
-) -> DescribeResult<Cases> {
+) -> DescribeResult<Cases>
+    ensures { Reads seen_cases ((readers levels).cases greatest (left tokens.old)) result
+        (left tokens.new) }
+{
     let at = tokens.place();
     let Some(below) = levels.checked_sub(1) else {
         return Err(DescribeError::TooDeep { at });
@@ -305,18 +482,14 @@ fn cases_at(
     }
     tokens.expect(":", "`:`")?;
     let content = type_at(alloc, tokens, below)?;
-    let goes_on = tokens.takes(",");
-    if tokens.takes("}") {
-        return Ok(Cases::Last(tag, Box::new(alloc, content)?));
-    }
-    if !goes_on {
-        return Err(wanted("`,` or `}`", tokens.place()));
+    if !goes_on(tokens, "}", "`,` or `}`")? {
+        return last_case(alloc, tag, content);
     }
     let others = cases_at(alloc, tokens, greatest, below)?;
     if has_case(&others, tag) {
         return Err(wanted("a tag that no other case has", at));
     }
-    Ok(Cases::Case(tag, Box::new(alloc, content)?, Box::new(alloc, others)?))
+    one_case(alloc, tag, content, others)
 }
 
 /// `containers::Vec<T, ShortU16Len>`, behind its first word.

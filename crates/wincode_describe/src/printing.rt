@@ -1,9 +1,15 @@
 //! A description as the text of its type.
+ghost use Rattle.std.specs.Prelude.{◌≡◌, Some};
+ghost use Rattle.wincode_describe.specs.Forms.{seen, seen_cases};
+ghost use Rattle.wincode_describe.specs.Written.{integer_name, list_name, tag_name, written};
+
 use crate::described::{Cases, Described, Integer, LengthScheme, TagSize};
 use std::fmt::{self, Display, Formatter, Write};
 
 /// The word of an integer.
-pub(crate) fn integer_word(integer: Integer) -> &'static str {
+pub(crate) fn integer_word(integer: Integer) -> &'static str
+    ensures { result.now ≡ integer_name integer }
+{
     match integer {
         Integer::U8 => "u8",
         Integer::U16 => "u16",
@@ -21,7 +27,9 @@ pub(crate) fn integer_word(integer: Integer) -> &'static str {
 }
 
 /// The word of a list.
-fn list_word(scheme: LengthScheme) -> &'static str {
+fn list_word(scheme: LengthScheme) -> &'static str
+    ensures { result.now ≡ list_name scheme }
+{
     match scheme {
         LengthScheme::Eight => "Vec",
         LengthScheme::Short => "short Vec",
@@ -29,7 +37,9 @@ fn list_word(scheme: LengthScheme) -> &'static str {
 }
 
 /// The word of a tag.
-fn tag_word(size: TagSize) -> &'static str {
+fn tag_word(size: TagSize) -> &'static str
+    ensures { result.now ≡ tag_name size }
+{
     match size {
         TagSize::U8 => "u8",
         TagSize::U16 => "u16",
@@ -40,6 +50,8 @@ fn tag_word(size: TagSize) -> &'static str {
 
 /// The type as `Described::parse` reads it.
 impl Display for Described {
+    ghost output = { λ described. Some (written (seen described)) };
+
     #[cycle(printing)]
     fn fmt<W: Write>(&self, f: &mut Formatter<W>) -> fmt::Result {
         match self {
@@ -53,29 +65,69 @@ impl Display for Described {
                 f.write_str("<u8>")
             }
             Described::ByteArray(n) => write!(f, "[u8; {n}]"),
-            Described::Option(content) => write!(f, "Option<{content}>"),
-            Described::Result(one, other) => write!(f, "Result<{one}, {other}>"),
-            Described::Boxed(content) => write!(f, "Box<{content}>"),
+            Described::Option(content) => {
+                f.write_str("Option<")?;
+                (**content).fmt(f)?;
+                f.write_str(">")
+            }
+            Described::Result(one, other) => {
+                f.write_str("Result<")?;
+                (**one).fmt(f)?;
+                f.write_str(", ")?;
+                (**other).fmt(f)?;
+                f.write_str(">")
+            }
+            Described::Boxed(content) => {
+                f.write_str("Box<")?;
+                (**content).fmt(f)?;
+                f.write_str(">")
+            }
             Described::List(scheme, item) => {
                 f.write_str(list_word(*scheme))?;
-                write!(f, "<{item}>")
+                f.write_str("<")?;
+                (**item).fmt(f)?;
+                f.write_str(">")
             }
-            Described::Set(item) => write!(f, "BTreeSet<{item}>"),
-            Described::Map(pair) => write!(f, "BTreeMap<{pair}>"),
-            Described::Array(n, item) => write!(f, "[{item}; {n}]"),
-            Described::Tuple(members) => write!(f, "({members})"),
+            Described::Set(item) => {
+                f.write_str("BTreeSet<")?;
+                (**item).fmt(f)?;
+                f.write_str(">")
+            }
+            Described::Map(pair) => {
+                f.write_str("BTreeMap<")?;
+                (**pair).fmt(f)?;
+                f.write_str(">")
+            }
+            Described::Array(n, item) => {
+                f.write_str("[")?;
+                (**item).fmt(f)?;
+                write!(f, "; {n}]")
+            }
+            Described::Tuple(members) => {
+                f.write_str("(")?;
+                (**members).fmt(f)?;
+                f.write_str(")")
+            }
             Described::Struct(fields) => {
                 f.write_str("struct { ")?;
-                write!(f, "{fields}")?;
+                (**fields).fmt(f)?;
                 f.write_str(" }")
             }
-            Described::Joined(first, second) => write!(f, "{first}, {second}"),
-            Described::Field(name, content) => write!(f, "{name}: {content}"),
+            Described::Joined(first, second) => {
+                (**first).fmt(f)?;
+                f.write_str(", ")?;
+                (**second).fmt(f)
+            }
+            Described::Field(name, content) => {
+                f.write_str(name.as_str())?;
+                f.write_str(": ")?;
+                (**content).fmt(f)
+            }
             Described::Enum(size, cases) => {
                 f.write_str("enum ")?;
                 f.write_str(tag_word(*size))?;
                 f.write_str(" { ")?;
-                write!(f, "{cases}")?;
+                (**cases).fmt(f)?;
                 f.write_str(" }")
             }
         }
@@ -83,11 +135,21 @@ impl Display for Described {
 }
 
 impl Display for Cases {
+    ghost output = { λ cases. Some (written (seen_cases cases)) };
+
     #[cycle(printing)]
     fn fmt<W: Write>(&self, f: &mut Formatter<W>) -> fmt::Result {
         match self {
-            Cases::Last(tag, content) => write!(f, "{tag}: {content}"),
-            Cases::Case(tag, content, others) => write!(f, "{tag}: {content}, {others}"),
+            Cases::Last(tag, content) => {
+                write!(f, "{tag}: ")?;
+                (**content).fmt(f)
+            }
+            Cases::Case(tag, content, others) => {
+                write!(f, "{tag}: ")?;
+                (**content).fmt(f)?;
+                f.write_str(", ")?;
+                (**others).fmt(f)
+            }
         }
     }
 }

@@ -1,4 +1,12 @@
 //! The tokens of a type's text, one after another.
+ghost use Rattle.std.specs.Prelude.{◌≡◌, ◌<◌, ◌==◌, if◌then◌else◌, length, drop, MatchResult, string_bytes};
+ghost use Rattle.std.specs.Bool.{OnFalse};
+ghost use Rattle.std.specs.Str.{chars};
+ghost use Rattle.wincode_deriving.specs.Splits.{tokens_in};
+ghost use Rattle.wincode_describe.specs.Phrases.{HasTokens, Reads, behind_sign, front_text, front_word, left, number_front};
+ghost use Rattle.wincode_describe.specs.Readers.{sign_front};
+ghost use Rattle.wincode_describe.specs.declared.error.DescribeError.TheVariants.{OutOfMemory};
+
 use crate::error::{DescribeError, DescribeResult, wanted};
 use std::alloc::Global;
 use wincode_deriving::{DeriveError, Kind, Token, tokens_of};
@@ -16,11 +24,9 @@ pub(crate) struct Tokens<'a> {
 
 impl<'a> Tokens<'a> {
     /// From the first token on.
-    pub(crate) fn new(
-        alloc: Global,
-        source: &'a [Token],
-        text: &str,
-    ) -> DescribeResult<Tokens<'a>> {
+    pub(crate) fn new(alloc: Global, source: &'a [Token], text: &str) -> DescribeResult<Tokens<'a>>
+        ensures { HasTokens (tokens_in (chars text.now)) result }
+    {
         match tokens_of(alloc, text) {
             Ok(tokens) => Ok(Tokens {
                 source,
@@ -42,12 +48,16 @@ impl<'a> Tokens<'a> {
     }
 
     /// Whether no token is left.
-    pub(crate) fn is_empty(&self) -> bool {
+    pub(crate) fn is_empty(&self) -> bool
+        ensures { result ≡ (length (left self.now) == 0) }
+    {
         self.next >= self.tokens.len()
     }
 
     /// The text of the next token, if it is of the kind, and else none.
-    fn text_of(&self, kind: Kind) -> &str {
+    fn text_of(&self, kind: Kind) -> &str
+        ensures { result.now ≡ front_text kind (left self.now) }
+    {
         match self.tokens.get(self.next) {
             Some(token) if token.kind == kind => token.text.as_str(),
             _ => "",
@@ -55,12 +65,18 @@ impl<'a> Tokens<'a> {
     }
 
     /// Goes past the next token.
-    fn skip(&mut self) {
+    fn skip(&mut self)
+        ensures { left self.new ≡ drop 1 (left self.old) }
+    {
         self.next = self.next.saturating_add(1);
     }
 
     /// Takes the sign, if it is the next token.
-    pub(crate) fn takes(&mut self, sign: &str) -> bool {
+    pub(crate) fn takes(&mut self, sign: &str) -> bool
+        requires { 0 < length sign.now }
+        ensures taken { behind_sign sign.now (left self.old) ≡ (if result then Some (left self.new) else None) }
+        ensures kept { OnFalse result (left self.new ≡ left self.old) }
+    {
         if self.text_of(Kind::Sign) != sign {
             return false;
         }
@@ -69,7 +85,11 @@ impl<'a> Tokens<'a> {
     }
 
     /// Takes the sign, which has to be the next token.
-    pub(crate) fn expect(&mut self, sign: &str, what: &'static str) -> DescribeResult<()> {
+    pub(crate) fn expect(&mut self, sign: &str, what: &'static str) -> DescribeResult<()>
+        requires { 0 < length sign.now }
+        ensures { Reads (λ u. u) (sign_front sign.now (left self.old)) result
+            (left self.new) }
+    {
         if self.takes(sign) {
             Ok(())
         } else {
@@ -78,7 +98,9 @@ impl<'a> Tokens<'a> {
     }
 
     /// Takes the word that is the next token; it is empty where no word is.
-    pub(crate) fn word(&mut self, alloc: Global) -> DescribeResult<String> {
+    pub(crate) fn word(&mut self, alloc: Global) -> DescribeResult<String>
+        ensures { MatchResult result (λ word. front_word (string_bytes word) (left self.new) (left self.old)) (λ error. error ≡ OutOfMemory) }
+    {
         let word = String::from_str(alloc, self.text_of(Kind::Word))?;
         if !word.is_empty() {
             self.skip();
@@ -87,7 +109,9 @@ impl<'a> Tokens<'a> {
     }
 
     /// Takes the number that is the next token.
-    pub(crate) fn number(&mut self, what: &'static str) -> DescribeResult<usize> {
+    pub(crate) fn number(&mut self, what: &'static str) -> DescribeResult<usize>
+        ensures { Reads (λ n. n) (number_front (left self.old)) result (left self.new) }
+    {
         match self.text_of(Kind::Word).parse::<usize>() {
             Ok(number) => {
                 self.skip();

@@ -1,6 +1,11 @@
 //! Types as text: what is written parses as itself, and what is refused.
+ghost use Rattle.wincode_describe.specs.Forms.{seen};
+ghost use Rattle.wincode_describe.specs.Readers.{Makes};
+ghost use Rattle.wincode_describe.specs.Spelled.{IsType};
+
+use std::alloc::Global;
 use std::test::Fail;
-use wincode_describe::Described;
+use wincode_describe::{DescribeResult, Described};
 
 /// What is written of each is the second text, which parses as itself.
 const WRITTEN: [(&str, &str); 24] = [
@@ -50,6 +55,25 @@ fn are_written_as_they_are_parsed(rt: HostRuntime) -> Result<(), Fail> {
         let once_more = format!(in alloc; "{parsed}")?;
         assert_eq!(rt; once_more.as_str(), written);
     }
+    Ok(())
+}
+
+/// What is written of a description, parsed: the same description.
+fn parsed_again(alloc: Global, described: &Described) -> DescribeResult<Described>
+    requires { IsType 128 (seen described.now) }
+    ensures { Makes seen (seen described.now) result }
+{
+    let text = format!(in alloc; "{described}")?;
+    Described::parse(alloc, text.as_str())
+}
+
+#[test]
+fn are_parsed_as_they_are_written(rt: HostRuntime) -> Result<(), Fail> {
+    let alloc = rt.alloc();
+    let described = Described::Option(Box::new(alloc, Described::ByteArray(3))?);
+    let again = parsed_again(alloc, &described)?;
+    let text = format!(in alloc; "{again}")?;
+    assert_eq!(rt; text.as_str(), "Option<[u8; 3]>");
     Ok(())
 }
 

@@ -21,7 +21,15 @@ impl EnumParts for Event {
 
     type Parts = Result<(), Result<u64, Result<(u32, bool), (Order, Vec<u16>)>>>;
 
-    ghost parts = { elim [ EventPing ↦ Ok tt | EventSent a ↦ Err (Ok a) | EventMoved a b ↦ Err (Err (Ok (a, b))) | EventNamed a b ↦ Err (Err (Err (a, b))) ] };
+    ghost parts = { elim [
+      | EventPing ↦ Ok tt
+      | EventSent a ↦ Err (Ok a)
+      | EventMoved a b ↦ Err (Err (Ok (a, b)))
+      | EventNamed a b ↦ Err (Err (Err (
+        a,
+        b,
+      )))
+    ] };
 
     fn make(made_of: Self::Parts) -> Event {
         match made_of {

@@ -1,7 +1,12 @@
 //! Written by `wincode_derive`: the schemas of what the module above declares.
 ghost use Rattle.std.specs.Prelude.{Ok, Err};
 ghost use Rattle.wincode_base.specs.PairLaws.{write_laws_by, reads_back_by};
-ghost use Rattle.wincode_declared.specs.declared.signal.Signal.TheVariants.{Start as SignalStart, Noted as SignalNoted, Moved as SignalMoved, Named as SignalNamed};
+ghost use Rattle.wincode_declared.specs.declared.signal.Signal.TheVariants.{
+  Start as SignalStart,
+  Noted as SignalNoted,
+  Moved as SignalMoved,
+  Named as SignalNamed,
+};
 
 use super::*;
 use std::alloc::Global;
@@ -23,7 +28,16 @@ impl EnumParts for Signal {
 
     type Parts = Result<(), Result<Note, Result<(u32, i16), (String, Vec<u16>, u64)>>>;
 
-    ghost parts = { elim [ SignalStart ↦ Ok tt | SignalNoted a ↦ Err (Ok a) | SignalMoved a b ↦ Err (Err (Ok (a, b))) | SignalNamed a b c ↦ Err (Err (Err (a, b, c))) ] };
+    ghost parts = { elim [
+      | SignalStart ↦ Ok tt
+      | SignalNoted a ↦ Err (Ok a)
+      | SignalMoved a b ↦ Err (Err (Ok (a, b)))
+      | SignalNamed a b c ↦ Err (Err (Err (
+        a,
+        b,
+        c,
+      )))
+    ] };
 
     fn make(made_of: Self::Parts) -> Signal {
         match made_of {

@@ -34,9 +34,35 @@ impl SchemaWrite for Reading {
 
     ghost Value = { ⟦<ReadingFields as SchemaWrite>⟧.Value };
 
-    ghost model = { λ x. ⟦<ReadingFields as SchemaWrite>⟧.model (x.at, x.station, x.north, x.east, x.height, x.warmth, x.moisture, x.wind, x.gust, x.direction, x.rain, (x.light, x.is_checked)) };
+    ghost model = { λ x. ⟦<ReadingFields as SchemaWrite>⟧.model (
+      x.at,
+      x.station,
+      x.north,
+      x.east,
+      x.height,
+      x.warmth,
+      x.moisture,
+      x.wind,
+      x.gust,
+      x.direction,
+      x.rain,
+      (x.light, x.is_checked),
+    ) };
 
-    ghost is_valid = { λ x. ⟦<ReadingFields as SchemaWrite>⟧.is_valid (x.at, x.station, x.north, x.east, x.height, x.warmth, x.moisture, x.wind, x.gust, x.direction, x.rain, (x.light, x.is_checked)) };
+    ghost is_valid = { λ x. ⟦<ReadingFields as SchemaWrite>⟧.is_valid (
+      x.at,
+      x.station,
+      x.north,
+      x.east,
+      x.height,
+      x.warmth,
+      x.moisture,
+      x.wind,
+      x.gust,
+      x.direction,
+      x.rain,
+      (x.light, x.is_checked),
+    ) };
 
     ghost writing = { ⟦<ReadingFields as SchemaWrite>⟧.writing };
 
@@ -98,7 +124,20 @@ impl SchemaWrite for Reading {
         )
     }
 
-    ghost write_laws = { write_laws_by (λ x. (x.at, x.station, x.north, x.east, x.height, x.warmth, x.moisture, x.wind, x.gust, x.direction, x.rain, (x.light, x.is_checked))) ⟦<ReadingFields as SchemaWrite>⟧.write_laws };
+    ghost write_laws = { write_laws_by (λ x. (
+      x.at,
+      x.station,
+      x.north,
+      x.east,
+      x.height,
+      x.warmth,
+      x.moisture,
+      x.wind,
+      x.gust,
+      x.direction,
+      x.rain,
+      (x.light, x.is_checked),
+    )) ⟦<ReadingFields as SchemaWrite>⟧.write_laws };
 }
 
 /// The fields from the 12th on.
@@ -195,7 +234,20 @@ impl<L: Lending> SchemaRead<L> for Reading {
 
     ghost Value = { ⟦<ReadingFields as SchemaRead<L>>⟧.Value };
 
-    ghost model = { λ x. ⟦<ReadingFields as SchemaRead<L>>⟧.model (x.at, x.station, x.north, x.east, x.height, x.warmth, x.moisture, x.wind, x.gust, x.direction, x.rain, (x.light, x.is_checked)) };
+    ghost model = { λ x. ⟦<ReadingFields as SchemaRead<L>>⟧.model (
+      x.at,
+      x.station,
+      x.north,
+      x.east,
+      x.height,
+      x.warmth,
+      x.moisture,
+      x.wind,
+      x.gust,
+      x.direction,
+      x.rain,
+      (x.light, x.is_checked),
+    ) };
 
     ghost is_valid = { ⟦<ReadingFields as SchemaRead<L>>⟧.is_valid };
 
@@ -225,7 +277,20 @@ impl<L: Lending> Lawful<L> for Reading {
 
     ghost Value = { ⟦<ReadingFields as Lawful<L>>⟧.Value };
 
-    ghost model = { λ x. ⟦<ReadingFields as Lawful<L>>⟧.model (x.at, x.station, x.north, x.east, x.height, x.warmth, x.moisture, x.wind, x.gust, x.direction, x.rain, (x.light, x.is_checked)) };
+    ghost model = { λ x. ⟦<ReadingFields as Lawful<L>>⟧.model (
+      x.at,
+      x.station,
+      x.north,
+      x.east,
+      x.height,
+      x.warmth,
+      x.moisture,
+      x.wind,
+      x.gust,
+      x.direction,
+      x.rain,
+      (x.light, x.is_checked),
+    ) };
 
     ghost is_valid = { ⟦<ReadingFields as Lawful<L>>⟧.is_valid };
 
@@ -238,7 +303,20 @@ impl<L: Lending> RoundTrip<L> for Reading
 where
     ReadingFields: RoundTrip<L>,
 {
-    ghost reads_back = { reads_back_by (λ x. (x.at, x.station, x.north, x.east, x.height, x.warmth, x.moisture, x.wind, x.gust, x.direction, x.rain, (x.light, x.is_checked))) bound-5.reads_back };
+    ghost reads_back = { reads_back_by (λ x. (
+      x.at,
+      x.station,
+      x.north,
+      x.east,
+      x.height,
+      x.warmth,
+      x.moisture,
+      x.wind,
+      x.gust,
+      x.direction,
+      x.rain,
+      (x.light, x.is_checked),
+    )) bound-5.reads_back };
 }
 
 impl<L: Lending> OneText<L> for Reading
@@ -288,9 +366,61 @@ impl SchemaWrite for Report {
 
     ghost Value = { ⟦<ReportFields as SchemaWrite>⟧.Value };
 
-    ghost model = { λ x. ⟦<ReportFields as SchemaWrite>⟧.model (x.number, x.title, x.a, x.b, x.c, x.d, x.e, x.f, x.g, x.h, x.i, (x.first, x.j, x.k, x.m, x.n, x.o, x.p, x.q, x.r, x.s, x.t, (x.others, x.note, x.end))) };
+    ghost model = { λ x. ⟦<ReportFields as SchemaWrite>⟧.model (
+      x.number,
+      x.title,
+      x.a,
+      x.b,
+      x.c,
+      x.d,
+      x.e,
+      x.f,
+      x.g,
+      x.h,
+      x.i,
+      (
+        x.first,
+        x.j,
+        x.k,
+        x.m,
+        x.n,
+        x.o,
+        x.p,
+        x.q,
+        x.r,
+        x.s,
+        x.t,
+        (x.others, x.note, x.end),
+      ),
+    ) };
 
-    ghost is_valid = { λ x. ⟦<ReportFields as SchemaWrite>⟧.is_valid (x.number, x.title, x.a, x.b, x.c, x.d, x.e, x.f, x.g, x.h, x.i, (x.first, x.j, x.k, x.m, x.n, x.o, x.p, x.q, x.r, x.s, x.t, (x.others, x.note, x.end))) };
+    ghost is_valid = { λ x. ⟦<ReportFields as SchemaWrite>⟧.is_valid (
+      x.number,
+      x.title,
+      x.a,
+      x.b,
+      x.c,
+      x.d,
+      x.e,
+      x.f,
+      x.g,
+      x.h,
+      x.i,
+      (
+        x.first,
+        x.j,
+        x.k,
+        x.m,
+        x.n,
+        x.o,
+        x.p,
+        x.q,
+        x.r,
+        x.s,
+        x.t,
+        (x.others, x.note, x.end),
+      ),
+    ) };
 
     ghost writing = { ⟦<ReportFields as SchemaWrite>⟧.writing };
 
@@ -333,7 +463,33 @@ impl SchemaWrite for Report {
         )
     }
 
-    ghost write_laws = { write_laws_by (λ x. (x.number, x.title, x.a, x.b, x.c, x.d, x.e, x.f, x.g, x.h, x.i, (x.first, x.j, x.k, x.m, x.n, x.o, x.p, x.q, x.r, x.s, x.t, (x.others, x.note, x.end)))) ⟦<ReportFields as SchemaWrite>⟧.write_laws };
+    ghost write_laws = { write_laws_by (λ x. (
+      x.number,
+      x.title,
+      x.a,
+      x.b,
+      x.c,
+      x.d,
+      x.e,
+      x.f,
+      x.g,
+      x.h,
+      x.i,
+      (
+        x.first,
+        x.j,
+        x.k,
+        x.m,
+        x.n,
+        x.o,
+        x.p,
+        x.q,
+        x.r,
+        x.s,
+        x.t,
+        (x.others, x.note, x.end),
+      ),
+    )) ⟦<ReportFields as SchemaWrite>⟧.write_laws };
 }
 
 /// The fields from the 12th on.
@@ -359,9 +515,43 @@ impl SchemaWrite for ReportFrom12 {
 
     ghost Value = { ⟦<ReportFrom12Fields as SchemaWrite>⟧.Value };
 
-    ghost model = { λ x. ⟦<ReportFrom12Fields as SchemaWrite>⟧.model (x.first, x.j, x.k, x.m, x.n, x.o, x.p, x.q, x.r, x.s, x.t, (x.others, x.note, x.end)) };
+    ghost model = { λ x. ⟦<ReportFrom12Fields as SchemaWrite>⟧.model (
+      x.first,
+      x.j,
+      x.k,
+      x.m,
+      x.n,
+      x.o,
+      x.p,
+      x.q,
+      x.r,
+      x.s,
+      x.t,
+      (
+        x.others,
+        x.note,
+        x.end,
+      ),
+    ) };
 
-    ghost is_valid = { λ x. ⟦<ReportFrom12Fields as SchemaWrite>⟧.is_valid (x.first, x.j, x.k, x.m, x.n, x.o, x.p, x.q, x.r, x.s, x.t, (x.others, x.note, x.end)) };
+    ghost is_valid = { λ x. ⟦<ReportFrom12Fields as SchemaWrite>⟧.is_valid (
+      x.first,
+      x.j,
+      x.k,
+      x.m,
+      x.n,
+      x.o,
+      x.p,
+      x.q,
+      x.r,
+      x.s,
+      x.t,
+      (
+        x.others,
+        x.note,
+        x.end,
+      ),
+    ) };
 
     ghost writing = { ⟦<ReportFrom12Fields as SchemaWrite>⟧.writing };
 
@@ -453,7 +643,33 @@ impl EnumParts for Report {
         ),
     );
 
-    ghost parts = { λ x. (x.number, x.title, x.a, x.b, x.c, x.d, x.e, x.f, x.g, x.h, x.i, (x.first, x.j, x.k, x.m, x.n, x.o, x.p, x.q, x.r, x.s, x.t, (x.others, x.note, x.end))) };
+    ghost parts = { λ x. (
+      x.number,
+      x.title,
+      x.a,
+      x.b,
+      x.c,
+      x.d,
+      x.e,
+      x.f,
+      x.g,
+      x.h,
+      x.i,
+      (
+        x.first,
+        x.j,
+        x.k,
+        x.m,
+        x.n,
+        x.o,
+        x.p,
+        x.q,
+        x.r,
+        x.s,
+        x.t,
+        (x.others, x.note, x.end),
+      ),
+    ) };
 
     fn make(made_of: Self::Parts) -> Report {
         let (
@@ -505,7 +721,33 @@ impl<L: Lending> SchemaRead<L> for Report {
 
     ghost Value = { ⟦<ReportFields as SchemaRead<L>>⟧.Value };
 
-    ghost model = { λ x. ⟦<ReportFields as SchemaRead<L>>⟧.model (x.number, x.title, x.a, x.b, x.c, x.d, x.e, x.f, x.g, x.h, x.i, (x.first, x.j, x.k, x.m, x.n, x.o, x.p, x.q, x.r, x.s, x.t, (x.others, x.note, x.end))) };
+    ghost model = { λ x. ⟦<ReportFields as SchemaRead<L>>⟧.model (
+      x.number,
+      x.title,
+      x.a,
+      x.b,
+      x.c,
+      x.d,
+      x.e,
+      x.f,
+      x.g,
+      x.h,
+      x.i,
+      (
+        x.first,
+        x.j,
+        x.k,
+        x.m,
+        x.n,
+        x.o,
+        x.p,
+        x.q,
+        x.r,
+        x.s,
+        x.t,
+        (x.others, x.note, x.end),
+      ),
+    ) };
 
     ghost is_valid = { ⟦<ReportFields as SchemaRead<L>>⟧.is_valid };
 
@@ -535,7 +777,33 @@ impl<L: Lending> Lawful<L> for Report {
 
     ghost Value = { ⟦<ReportFields as Lawful<L>>⟧.Value };
 
-    ghost model = { λ x. ⟦<ReportFields as Lawful<L>>⟧.model (x.number, x.title, x.a, x.b, x.c, x.d, x.e, x.f, x.g, x.h, x.i, (x.first, x.j, x.k, x.m, x.n, x.o, x.p, x.q, x.r, x.s, x.t, (x.others, x.note, x.end))) };
+    ghost model = { λ x. ⟦<ReportFields as Lawful<L>>⟧.model (
+      x.number,
+      x.title,
+      x.a,
+      x.b,
+      x.c,
+      x.d,
+      x.e,
+      x.f,
+      x.g,
+      x.h,
+      x.i,
+      (
+        x.first,
+        x.j,
+        x.k,
+        x.m,
+        x.n,
+        x.o,
+        x.p,
+        x.q,
+        x.r,
+        x.s,
+        x.t,
+        (x.others, x.note, x.end),
+      ),
+    ) };
 
     ghost is_valid = { ⟦<ReportFields as Lawful<L>>⟧.is_valid };
 
@@ -548,7 +816,33 @@ impl<L: Lending> RoundTrip<L> for Report
 where
     ReportFields: RoundTrip<L>,
 {
-    ghost reads_back = { reads_back_by (λ x. (x.number, x.title, x.a, x.b, x.c, x.d, x.e, x.f, x.g, x.h, x.i, (x.first, x.j, x.k, x.m, x.n, x.o, x.p, x.q, x.r, x.s, x.t, (x.others, x.note, x.end)))) bound-5.reads_back };
+    ghost reads_back = { reads_back_by (λ x. (
+      x.number,
+      x.title,
+      x.a,
+      x.b,
+      x.c,
+      x.d,
+      x.e,
+      x.f,
+      x.g,
+      x.h,
+      x.i,
+      (
+        x.first,
+        x.j,
+        x.k,
+        x.m,
+        x.n,
+        x.o,
+        x.p,
+        x.q,
+        x.r,
+        x.s,
+        x.t,
+        (x.others, x.note, x.end),
+      ),
+    )) bound-5.reads_back };
 }
 
 impl<L: Lending> OneText<L> for Report

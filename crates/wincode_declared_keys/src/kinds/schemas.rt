@@ -9,7 +9,15 @@ ghost use Rattle.wincode_declared_keys.specs.contracts.kinds.DayOrd.TheImpl.Laws
 ghost use Rattle.wincode_declared_keys.specs.contracts.kinds.NameEq.TheImpl.Laws as NameEqLaws;
 ghost use Rattle.wincode_declared_keys.specs.contracts.kinds.NameOrd.TheImpl.Laws as NameOrdLaws;
 ghost use Rattle.wincode_declared_keys.specs.declared.kinds.Kind.TheVariants.{Plain as KindPlain, Sized as KindSized, Placed as KindPlaced};
-ghost use Rattle.wincode_declared_keys.specs.declared.kinds.Day.TheVariants.{Monday as DayMonday, Tuesday as DayTuesday, Wednesday as DayWednesday, Thursday as DayThursday, Friday as DayFriday, Saturday as DaySaturday, Sunday as DaySunday};
+ghost use Rattle.wincode_declared_keys.specs.declared.kinds.Day.TheVariants.{
+  Monday as DayMonday,
+  Tuesday as DayTuesday,
+  Wednesday as DayWednesday,
+  Thursday as DayThursday,
+  Friday as DayFriday,
+  Saturday as DaySaturday,
+  Sunday as DaySunday,
+};
 ghost use Rattle.wincode_declared_keys.specs.declared.kinds.Name.TheVariants.{Known as NameKnown, Written as NameWritten};
 
 use super::*;
@@ -196,7 +204,11 @@ impl<L: Lending> LawfulKey<L> for Kind {
     ghost alike = { elim [
       | KindPlain ↦ elim [ KindPlain ↦ λ e. refl | KindSized a' ↦ λ e. ok_not_err e | KindPlaced a' b' c' ↦ λ e. ok_not_err e ]
       | KindSized a ↦ elim [ KindPlain ↦ λ e. err_not_ok e | KindSized a' ↦ λ e. ⟦<u32 as LawfulKey<L>>⟧.alike a a' (ok_same (err_same e)) | KindPlaced a' b' c' ↦ λ e. ok_not_err (err_same e) ]
-      | KindPlaced a b c ↦ elim [ KindPlain ↦ λ e. err_not_ok e | KindSized a' ↦ λ e. err_not_ok (err_same e) | KindPlaced a' b' c' ↦ λ e. ⟦<(i16, (i16, bool)) as LawfulKey<L>>⟧.alike (a, (b, c)) (a', (b', c')) (err_same (err_same e)) ]
+      | KindPlaced a b c ↦ elim [
+        | KindPlain ↦ λ e. err_not_ok e
+        | KindSized a' ↦ λ e. err_not_ok (err_same e)
+        | KindPlaced a' b' c' ↦ λ e. ⟦<(i16, (i16, bool)) as LawfulKey<L>>⟧.alike (a, (b, c)) (a', (b', c')) (err_same (err_same e))
+      ]
     ] };
 
     ghost order = { ⟦<Kind as Ord>⟧.cmp };
@@ -213,7 +225,15 @@ impl EnumParts for Day {
 
     type Parts = Result<(), Result<(), Result<(), Result<(), Result<(), Result<(), ()>>>>>>;
 
-    ghost parts = { elim [ DayMonday ↦ Ok tt | DayTuesday ↦ Err (Ok tt) | DayWednesday ↦ Err (Err (Ok tt)) | DayThursday ↦ Err (Err (Err (Ok tt))) | DayFriday ↦ Err (Err (Err (Err (Ok tt)))) | DaySaturday ↦ Err (Err (Err (Err (Err (Ok tt))))) | DaySunday ↦ Err (Err (Err (Err (Err (Err tt))))) ] };
+    ghost parts = { elim [
+      | DayMonday ↦ Ok tt
+      | DayTuesday ↦ Err (Ok tt)
+      | DayWednesday ↦ Err (Err (Ok tt))
+      | DayThursday ↦ Err (Err (Err (Ok tt)))
+      | DayFriday ↦ Err (Err (Err (Err (Ok tt))))
+      | DaySaturday ↦ Err (Err (Err (Err (Err (Ok tt)))))
+      | DaySunday ↦ Err (Err (Err (Err (Err (Err tt)))))
+    ] };
 
     fn make(made_of: Self::Parts) -> Day {
         match made_of {
@@ -383,13 +403,69 @@ impl<L: Lending> LawfulKey<L> for Day {
     ghost equivalence = { DayEqLaws.laws-law };
 
     ghost alike = { elim [
-      | DayMonday ↦ elim [ DayMonday ↦ λ e. refl | DayTuesday ↦ λ e. ok_not_err e | DayWednesday ↦ λ e. ok_not_err e | DayThursday ↦ λ e. ok_not_err e | DayFriday ↦ λ e. ok_not_err e | DaySaturday ↦ λ e. ok_not_err e | DaySunday ↦ λ e. ok_not_err e ]
-      | DayTuesday ↦ elim [ DayMonday ↦ λ e. err_not_ok e | DayTuesday ↦ λ e. refl | DayWednesday ↦ λ e. ok_not_err (err_same e) | DayThursday ↦ λ e. ok_not_err (err_same e) | DayFriday ↦ λ e. ok_not_err (err_same e) | DaySaturday ↦ λ e. ok_not_err (err_same e) | DaySunday ↦ λ e. ok_not_err (err_same e) ]
-      | DayWednesday ↦ elim [ DayMonday ↦ λ e. err_not_ok e | DayTuesday ↦ λ e. err_not_ok (err_same e) | DayWednesday ↦ λ e. refl | DayThursday ↦ λ e. ok_not_err (err_same (err_same e)) | DayFriday ↦ λ e. ok_not_err (err_same (err_same e)) | DaySaturday ↦ λ e. ok_not_err (err_same (err_same e)) | DaySunday ↦ λ e. ok_not_err (err_same (err_same e)) ]
-      | DayThursday ↦ elim [ DayMonday ↦ λ e. err_not_ok e | DayTuesday ↦ λ e. err_not_ok (err_same e) | DayWednesday ↦ λ e. err_not_ok (err_same (err_same e)) | DayThursday ↦ λ e. refl | DayFriday ↦ λ e. ok_not_err (err_same (err_same (err_same e))) | DaySaturday ↦ λ e. ok_not_err (err_same (err_same (err_same e))) | DaySunday ↦ λ e. ok_not_err (err_same (err_same (err_same e))) ]
-      | DayFriday ↦ elim [ DayMonday ↦ λ e. err_not_ok e | DayTuesday ↦ λ e. err_not_ok (err_same e) | DayWednesday ↦ λ e. err_not_ok (err_same (err_same e)) | DayThursday ↦ λ e. err_not_ok (err_same (err_same (err_same e))) | DayFriday ↦ λ e. refl | DaySaturday ↦ λ e. ok_not_err (err_same (err_same (err_same (err_same e)))) | DaySunday ↦ λ e. ok_not_err (err_same (err_same (err_same (err_same e)))) ]
-      | DaySaturday ↦ elim [ DayMonday ↦ λ e. err_not_ok e | DayTuesday ↦ λ e. err_not_ok (err_same e) | DayWednesday ↦ λ e. err_not_ok (err_same (err_same e)) | DayThursday ↦ λ e. err_not_ok (err_same (err_same (err_same e))) | DayFriday ↦ λ e. err_not_ok (err_same (err_same (err_same (err_same e)))) | DaySaturday ↦ λ e. refl | DaySunday ↦ λ e. ok_not_err (err_same (err_same (err_same (err_same (err_same e))))) ]
-      | DaySunday ↦ elim [ DayMonday ↦ λ e. err_not_ok e | DayTuesday ↦ λ e. err_not_ok (err_same e) | DayWednesday ↦ λ e. err_not_ok (err_same (err_same e)) | DayThursday ↦ λ e. err_not_ok (err_same (err_same (err_same e))) | DayFriday ↦ λ e. err_not_ok (err_same (err_same (err_same (err_same e)))) | DaySaturday ↦ λ e. err_not_ok (err_same (err_same (err_same (err_same (err_same e))))) | DaySunday ↦ λ e. refl ]
+      | DayMonday ↦ elim [
+        | DayMonday ↦ λ e. refl
+        | DayTuesday ↦ λ e. ok_not_err e
+        | DayWednesday ↦ λ e. ok_not_err e
+        | DayThursday ↦ λ e. ok_not_err e
+        | DayFriday ↦ λ e. ok_not_err e
+        | DaySaturday ↦ λ e. ok_not_err e
+        | DaySunday ↦ λ e. ok_not_err e
+      ]
+      | DayTuesday ↦ elim [
+        | DayMonday ↦ λ e. err_not_ok e
+        | DayTuesday ↦ λ e. refl
+        | DayWednesday ↦ λ e. ok_not_err (err_same e)
+        | DayThursday ↦ λ e. ok_not_err (err_same e)
+        | DayFriday ↦ λ e. ok_not_err (err_same e)
+        | DaySaturday ↦ λ e. ok_not_err (err_same e)
+        | DaySunday ↦ λ e. ok_not_err (err_same e)
+      ]
+      | DayWednesday ↦ elim [
+        | DayMonday ↦ λ e. err_not_ok e
+        | DayTuesday ↦ λ e. err_not_ok (err_same e)
+        | DayWednesday ↦ λ e. refl
+        | DayThursday ↦ λ e. ok_not_err (err_same (err_same e))
+        | DayFriday ↦ λ e. ok_not_err (err_same (err_same e))
+        | DaySaturday ↦ λ e. ok_not_err (err_same (err_same e))
+        | DaySunday ↦ λ e. ok_not_err (err_same (err_same e))
+      ]
+      | DayThursday ↦ elim [
+        | DayMonday ↦ λ e. err_not_ok e
+        | DayTuesday ↦ λ e. err_not_ok (err_same e)
+        | DayWednesday ↦ λ e. err_not_ok (err_same (err_same e))
+        | DayThursday ↦ λ e. refl
+        | DayFriday ↦ λ e. ok_not_err (err_same (err_same (err_same e)))
+        | DaySaturday ↦ λ e. ok_not_err (err_same (err_same (err_same e)))
+        | DaySunday ↦ λ e. ok_not_err (err_same (err_same (err_same e)))
+      ]
+      | DayFriday ↦ elim [
+        | DayMonday ↦ λ e. err_not_ok e
+        | DayTuesday ↦ λ e. err_not_ok (err_same e)
+        | DayWednesday ↦ λ e. err_not_ok (err_same (err_same e))
+        | DayThursday ↦ λ e. err_not_ok (err_same (err_same (err_same e)))
+        | DayFriday ↦ λ e. refl
+        | DaySaturday ↦ λ e. ok_not_err (err_same (err_same (err_same (err_same e))))
+        | DaySunday ↦ λ e. ok_not_err (err_same (err_same (err_same (err_same e))))
+      ]
+      | DaySaturday ↦ elim [
+        | DayMonday ↦ λ e. err_not_ok e
+        | DayTuesday ↦ λ e. err_not_ok (err_same e)
+        | DayWednesday ↦ λ e. err_not_ok (err_same (err_same e))
+        | DayThursday ↦ λ e. err_not_ok (err_same (err_same (err_same e)))
+        | DayFriday ↦ λ e. err_not_ok (err_same (err_same (err_same (err_same e))))
+        | DaySaturday ↦ λ e. refl
+        | DaySunday ↦ λ e. ok_not_err (err_same (err_same (err_same (err_same (err_same e)))))
+      ]
+      | DaySunday ↦ elim [
+        | DayMonday ↦ λ e. err_not_ok e
+        | DayTuesday ↦ λ e. err_not_ok (err_same e)
+        | DayWednesday ↦ λ e. err_not_ok (err_same (err_same e))
+        | DayThursday ↦ λ e. err_not_ok (err_same (err_same (err_same e)))
+        | DayFriday ↦ λ e. err_not_ok (err_same (err_same (err_same (err_same e))))
+        | DaySaturday ↦ λ e. err_not_ok (err_same (err_same (err_same (err_same (err_same e)))))
+        | DaySunday ↦ λ e. refl
+      ]
     ] };
 
     ghost order = { ⟦<Day as Ord>⟧.cmp };

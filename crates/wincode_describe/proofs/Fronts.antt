@@ -1,0 +1,72 @@
+-- The token in front.
+use Rattle.std.proofs.Common.{◌≡◌, ◌∙◌, sym, ap, refl, ℕ, ◌+◌, ◌<◌, ◌≤◌, ◌^◌, suc, min, Bool, true, false, nat_lt, cond, ◌&&◌, List, [], ◌∷◌, length, get_or, drop, map, Some, None, Err, arith}
+use Rattle.std.proofs.Math.Seq.{drop-cons}
+use Rattle.std.proofs.lemmas.Bool.{ltb-true, ltb-false}
+use Rattle.std.proofs.lemmas.List.{drop_all, drop-drop, drop-map, length-map}
+use Rattle.std.proofs.lemmas.Str.Parse.{IsNumeralModel, numerals_by_value, tells_all_ascii_digits, parse_digits}
+use Rattle.std.specs.Str.{all_ascii_digits}
+use Rattle.std.specs.Str.Parse.{ParsesUnsigned, digits_value}
+use Rattle.wincode_deriving.specs.Splits.{piece}
+use Rattle.wincode_describe.specs.Phrases.{Piece, front_text, number_front, number_of}
+use Rattle.wincode_deriving.specs.declared.tokens.Kind.{Kind}
+use Rattle.wincode_deriving.specs.declared.tokens.Kind.TheVariants as kind
+use Rattle.wincode_deriving.specs.declared.tokens.Token.{Token}
+
+-- a token stands in front of what is left from its place on
+pub at_front : (items : List Token) (n : ℕ) (t : Token) → n < length items → t ≡ get_or items n t → drop n (map piece items) ≡ piece t ∷ map piece (drop (suc n) items)
+at_front items n t l e = drop-map piece n items ∙ ap (map piece) (drop-cons items n t l) ∙ ap (λ (x : Token). piece x ∷ map piece (drop (suc n) items)) (sym e)
+
+-- the text of a token of that kind, and none of any other
+pub front_is : (k j : Kind) (text : List ℕ) (rest : List Piece) → j ≡ k → text ≡ front_text k ((j, text) ∷ rest)
+front_is kind.Word kind.Word text rest e = refl
+front_is kind.Sign kind.Sign text rest e = refl
+front_is kind.Lifetime kind.Lifetime text rest e = refl
+front_is kind.Literal kind.Literal text rest e = refl
+front_is kind.Note kind.Note text rest e = refl
+front_is _ _ text rest e = absurd (cc)
+
+pub front_is_none : (k j : Kind) (text : List ℕ) (rest : List Piece) → (j ≡ k → ⊥) → [] ≡ front_text k ((j, text) ∷ rest)
+front_is_none kind.Word kind.Word text rest e = absurd (e refl)
+front_is_none kind.Sign kind.Sign text rest e = absurd (e refl)
+front_is_none kind.Lifetime kind.Lifetime text rest e = absurd (e refl)
+front_is_none kind.Literal kind.Literal text rest e = absurd (e refl)
+front_is_none kind.Note kind.Note text rest e = absurd (e refl)
+front_is_none _ _ text rest e = refl
+
+none_in_front : (k : Kind) → [] ≡ front_text k []
+none_in_front kind.Word = refl
+none_in_front kind.Sign = refl
+none_in_front kind.Lifetime = refl
+none_in_front kind.Literal = refl
+none_in_front kind.Note = refl
+
+pub nothing_in_front : (k : Kind) (items : List Token) (n : ℕ) → length items ≤ n → [] ≡ front_text k (drop n (map piece items))
+nothing_in_front k items n l = rw (drop_all n (map piece items) (simp length-map l)) (none_in_front k)
+
+skip_cases : (xs : List Piece) (n m : ℕ) (b : Bool) → nat_lt n 18446744073709551615 ≡ b → length xs < 9223372036854775808 → m ≡ min (n + 1) 18446744073709551615 → drop m xs ≡ drop (n + 1) xs
+skip_cases xs n m true t l e = let below = ltb-true n 18446744073709551615 t in ap (λ k. drop k xs) (omega arith)
+skip_cases xs n m false t l e = let above = ltb-false n 18446744073709551615 t in drop_all m xs (omega arith) ∙ sym (drop_all (n + 1) xs (omega arith))
+
+-- one token more is passed
+pub skipped : (xs : List Piece) (n m : ℕ) → length xs < 9223372036854775808 → m ≡ min (n + 1) 18446744073709551615 → drop m xs ≡ drop 1 (drop n xs)
+skipped xs n m l e = skip_cases xs n m (nat_lt n 18446744073709551615) refl l e ∙ sym (drop-drop 1 n xs)
+
+own : IsNumeralModel (λ ds. all_ascii_digits ds ≡ true) (digits_value 10)
+own = numerals_by_value _ tells_all_ascii_digits
+
+none_of : (a b c : Bool) (n : ℕ) → (a ≡ true → b ≡ true → c ≡ true → ⊥) → cond (a && (b && c)) (Some n) None ≡ None
+none_of true true true n h = absurd (h refl refl refl)
+none_of true true false n h = refl
+none_of true false c n h = refl
+none_of false b c n h = refl
+
+no_number : {E : Type 0} → (w : List ℕ) (x : E) → ParsesUnsigned 64 10 w (Err x) → number_of w ≡ None
+no_number w x h = none_of (all_ascii_digits w) (nat_lt 0 (length w)) (nat_lt (digits_value 10 w) (2 ^ 64)) (digits_value 10 w) (λ p q r.
+    let refused = parse_digits own 64 w (Err x) h p in
+    refused (ltb-true 0 (length w) q, ltb-true (digits_value 10 w) (2 ^ 64) r))
+
+pub number_refused : {E : Type 0} → (ts : List Piece) (x : E) → ParsesUnsigned 64 10 (front_text kind.Word ts) (Err x) → number_front ts ≡ None
+number_refused [] x h = refl
+number_refused ((kind.Word, []) ∷ rest) x h = refl
+number_refused ((kind.Word, c ∷ cs) ∷ rest) x h = rw (no_number (c ∷ cs) x h) refl
+number_refused (_ ∷ rest) x h = refl

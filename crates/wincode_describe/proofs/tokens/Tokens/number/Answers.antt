@@ -1,0 +1,10 @@
+use Rattle.std.proofs.Common.{◌≡◌, None}
+use Rattle.wincode_describe.specs.Phrases.{left, number_front}
+use Rattle.wincode_describe.proofs.Fronts.{number_refused}
+use Rattle.wincode_describe.proofs.tokens.Tokens.number.Goals as goal
+
+pub returns-in-Err : goal.returns-in-Err
+returns-in-Err c =
+    let refused = rw c.text_of.ensures at c.in-Err.ensures.value.0 in
+    let none : number_front (left c.args.self.now) ≡ None = number_refused (left c.args.self.now) c.in-Err.field-0 refused in
+    rw none tt

@@ -1,0 +1,63 @@
+-- What the words and signs of a type say.
+use Rattle.std.specs.Prelude.{◌≡◌, ◌^◌, ℕ, if◌then◌else◌, ◌&&◌, nat_lt, List, [], ◌∷◌, length, drop, map, bytes_eq, Option, Some, None, option_and_then, option_map, Result, Ok, Err}
+use Rattle.std.specs.Str.{all_ascii_digits}
+use Rattle.std.specs.Str.Parse.{digits_value}
+use Rattle.wincode_deriving.specs.Splits.{piece}
+use Rattle.wincode_deriving.specs.declared.tokens.Kind.{Kind}
+use Rattle.wincode_deriving.specs.declared.tokens.Kind.TheVariants as kind
+use Rattle.wincode_describe.specs.declared.error.DescribeError.{DescribeError}
+use Rattle.wincode_describe.specs.declared.error.DescribeError.TheVariants.{OutOfMemory}
+use Rattle.wincode_describe.specs.declared.tokens.Tokens.{Tokens}
+
+-- a word or a sign, and its bytes
+abbrev pub Piece : Type 0
+Piece = Kind × List ℕ
+
+-- what is left of a text
+abbrev pub left : Tokens → List Piece
+left tokens = drop tokens.next (map piece tokens.tokens.items)
+
+-- What was read is the form that is known, and the rest is left, or there was no memory.
+abbrev pub Reads : {X Y : Type 0} → (Y → X) → Option (X × List Piece) → Result Y DescribeError → List Piece → Type 0
+Reads view None result rest = Unit
+Reads view (Some x) (Ok y) rest = (view y ≡ x.0) × (rest ≡ x.1)
+Reads view (Some x) (Err e) rest = e ≡ OutOfMemory
+
+-- what stands behind this sign
+abbrev pub behind_sign : List ℕ → List Piece → Option (List Piece)
+behind_sign s [] = None
+behind_sign s ((kind.Sign, t) ∷ rest) = if bytes_eq t s then Some rest else None
+behind_sign s (_ ∷ rest) = None
+
+-- the word in front, and the rest
+abbrev pub word_front : List Piece → Option (List ℕ × List Piece)
+word_front ((kind.Word, c ∷ cs) ∷ rest) = Some (c ∷ cs, rest)
+word_front _ = None
+
+-- the number that digits write
+abbrev pub number_of : List ℕ → Option ℕ
+number_of w = if all_ascii_digits w && (nat_lt 0 (length w) && nat_lt (digits_value 10 w) (2 ^ 64)) then Some (digits_value 10 w) else None
+
+-- the number in front, and the rest
+abbrev pub number_front : List Piece → Option (ℕ × List Piece)
+number_front ts = option_and_then (λ w. option_map (λ n. (n, w.1)) (number_of w.0)) (word_front ts)
+
+-- the text in front, if it is of the kind
+abbrev pub front_text : Kind → List Piece → List ℕ
+front_text kind.Word ((kind.Word, t) ∷ rest) = t
+front_text kind.Sign ((kind.Sign, t) ∷ rest) = t
+front_text kind.Lifetime ((kind.Lifetime, t) ∷ rest) = t
+front_text kind.Literal ((kind.Literal, t) ∷ rest) = t
+front_text kind.Note ((kind.Note, t) ∷ rest) = t
+front_text _ _ = []
+
+-- The word in front and what is left behind it; no word is empty.
+abbrev pub front_word : List ℕ → List Piece → List Piece → Type 0
+front_word [] new old = word_front old ≡ None
+front_word (c ∷ cs) new old = word_front old ≡ Some (c ∷ cs, new)
+
+-- the tokens of a text, if they are known, or there was no memory
+abbrev pub HasTokens : Option (List Piece) → Result Tokens DescribeError → Type 0
+HasTokens None result = Unit
+HasTokens (Some all) (Ok tokens) = left tokens ≡ all
+HasTokens (Some all) (Err e) = e ≡ OutOfMemory

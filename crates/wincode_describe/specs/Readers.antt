@@ -1,0 +1,230 @@
+-- How a type is read of its words and signs.
+use Rattle.std.specs.Prelude.{◌≡◌, ◌^◌, ◌-◌, ℕ, zero, suc, Bool, true, false, if◌then◌else◌, nat_lt, nat_eq, ◌||◌, List, [], ◌∷◌, codes, bytes_eq, Option, Some, None, Result, Ok, Err, option_map}
+use Rattle.wincode_describe.specs.Forms.{Form, seen, Number, Flag, Letter, Nothing, Words, Bytes, ByteBlock, Maybe, Either, Held, Many, Several, Pairs, Block, Group, Record, Both, Named, Choice, LastCase, OneCase}
+use Rattle.wincode_describe.specs.Phrases.{Piece, behind_sign, word_front, number_front}
+use Rattle.wincode_describe.specs.declared.described.Described.{Described}
+use Rattle.wincode_describe.specs.declared.described.Integer.TheVariants.{U8, U16, U32, U64, U128, Usize, I8, I16, I32, I64, I128, Isize}
+use Rattle.wincode_describe.specs.declared.described.LengthScheme.{LengthScheme}
+use Rattle.wincode_describe.specs.declared.described.LengthScheme.TheVariants.{Eight, Short}
+use Rattle.wincode_describe.specs.declared.described.TagSize.{TagSize}
+use Rattle.wincode_describe.specs.declared.described.TagSize.TheVariants as tag
+use Rattle.wincode_describe.specs.declared.error.DescribeError.{DescribeError}
+use Rattle.wincode_describe.specs.declared.error.DescribeError.TheVariants.{OutOfMemory}
+use Rattle.wincode_describe.specs.declared.parsing.Holder.{Holder}
+use Rattle.wincode_describe.specs.declared.parsing.Holder.TheVariants as holder
+use Rattle.wincode_describe.specs.declared.parsing.Pair.{Pair}
+use Rattle.wincode_describe.specs.declared.parsing.Pair.TheVariants as pair
+use Rattle.wincode_describe.specs.declared.parsing.Opening.{Opening}
+use Rattle.wincode_describe.specs.declared.parsing.Opening.TheVariants as opening
+
+-- reads a form of what is left, and leaves the rest
+abbrev pub Reader : Type 0
+Reader = List Piece → Option (Form × List Piece)
+
+-- one reading after another
+abbrev pub and_then : {A B : Type 0} → Option A → (A → Option B) → Option B
+and_then None f = None
+and_then (Some x) f = f x
+
+-- by what is there, or else
+abbrev pub on : {A B : Type 0} → Option A → (A → B) → B → B
+on None f other = other
+on (Some x) f other = f x
+
+-- a sign in front, and the rest
+abbrev pub sign_front : List ℕ → List Piece → Option (Unit {0} × List Piece)
+sign_front s ts = option_map (λ rest. (tt, rest)) (behind_sign s ts)
+
+-- the form that a word is by itself
+abbrev pub plain_of : List ℕ → Option Form
+plain_of w =
+    if bytes_eq w (codes "bool") then Some Flag
+    else if bytes_eq w (codes "char") then Some Letter
+    else if bytes_eq w (codes "String") then Some Words
+    else if bytes_eq w (codes "u8") then Some (Number U8)
+    else if bytes_eq w (codes "u16") then Some (Number U16)
+    else if bytes_eq w (codes "u32") then Some (Number U32)
+    else if bytes_eq w (codes "u64") then Some (Number U64)
+    else if bytes_eq w (codes "u128") then Some (Number U128)
+    else if bytes_eq w (codes "usize") then Some (Number Usize)
+    else if bytes_eq w (codes "i8") then Some (Number I8)
+    else if bytes_eq w (codes "i16") then Some (Number I16)
+    else if bytes_eq w (codes "i32") then Some (Number I32)
+    else if bytes_eq w (codes "i64") then Some (Number I64)
+    else if bytes_eq w (codes "i128") then Some (Number I128)
+    else if bytes_eq w (codes "isize") then Some (Number Isize)
+    else None
+
+-- what is to stand behind a word
+abbrev pub opening_of : List ℕ → Opening
+opening_of w =
+    if bytes_eq w (codes "struct") then opening.Struct
+    else if bytes_eq w (codes "enum") then opening.Enum
+    else if bytes_eq w (codes "short") then opening.ShortList
+    else if bytes_eq w (codes "Result") then opening.Two pair.Result
+    else if bytes_eq w (codes "BTreeMap") then opening.Two pair.Map
+    else if bytes_eq w (codes "HashMap") then opening.Two pair.Map
+    else if bytes_eq w (codes "Option") then opening.One holder.Option
+    else if bytes_eq w (codes "Box") then opening.One holder.Boxed
+    else if bytes_eq w (codes "Rc") then opening.One holder.Boxed
+    else if bytes_eq w (codes "BTreeSet") then opening.One holder.Set
+    else if bytes_eq w (codes "HashSet") then opening.One holder.Set
+    else if bytes_eq w (codes "Vec") then opening.One holder.List
+    else if bytes_eq w (codes "VecDeque") then opening.One holder.List
+    else if bytes_eq w (codes "LinkedList") then opening.One holder.List
+    else if bytes_eq w (codes "BinaryHeap") then opening.One holder.List
+    else if bytes_eq w (codes "containers") then opening.Container
+    else opening.Name
+
+abbrev pub tag_of : List ℕ → Option TagSize
+tag_of w =
+    if bytes_eq w (codes "u8") then Some tag.U8
+    else if bytes_eq w (codes "u16") then Some tag.U16
+    else if bytes_eq w (codes "u32") then Some tag.U32
+    else if bytes_eq w (codes "u64") then Some tag.U64
+    else None
+
+abbrev pub greatest_of : TagSize → ℕ
+greatest_of tag.U8 = 255
+greatest_of tag.U16 = 65535
+greatest_of tag.U32 = 4294967295
+greatest_of tag.U64 = 2 ^ 64 - 1
+
+-- a list of bytes is one part
+abbrev pub list_form : LengthScheme → Form → Form
+list_form s (Number U8) = Bytes s
+list_form s d = Many s d
+
+abbrev pub array_form : ℕ → Form → Form
+array_form n (Number U8) = ByteBlock n
+array_form n d = Block n d
+
+abbrev pub held_form : Holder → Form → Form
+held_form holder.Option d = Maybe d
+held_form holder.Boxed d = Held d
+held_form holder.Set d = Several d
+held_form holder.List d = list_form Eight d
+
+abbrev pub pair_form : Pair → Form → Form → Form
+pair_form pair.Result d e = Either d e
+pair_form pair.Map d e = Pairs (Both d e)
+
+-- a case has the tag
+abbrev pub has_tag : Form → ℕ → Bool
+has_tag (LastCase n d) t = nat_eq n t
+has_tag (OneCase n d others) t = nat_eq n t || has_tag others t
+has_tag _ t = false
+
+-- what is made is seen as this form, or there was no memory
+abbrev pub Makes : {X Y : Type 0} → (Y → X) → X → Result Y DescribeError → Type 0
+Makes view f (Ok d) = view d ≡ f
+Makes view f (Err e) = e ≡ OutOfMemory
+
+-- A list in brackets goes on behind a comma, unless it is closed there.
+abbrev pub goes_on : List ℕ → List Piece → Option (Bool × List Piece)
+goes_on closing ts = on (behind_sign (codes ",") ts)
+    (λ rest. Some (on (behind_sign closing rest) (λ end. (false, end)) (true, rest)))
+    (option_map (λ end. (false, end)) (behind_sign closing ts))
+
+module _ (types : Reader) where
+  abbrev pub array_by : Reader
+  array_by ts = and_then (types ts) (λ d. and_then (sign_front (codes ";") d.1) (λ s. and_then (number_front s.1) (λ n. and_then (sign_front (codes "]") n.1) (λ e. Some (array_form n.0 d.0, e.1)))))
+
+  abbrev pub item_by : (Form → Form) → Reader
+  item_by f ts = and_then (sign_front (codes "<") ts) (λ s. and_then (types s.1) (λ d. and_then (sign_front (codes ">") d.1) (λ e. Some (f d.0, e.1))))
+
+  abbrev pub short_by : Reader
+  short_by ts = and_then (word_front ts) (λ w. if bytes_eq w.0 (codes "Vec") then item_by (list_form Short) w.1 else None)
+
+  abbrev pub two_by : (Form → Form → Form) → Reader
+  two_by f ts = and_then (sign_front (codes "<") ts) (λ s. and_then (types s.1) (λ d. and_then (sign_front (codes ",") d.1) (λ t. and_then (types t.1) (λ e. and_then (sign_front (codes ">") e.1) (λ u. Some (f d.0 e.0, u.1))))))
+
+  -- two members or more, behind their bracket
+  abbrev pub several_by : Reader → Reader
+  several_by members ts = and_then (types ts) (λ d. and_then (sign_front (codes ",") d.1) (λ s. and_then (members s.1) (λ e. Some (Group (Both d.0 e.0), e.1))))
+
+  abbrev pub tuple_by : Reader → Reader
+  tuple_by members ts = on (behind_sign (codes ")") ts) (λ rest. Some (Nothing, rest)) (several_by members ts)
+
+  abbrev pub members_by : Reader → Reader
+  members_by members ts = and_then (types ts) (λ d. and_then (goes_on (codes ")") d.1) (λ g. if g.0 then and_then (members g.1) (λ e. Some (Both d.0 e.0, e.1)) else Some (d.0, g.1)))
+
+  abbrev pub fields_by : Reader → Reader
+  fields_by fields ts = and_then (word_front ts) (λ w. and_then (sign_front (codes ":") w.1) (λ s. and_then (types s.1) (λ d. and_then (goes_on (codes "}") d.1) (λ g. if g.0 then and_then (fields g.1) (λ e. Some (Both (Named w.0 d.0) e.0, e.1)) else Some (Named w.0 d.0, g.1)))))
+
+  abbrev pub cases_by : ℕ → Reader → Reader
+  cases_by greatest cases ts = and_then (number_front ts) (λ n. if nat_lt greatest n.0 then None else and_then (sign_front (codes ":") n.1) (λ s. and_then (types s.1) (λ d. and_then (goes_on (codes "}") d.1) (λ g. if g.0 then and_then (cases g.1) (λ e. if has_tag e.0 n.0 then None else Some (OneCase n.0 d.0 e.0, e.1)) else Some (LastCase n.0 d.0, g.1)))))
+
+-- the readers of types and of their parts, each for so many levels
+pub record Readers : Type 0 where
+  pub types : Reader
+  pub tuple : Reader
+  pub members : Reader
+  pub fields : Reader
+  pub cases : ℕ → Reader
+
+abbrev pub struct_by : Reader → Reader
+struct_by fields ts = and_then (sign_front (codes "{") ts) (λ s. and_then (fields s.1) (λ d. Some (Record d.0, d.1)))
+
+abbrev pub enum_by : (ℕ → Reader) → Reader
+enum_by cases ts = and_then (word_front ts) (λ w. and_then (tag_of w.0) (λ k. and_then (sign_front (codes "{") w.1) (λ s. and_then (cases (greatest_of k) s.1) (λ d. Some (Choice k d.0, d.1)))))
+
+abbrev pub behind_word : Readers → Opening → Reader
+behind_word below opening.Struct ts = struct_by below.fields ts
+behind_word below opening.Enum ts = enum_by below.cases ts
+behind_word below opening.ShortList ts = short_by below.types ts
+behind_word below (opening.Two p) ts = two_by below.types (pair_form p) ts
+behind_word below (opening.One h) ts = item_by below.types (held_form h) ts
+behind_word below _ ts = None
+
+-- a type that begins with a word, which stands in front of the rest
+abbrev pub word_by : Readers → List ℕ × List Piece → Option (Form × List Piece)
+word_by below w = on (plain_of w.0) (λ d. Some (d, w.1)) (behind_word below (opening_of w.0) w.1)
+
+-- an array, or a type that begins with a word
+abbrev pub array_or_word : Readers → Reader
+array_or_word below ts = on (behind_sign (codes "[") ts) (array_by below.types) (and_then (word_front ts) (word_by below))
+
+abbrev pub type_by : Readers → Reader
+type_by below ts = on (behind_sign (codes "(") ts) below.tuple (array_or_word below ts)
+
+-- one level more
+abbrev pub one_more : Readers → Readers
+one_more below = record {
+  types = type_by below;
+  tuple = tuple_by (type_by below) below.members;
+  members = members_by (type_by below) below.members;
+  fields = fields_by below.types below.fields;
+  cases = λ greatest. cases_by below.types greatest (below.cases greatest);
+}
+
+-- within no level
+abbrev pub unread : Reader
+unread ts = None
+
+abbrev pub no_more : Readers
+no_more = record {
+  types = unread;
+  tuple = tuple_by unread unread;
+  members = unread;
+  fields = unread;
+  cases = λ greatest. unread;
+}
+
+unfoldable pub readers : ℕ → Readers
+readers zero = no_more
+readers (suc n) = one_more (readers n)
+
+-- nothing is left behind a form
+abbrev pub ended : Form × List Piece → Option Form
+ended (f, []) = Some f
+ended (f, p ∷ rest) = None
+
+-- the form that all of a text is, of at most so many levels
+abbrev pub whole : ℕ → List Piece → Option Form
+whole levels ts = and_then ((readers levels).types ts) ended
+
+-- what is parsed is that form, if it is known, or there was no memory
+abbrev pub Parses : Option Form → Result Described DescribeError → Type 0
+Parses None result = Unit
+Parses (Some f) result = Makes seen f result

@@ -1,0 +1,58 @@
+-- The text of a described type.
+use Rattle.std.specs.Prelude.{ℕ, List, ◌++◌, codes}
+use Rattle.std.specs.Fmt.{decimal}
+use Rattle.wincode_describe.specs.Forms.{Form, Number, Flag, Letter, Nothing, Words, Bytes, ByteBlock, Maybe, Either, Held, Many, Several, Pairs, Block, Group, Record, Both, Named, Choice, LastCase, OneCase}
+use Rattle.wincode_describe.specs.declared.described.Integer.{Integer}
+use Rattle.wincode_describe.specs.declared.described.Integer.TheVariants.{U8, U16, U32, U64, U128, Usize, I8, I16, I32, I64, I128, Isize}
+use Rattle.wincode_describe.specs.declared.described.LengthScheme.{LengthScheme}
+use Rattle.wincode_describe.specs.declared.described.LengthScheme.TheVariants.{Eight, Short}
+use Rattle.wincode_describe.specs.declared.described.TagSize.{TagSize}
+use Rattle.wincode_describe.specs.declared.described.TagSize.TheVariants as tag
+
+abbrev pub integer_name : Integer → List ℕ
+integer_name U8 = codes "u8"
+integer_name U16 = codes "u16"
+integer_name U32 = codes "u32"
+integer_name U64 = codes "u64"
+integer_name U128 = codes "u128"
+integer_name Usize = codes "usize"
+integer_name I8 = codes "i8"
+integer_name I16 = codes "i16"
+integer_name I32 = codes "i32"
+integer_name I64 = codes "i64"
+integer_name I128 = codes "i128"
+integer_name Isize = codes "isize"
+
+abbrev pub list_name : LengthScheme → List ℕ
+list_name Eight = codes "Vec"
+list_name Short = codes "short Vec"
+
+abbrev pub tag_name : TagSize → List ℕ
+tag_name tag.U8 = codes "u8"
+tag_name tag.U16 = codes "u16"
+tag_name tag.U32 = codes "u32"
+tag_name tag.U64 = codes "u64"
+
+-- a type as a Rust programmer writes it, the parts of a tuple, a struct, a map and an enum behind commas
+abbrev pub written : Form → List ℕ
+written (Number i) = integer_name i
+written Flag = codes "bool"
+written Letter = codes "char"
+written Nothing = codes "()"
+written Words = codes "String"
+written (Bytes s) = list_name s ++ codes "<u8>"
+written (ByteBlock n) = codes "[u8; " ++ (decimal n ++ codes "]")
+written (Maybe d) = codes "Option<" ++ (written d ++ codes ">")
+written (Either d e) = codes "Result<" ++ (written d ++ (codes ", " ++ (written e ++ codes ">")))
+written (Held d) = codes "Box<" ++ (written d ++ codes ">")
+written (Many s d) = list_name s ++ (codes "<" ++ (written d ++ codes ">"))
+written (Several d) = codes "BTreeSet<" ++ (written d ++ codes ">")
+written (Pairs d) = codes "BTreeMap<" ++ (written d ++ codes ">")
+written (Block n d) = codes "[" ++ (written d ++ (codes "; " ++ (decimal n ++ codes "]")))
+written (Group d) = codes "(" ++ (written d ++ codes ")")
+written (Record d) = codes "struct { " ++ (written d ++ codes " }")
+written (Both d e) = written d ++ (codes ", " ++ written e)
+written (Named s d) = s ++ (codes ": " ++ written d)
+written (Choice k d) = codes "enum " ++ (tag_name k ++ (codes " { " ++ (written d ++ codes " }")))
+written (LastCase n d) = decimal n ++ (codes ": " ++ written d)
+written (OneCase n d e) = decimal n ++ (codes ": " ++ (written d ++ (codes ", " ++ written e)))
