@@ -1,5 +1,6 @@
 //! A description as the text of its type.
-ghost use Rattle.std.specs.Prelude.{◌≡◌, Some};
+ghost use Rattle.std.specs.Prelude.{◌≡◌, ◌++◌, Some};
+ghost use Rattle.std.specs.Fmt.{DisplaysOnOk};
 ghost use Rattle.wincode_describe.specs.Forms.{seen, seen_cases};
 ghost use Rattle.wincode_describe.specs.Written.{integer_name, list_name, tag_name, written};
 
@@ -48,6 +49,21 @@ fn tag_word(size: TagSize) -> &'static str
     }
 }
 
+/// A type between these two texts.
+#[cycle(printing)]
+fn between<W: Write>(
+    f: &mut Formatter<W>,
+    opening: &str,
+    content: &Described,
+    closing: &str,
+) -> fmt::Result
+    ensures { DisplaysOnOk W.write_str_gives f.old result (Some (opening.now ++ (written (seen content.now) ++ closing.now))) f.new }
+{
+    f.write_str(opening)?;
+    content.fmt(f)?;
+    f.write_str(closing)
+}
+
 /// The type as `Described::parse` reads it.
 impl Display for Described {
     ghost output = { λ described. Some (written (seen described)) };
@@ -65,63 +81,31 @@ impl Display for Described {
                 f.write_str("<u8>")
             }
             Described::ByteArray(n) => write!(f, "[u8; {n}]"),
-            Described::Option(content) => {
-                f.write_str("Option<")?;
-                (**content).fmt(f)?;
-                f.write_str(">")
-            }
+            Described::Option(content) => between(f, "Option<", content, ">"),
             Described::Result(one, other) => {
-                f.write_str("Result<")?;
-                (**one).fmt(f)?;
-                f.write_str(", ")?;
-                (**other).fmt(f)?;
-                f.write_str(">")
+                between(f, "Result<", one, ", ")?;
+                between(f, "", other, ">")
             }
-            Described::Boxed(content) => {
-                f.write_str("Box<")?;
-                (**content).fmt(f)?;
-                f.write_str(">")
-            }
+            Described::Boxed(content) => between(f, "Box<", content, ">"),
             Described::List(scheme, item) => {
                 f.write_str(list_word(*scheme))?;
-                f.write_str("<")?;
-                (**item).fmt(f)?;
-                f.write_str(">")
+                between(f, "<", item, ">")
             }
-            Described::Set(item) => {
-                f.write_str("BTreeSet<")?;
-                (**item).fmt(f)?;
-                f.write_str(">")
-            }
-            Described::Map(pair) => {
-                f.write_str("BTreeMap<")?;
-                (**pair).fmt(f)?;
-                f.write_str(">")
-            }
+            Described::Set(item) => between(f, "BTreeSet<", item, ">"),
+            Described::Map(pair) => between(f, "BTreeMap<", pair, ">"),
             Described::Array(n, item) => {
-                f.write_str("[")?;
-                (**item).fmt(f)?;
-                write!(f, "; {n}]")
+                between(f, "[", item, "; ")?;
+                write!(f, "{n}]")
             }
-            Described::Tuple(members) => {
-                f.write_str("(")?;
-                (**members).fmt(f)?;
-                f.write_str(")")
-            }
-            Described::Struct(fields) => {
-                f.write_str("struct { ")?;
-                (**fields).fmt(f)?;
-                f.write_str(" }")
-            }
+            Described::Tuple(members) => between(f, "(", members, ")"),
+            Described::Struct(fields) => between(f, "struct { ", fields, " }"),
             Described::Joined(first, second) => {
-                (**first).fmt(f)?;
-                f.write_str(", ")?;
+                between(f, "", first, ", ")?;
                 (**second).fmt(f)
             }
             Described::Field(name, content) => {
                 f.write_str(name.as_str())?;
-                f.write_str(": ")?;
-                (**content).fmt(f)
+                between(f, ": ", content, "")
             }
             Described::Enum(size, cases) => {
                 f.write_str("enum ")?;
