@@ -53,7 +53,10 @@ fn labels_in_lists_and_maps(rt: HostRuntime) -> Result<(), Fail> {
     ]?;
     let text = serialize(alloc, &labels)?;
     assert_eq!(rt; text.len(), 8 + 17 + 16);
-    assert_eq!(rt; &text.as_slice()[8..25], LABEL.as_slice());
+    let mut wanted = Vec::from_slice(alloc, &[1u8, 0, 0, 0, 0, 0, 0, 0])?;
+    wanted.extend_from_slice(LABEL.as_slice())?;
+    wanted.push(9)?;
+    assert_eq!(rt; text.as_slice(), wanted.as_slice());
     let back = labels_of(alloc, text.as_slice())?;
     assert!(rt; back.as_slice() == labels.as_slice());
     let short = labels_of(alloc, &LABEL[..16]);
@@ -119,7 +122,10 @@ fn labels_as_keys(rt: HostRuntime) -> Result<(), Fail> {
     let mut hashed = HashMap::new(alloc);
     hashed.insert(ONE, 9u8)?;
     let text = serialize(alloc, &hashed)?;
-    assert_eq!(rt; &text.as_slice()[8..25], LABEL.as_slice());
+    let mut wanted = Vec::from_slice(alloc, &[1u8, 0, 0, 0, 0, 0, 0, 0])?;
+    wanted.extend_from_slice(LABEL.as_slice())?;
+    wanted.push(9)?;
+    assert_eq!(rt; text.as_slice(), wanted.as_slice());
     let back: HashMap<Label, u8> = deserialize(alloc, text.as_slice())?;
     assert!(rt; back.get(&ONE) == Some(&9));
     Ok(())

@@ -3,7 +3,7 @@ use Rattle.std.proofs.Common.{◌≡◌, ◌∙◌, sym, ap, subst, ℕ, ◌+◌
 use Rattle.std.proofs.Math.Seq.{drop-cons}
 use Rattle.std.proofs.lemmas.List.{append-nil, drop_all}
 use Rattle.std.specs.Prelude.{option_map, option_and_then}
-use Rattle.wincode_deriving.specs.Splits.{Taken, Takes, TakesIfKnown, in_front, piece, splits, taken, tokens_in, Splits}
+use Rattle.wincode_deriving.specs.Splits.{Taken, TakesIfKnown, in_front, piece, splits, taken, tokens_in, Splits}
 use Rattle.std.specs.String.{string_bytes}
 use Rattle.wincode_deriving.specs.declared.error.DeriveError.{DeriveError}
 use Rattle.wincode_deriving.specs.declared.error.DeriveError.TheVariants.{OutOfMemory}

@@ -1,11 +1,11 @@
-use Rattle.std.proofs.Common.{◌≡◌, ◌+◌, ◌∷◌, [], ◌++◌, ℕ, List, drop, length, sym, ap, subst, refl, rules, arith}
+use Rattle.std.proofs.Common.{[], List, length, refl, rules}
 use Rattle.std.proofs.lemmas.Iterator.{YieldsList-from_chars}
 use Rattle.std.proofs.lemmas.Iterator.Consumers.{YieldsList-turn, YieldsList-end}
 use Rattle.std.proofs.lemmas.List.{length_push}
 use Rattle.std.proofs.lemmas.Result.{err_from_is_err_and}
 use Rattle.std.specs.Str.{chars}
 use Rattle.wincode_deriving.specs.Splits.{tokens_in}
-use Rattle.wincode_deriving.proofs.Splitting.{Left, left_turn, left_step, left_refused, left_ended, left_last, left_not_between, left_first}
+use Rattle.wincode_deriving.proofs.Splitting.{left_turn, left_step, left_refused, left_ended, left_last, left_not_between, left_first}
 use Rattle.wincode_deriving.specs.declared.tokens.Place.TheVariants as place
 use Rattle.wincode_deriving.proofs.tokens.tokens_of.Goals as goal
 

@@ -1,4 +1,3 @@
-use Rattle.std.proofs.Common.{rules}
 use Rattle.wincode_deriving.specs.Splits.{begun}
 use Rattle.wincode_deriving.proofs.Splitting.{takes_both}
 use Rattle.wincode_deriving.proofs.tokens.Lexer.end_and_begin.Goals as goal
