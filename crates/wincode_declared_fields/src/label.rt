@@ -20,15 +20,6 @@ pub struct Sheet<'a> {
     pub last: Option<Label<'a>>,
 }
 
-/// A place in a text.
-#[derive(Debug, Clone, Copy, PartialEq, Eq, PartialOrd, Ord, Hash)]
-pub struct Spot<'a> {
-    pub text: &'a str,
-    pub seal: [u8; 2],
-    pub at: i16,
-    pub is_marked: bool,
-}
-
 /// How often each label was seen, and which were left out.
 #[derive(Debug, Drop)]
 pub struct Index<'a> {

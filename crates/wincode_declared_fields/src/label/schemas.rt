@@ -7,8 +7,7 @@ use super::*;
 use std::alloc::Global;
 use wincode::io::{Lifetime, Reader, Writer};
 use wincode::schema::tuples::{
-    size_of_members_2, size_of_members_4, size_of_members_5, write_members_2, write_members_4,
-    write_members_5,
+    size_of_members_2, size_of_members_5, write_members_2, write_members_5,
 };
 use wincode::{
     Key, OneText, ReadResult, RoundTrip, SchemaGet, SchemaRead, SchemaWrite, TypeMeta, WriteResult,
@@ -263,129 +262,6 @@ where
     L::As: OneText<L>,
 {
     ghost one_text = { L.As.one_text };
-}
-
-type SpotFields<'a> = (&'a str, [u8; 2], i16, bool);
-
-impl<'a> SchemaWrite for Spot<'a> {
-    type Src = Spot<'a>;
-
-    ghost Value = { ⟦<SpotFields<'a> as SchemaWrite>⟧.Value };
-
-    ghost model = { λ x. ⟦<SpotFields<'a> as SchemaWrite>⟧.model (x.text, x.seal, x.at, x.is_marked) };
-
-    ghost is_valid = { λ x. ⟦<SpotFields<'a> as SchemaWrite>⟧.is_valid (x.text, x.seal, x.at, x.is_marked) };
-
-    ghost writing = { ⟦<SpotFields<'a> as SchemaWrite>⟧.writing };
-
-    fn type_meta() -> TypeMeta
-        ensures { result ≡ ⟦<SpotFields<'a> as SchemaWrite>⟧.writing.meta }
-    {
-        <SpotFields<'a> as SchemaWrite>::type_meta()
-    }
-
-    fn size_of(src: &Spot<'a>) -> WriteResult<usize> {
-        size_of_members_4::<&'a str, [u8; 2], i16, bool>(
-            &src.text,
-            &src.seal,
-            &src.at,
-            &src.is_marked,
-        )
-    }
-
-    fn write<W: Writer>(writer: &mut W, src: &Spot<'a>) -> WriteResult<()> {
-        write_members_4::<&'a str, [u8; 2], i16, bool, W>(
-            writer,
-            &src.text,
-            &src.seal,
-            &src.at,
-            &src.is_marked,
-        )
-    }
-
-    ghost write_laws = { write_laws_by (λ x. (x.text, x.seal, x.at, x.is_marked)) ⟦<SpotFields<'a> as SchemaWrite>⟧.write_laws };
-}
-
-impl<'a> Lends<Spot<'static>> for Lifetime<'a> {
-    type Lent = Spot<'a>;
-
-    type Parts = (&'a str, [u8; 2], i16, bool);
-
-    type As = SpotFields<'a>;
-
-    ghost parts = { λ x. (x.text, x.seal, x.at, x.is_marked) };
-
-    fn make(made_of: (&'a str, [u8; 2], i16, bool)) -> Spot<'a> {
-        let (text, seal, at, is_marked) = made_of;
-        Spot {
-            text,
-            seal,
-            at,
-            is_marked,
-        }
-    }
-}
-
-impl<'a, L: Lends<Spot<'static>>> SchemaRead<L> for Spot<'a> {
-    type Dst = L::Lent;
-
-    ghost Value = { L.As.SchemaRead.Value };
-
-    ghost model = { λ x. L.As.SchemaRead.model (L.parts x) };
-
-    ghost is_valid = { L.As.SchemaRead.is_valid };
-
-    ghost reading = { L.As.SchemaRead.reading };
-
-    fn type_meta() -> TypeMeta
-        ensures { result ≡ L.As.SchemaRead.reading.meta }
-    {
-        <L::As as SchemaRead<L>>::type_meta()
-    }
-
-    fn prealloc_size() -> usize
-        ensures { result ≡ L.As.SchemaRead.reading.prealloc }
-    {
-        <L::As as SchemaRead<L>>::prealloc_size()
-    }
-
-    fn read<R: Reader<L>>(
-        alloc: Global,
-        reader: &mut R,
-        dst: &mut Option<L::Lent>,
-    ) -> ReadResult<()>
-        ensures { ReadOutcome L.As.SchemaRead.reading (λ x. L.As.SchemaRead.model (L.parts x))
-            (R.state reader.old) (R.state reader.new) dst.old dst.new result }
-    {
-        let parts = <L::As as SchemaGet<L>>::get(alloc, reader)?;
-        *dst = Some(L::make(parts));
-        Ok(())
-    }
-
-    ghost read_laws = { L.As.SchemaRead.read_laws };
-}
-
-impl<'a, L: Lends<Spot<'static>>> OneText<L> for Spot<'a>
-where
-    L::As: OneText<L>,
-{
-    ghost one_text = { L.As.one_text };
-}
-
-impl<'a> RoundTrip<Lifetime<'a>> for Spot<'a>
-where
-    SpotFields<'a>: RoundTrip<Lifetime<'a>, Src = (&'a str, [u8; 2], i16, bool)>,
-{
-    ghost reads_back = { reads_back_by (λ x. (x.text, x.seal, x.at, x.is_marked)) bound-1.reads_back };
-}
-
-type SpotPairs<'a> = (&'a str, ([u8; 2], (i16, bool)));
-
-impl<'a> Key<Lifetime<'a>> for Spot<'a>
-where
-    SpotPairs<'a>: Key<Lifetime<'a>, Dst = (&'a str, ([u8; 2], (i16, bool)))>,
-{
-    ghost alike = { λ x y. bound-1.alike (x.text, (x.seal, (x.at, x.is_marked))) (y.text, (y.seal, (y.at, y.is_marked))) };
 }
 
 type IndexFields<'a> = (BTreeMap<Label<'a>, u32>, BTreeSet<Label<'a>>);
