@@ -5,7 +5,29 @@ ghost use Rattle.std.specs.Str.{chars};
 ghost use Rattle.wincode_deriving.specs.Splits.{tokens_in};
 ghost use Rattle.wincode_describe.specs.Forms.{Both, Choice, Form, Group, LastCase, Named, OneCase, Record, seen, seen_cases};
 ghost use Rattle.wincode_describe.specs.Phrases.{left, Reads};
-ghost use Rattle.wincode_describe.specs.Readers.{Makes, Parses, and_then, array_by, array_form, enum_by, goes_on, greatest_of, has_tag, held_form, item_by, list_form, opening_of, pair_form, plain_of, readers, short_by, struct_by, tag_of, two_by, whole};
+ghost use Rattle.wincode_describe.specs.Readers.{
+  Makes,
+  Parses,
+  and_then,
+  array_by,
+  array_form,
+  enum_by,
+  goes_on,
+  greatest_of,
+  has_tag,
+  held_form,
+  item_by,
+  list_form,
+  opening_of,
+  pair_form,
+  plain_of,
+  readers,
+  short_by,
+  struct_by,
+  tag_of,
+  two_by,
+  whole,
+};
 ghost use Rattle.wincode_describe.specs.Spelled.{IsType};
 ghost use Rattle.wincode_describe.specs.Written.{written};
 
