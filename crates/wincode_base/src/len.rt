@@ -1,5 +1,5 @@
 //! How the length of a list is written and read.
-ghost use Rattle.std.specs.Prelude.{◌≡◌, IfOk, IfErr};
+ghost use Rattle.std.specs.Prelude.{◌≡◌, ◌≤◌, length, take, Some, IfSome, IfOk, IfErr};
 ghost use Rattle.wincode_base.specs.LengthLaws.{bincode_laws};
 ghost use Rattle.wincode_base.specs.Lengths.{Scheme, SchemeLaws, HasEncoding, encoding_len, length_write, bincode, LengthSizeRefused, length_read};
 ghost use Rattle.wincode_base.specs.Outcomes.{WriteOutcome, GetOutcome};
@@ -36,6 +36,17 @@ pub trait SeqLen {
     fn write_bytes_needed(len: usize) -> WriteResult<usize>
         ensures ok { IfOk result (λ n. HasEncoding scheme len × (n ≡ encoding_len (scheme.encoding len))) }
         ensures err { IfErr result (LengthSizeRefused scheme len) };
+
+    /// Puts that encoding over the front of the bytes, and gives how many it has; or answers `None`, and may have
+    /// put any bytes there. It is for speed alone: what it doesn't do, `write` does.
+    #[inline(always)]
+    fn encode(len: usize, dst: &mut [u8]) -> Option<usize>
+        ensures { IfSome result (λ n. (n ≤ length dst.new) × (scheme.encoding len ≡ Some (take n dst.new))) }
+    {
+        let _ = len;
+        let _room = dst.len();
+        None
+    }
 }
 
 /// The lengths of bincode 1: eight bytes, the lowest first. Reading refuses a length whose items count
@@ -66,6 +77,15 @@ impl<const MAX_SIZE: usize> SeqLen for BincodeLen<MAX_SIZE> {
     #[inline(always)]
     fn write_bytes_needed(_len: usize) -> WriteResult<usize> {
         Ok(8)
+    }
+
+    #[inline(always)]
+    fn encode(len: usize, dst: &mut [u8]) -> Option<usize> {
+        if dst.len() < 8 {
+            return None;
+        }
+        dst[..8].copy_from_slice(&(len as u64).to_le_bytes());
+        Some(8)
     }
 
     ghost scheme_laws = { bincode_laws MAX_SIZE };

@@ -1,1 +1,2 @@
 mod Pending
+pub mod Fronts

@@ -1,5 +1,5 @@
 //! How values of a type are written.
-ghost use Rattle.std.specs.Prelude.{◌≡◌, map, IfSome, IsTrue, IfOk, IfErr};
+ghost use Rattle.std.specs.Prelude.{◌≡◌, ◌≤◌, length, take, map, IfSome, IsTrue, IfOk, IfErr};
 ghost use Rattle.wincode_io.specs.Joins.{Each};
 ghost use Rattle.wincode_base.specs.Grammar.{WriteGrammar, WriteLaws};
 ghost use Rattle.wincode_base.specs.Lists.{items_write};
@@ -16,6 +16,7 @@ mod lists;
 mod maps;
 mod pod;
 mod references;
+mod runs;
 mod short;
 mod strings;
 pub mod tags;
@@ -32,8 +33,8 @@ const LONGEST: usize = 64;
 
 /// Writes the values of a type.
 ///
-/// An implementation writes `type_meta`, `size_of` and `write`. The others have bodies. `known_size`, `encode` and
-/// `encode_items` are for speed alone: what they don't do, `size_of` and `write` do.
+/// An implementation writes `type_meta`, `size_of` and `write`. The others have bodies. `known_size`, `encode`,
+/// `encode_front` and `encode_items` are for speed alone: what they don't do, `size_of` and `write` do.
 pub trait SchemaWrite {
     type Src;
 
@@ -107,6 +108,23 @@ pub trait SchemaWrite {
         let _ = src;
         let _len = dst.len();
         false
+    }
+
+    /// Puts an encoding of the value over the front of the bytes, and gives how many it has; or answers `None`, as
+    /// where there are fewer, and may have put any bytes there.
+    #[inline(always)]
+    fn encode_front(src: &Self::Src, dst: &mut [u8]) -> Option<usize>
+        ensures { IfSome result (λ n. (n ≤ length dst.new) × IsEncoded writing (model src.now) (take n dst.new) × is_valid src.now) }
+    {
+        match Self::type_meta() {
+            TypeMeta::Static { size, .. } if size <= dst.len() => {
+                if Self::encode(src, &mut dst[..size]) {
+                    return Some(size);
+                }
+                None
+            }
+            _ => None,
+        }
     }
 
     /// Puts an encoding of each item, one after another, over all of the bytes, where they have as many; or

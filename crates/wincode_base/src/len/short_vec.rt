@@ -1,5 +1,5 @@
 //! Numbers below 2 to the 16 in one to three bytes, as lengths and as values.
-ghost use Rattle.std.specs.Prelude.{◌≡◌, length, IfOk, IfErr, OnOk, MatchOption};
+ghost use Rattle.std.specs.Prelude.{◌≡◌, ◌≤◌, length, take, IfSome, IfOk, IfErr, OnOk, MatchOption};
 ghost use Rattle.wincode_io.specs.ShortNumbers.{short_encoding, BeginsShort, BeginsNoShort};
 ghost use Rattle.wincode_io.specs.Writers.{Added, BytesWriteRefused};
 ghost use Rattle.wincode_base.specs.Lengths.{LengthSizeRefused};
@@ -91,6 +91,34 @@ pub fn write_short<W: Writer>(writer: &mut W, value: u16) -> io::WriteResult<()>
     writer.write(&[low, (128 + high % 128) as u8, (high / 128) as u8])
 }
 
+/// Puts the bytes over the front of others, and gives how many they are; or answers `None`, where there are fewer.
+fn put_front(src: &[u8], dst: &mut [u8]) -> Option<usize>
+    ensures { IfSome result (λ n. (n ≤ length dst.new) × (take n dst.new ≡ src.now)) }
+{
+    let size = src.len();
+    if dst.len() < size {
+        return None;
+    }
+    dst[..size].copy_from_slice(src);
+    Some(size)
+}
+
+/// Puts a short number over the front of the bytes, and gives how many it has; or answers `None`, where there are
+/// fewer.
+fn put_short(value: u16, dst: &mut [u8]) -> Option<usize>
+    ensures { IfSome result (λ n. (n ≤ length dst.new) × (take n dst.new ≡ short_encoding value)) }
+{
+    if value < 128 {
+        return put_front(&[value as u8], dst);
+    }
+    let low = (128 + value % 128) as u8;
+    let high = value / 128;
+    if high < 128 {
+        return put_front(&[low, high as u8], dst);
+    }
+    put_front(&[low, (128 + high % 128) as u8, (high / 128) as u8], dst)
+}
+
 /// The length as a short number. A length past `u16::MAX` is `LengthEncodingOverflow`.
 pub fn short_of(len: usize) -> WriteResult<u16>
     ensures ok { IfOk result (λ n. n ≡ len) }
@@ -121,6 +149,13 @@ impl SeqLen for ShortU16 {
     fn write_bytes_needed(len: usize) -> WriteResult<usize> {
         let value = short_of(len)?;
         Ok(short_size(value))
+    }
+
+    fn encode(len: usize, dst: &mut [u8]) -> Option<usize> {
+        if len > 65535 {
+            return None;
+        }
+        put_short(len as u16, dst)
     }
 
     ghost scheme_laws = { short_scheme_laws };

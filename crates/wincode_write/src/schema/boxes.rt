@@ -33,6 +33,11 @@ impl<T: SchemaWrite> SchemaWrite for Box<T> {
         T::write::<W>(writer, src.as_ref())
     }
 
+    #[inline(always)]
+    fn encode_front(src: &Box<T::Src>, dst: &mut [u8]) -> Option<usize> {
+        T::encode_front(src.as_ref(), dst)
+    }
+
     ghost write_laws = { boxed_write_laws T.is_valid T.model (λ held. held.value) T.writing T.write_laws };
 }
 
@@ -58,6 +63,11 @@ impl<T: SchemaWrite> SchemaWrite for Rc<T> {
 
     fn write<W: Writer>(writer: &mut W, src: &Rc<T::Src>) -> WriteResult<()> {
         T::write::<W>(writer, src.as_ref())
+    }
+
+    #[inline(always)]
+    fn encode_front(src: &Rc<T::Src>, dst: &mut [u8]) -> Option<usize> {
+        T::encode_front(src.as_ref(), dst)
     }
 
     ghost write_laws = { boxed_write_laws T.is_valid T.model (λ held. held.value) T.writing T.write_laws };

@@ -6,6 +6,7 @@ ghost use Rattle.wincode_base.specs.Lists.{item_write, items_write};
 ghost use Rattle.wincode_base.specs.Outcomes.{Wrote, WriteRefused, Stopped, WriteOutcome};
 ghost use Rattle.wincode_base.specs.declared.meta.TypeMeta.TheVariants.{Dynamic};
 
+use crate::schema::runs::write_runs;
 use crate::schema::{LONGEST, SchemaWrite};
 use wincode_base::error::WriteResult;
 use wincode_base::meta::TypeMeta;
@@ -99,7 +100,7 @@ fn write_blocks<T: SchemaWrite, W: Writer>(
     Ok(())
 }
 
-/// Writes items, one after another: more than a few of one size a block at a time.
+/// Writes items, one after another: those of no one size, and more than a few of one, a block at a time.
 #[inline]
 pub(crate) fn write_many<T: SchemaWrite, W: Writer>(
     writer: &mut W,
@@ -107,10 +108,11 @@ pub(crate) fn write_many<T: SchemaWrite, W: Writer>(
 ) -> WriteResult<()>
     ensures { WriteOutcome (items_write T.writing) (W.state writer.old) (W.state writer.new) (map T.model items.now) (Each T.is_valid items.now) result }
 {
-    match short_size::<T>() {
-        Some(size) if SMALL < size && FEW < items.len() => {
+    match T::type_meta() {
+        TypeMeta::Dynamic => write_runs::<T, W>(writer, items),
+        TypeMeta::Static { size, .. } if SMALL < size && size <= LONGEST && FEW < items.len() => {
             write_blocks::<T, W>(writer, items, size, BLOCK / size)
         }
-        _ => T::write_items::<W>(writer, items),
+        TypeMeta::Static { .. } => T::write_items::<W>(writer, items),
     }
 }

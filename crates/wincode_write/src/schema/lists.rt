@@ -10,6 +10,7 @@ ghost use Rattle.wincode_base.specs.Lists.{list_write};
 ghost use Rattle.wincode_io.specs.Writers.{byte_limit};
 
 use crate::schema::SchemaWrite;
+use crate::schema::runs::encode_list;
 use crate::schema::to_items::{size_of_list, write_list};
 use std::collections::{LinkedList, VecDeque};
 use wincode_base::error::WriteResult;
@@ -39,6 +40,11 @@ impl<T: SchemaWrite> SchemaWrite for Vec<T> {
 
     fn write<W: Writer>(writer: &mut W, src: &Vec<T::Src>) -> WriteResult<()> {
         write_list::<BincodeLen<PREALLOCATION_LIMIT>, T, &[T::Src], W, 24>(writer, &src.as_slice())
+    }
+
+    #[inline]
+    fn encode_front(src: &Vec<T::Src>, dst: &mut [u8]) -> Option<usize> {
+        encode_list::<BincodeLen<PREALLOCATION_LIMIT>, T, 24>(src.as_slice(), dst)
     }
 
     ghost write_laws = { list_write_laws (bincode preallocation_limit) 24 (λ v. v.items) T.is_valid T.model T.writing T.write_laws };
@@ -127,6 +133,11 @@ impl<'a, U: 'a, T: SchemaWrite<Src = U>> SchemaWrite for &'a [T] {
             write_list::<BincodeLen<NO_LIMIT>, T, &'a [U], W, 16>(writer, item)?;
         }
         Ok(())
+    }
+
+    #[inline]
+    fn encode_front(src: &&'a [U], dst: &mut [u8]) -> Option<usize> {
+        encode_list::<BincodeLen<NO_LIMIT>, T, 16>(*src, dst)
     }
 
     fn encode(src: &&'a [U], dst: &mut [u8]) -> bool {

@@ -49,6 +49,11 @@ impl<'a, U: 'a, T: SchemaWrite<Src = U>> SchemaWrite for &'a T {
         T::encode(*src, dst)
     }
 
+    #[inline(always)]
+    fn encode_front(src: &&'a U, dst: &mut [u8]) -> Option<usize> {
+        T::encode_front(*src, dst)
+    }
+
     fn encode_items(items: &[&'a U], dst: &mut [u8]) -> bool {
         let _items = items.len();
         let _len = dst.len();

@@ -1,7 +1,7 @@
 //! Schemas of characters and of texts.
 ghost use Rattle.std.specs.Char.{IsScalar};
-ghost use Rattle.std.specs.Prelude.{◌≡◌, ℕ, ◌<◌, List, IsUtf8, string_bytes, IfOk, IfErr};
-ghost use Rattle.wincode_base.specs.Outcomes.{SizeRefused, WriteOutcome};
+ghost use Rattle.std.specs.Prelude.{◌≡◌, ℕ, ◌<◌, ◌≤◌, List, length, take, IsUtf8, string_bytes, IfSome, IfOk, IfErr};
+ghost use Rattle.wincode_base.specs.Outcomes.{SizeRefused, IsEncoded, WriteOutcome};
 ghost use Rattle.wincode_base.specs.Strings.{char_write, str_write};
 ghost use Rattle.wincode_base.specs.StringLaws.{char_write_laws, str_write_laws};
 
@@ -66,6 +66,20 @@ fn write_text<W: Writer>(writer: &mut W, text: &str) -> WriteResult<()>
     Ok(())
 }
 
+/// Puts the length of a text, and then its bytes, over the front of the bytes, where there are as many.
+#[inline(always)]
+fn encode_text(text: &str, dst: &mut [u8]) -> Option<usize>
+    ensures { IfSome result (λ n. (n ≤ length dst.new) × IsEncoded (str_write 24) text.now (take n dst.new)) }
+{
+    let size = text.len().checked_add(8)?;
+    if dst.len() < size {
+        return None;
+    }
+    dst[..8].copy_from_slice(&(text.len() as u64).to_le_bytes());
+    dst[8..size].copy_from_slice(text.as_bytes());
+    Some(size)
+}
+
 /// A `String` is how many bytes it has, and then its bytes.
 impl SchemaWrite for String {
     type Src = String;
@@ -90,6 +104,11 @@ impl SchemaWrite for String {
     #[inline(always)]
     fn write<W: Writer>(writer: &mut W, src: &String) -> WriteResult<()> {
         write_text::<W>(writer, src.as_str())
+    }
+
+    #[inline(always)]
+    fn encode_front(src: &String, dst: &mut [u8]) -> Option<usize> {
+        encode_text(src.as_str(), dst)
     }
 
     ghost write_laws = { str_write_laws 24 (λ s. IsUtf8 (string_bytes s)) (λ s. string_bytes s) };
@@ -121,6 +140,11 @@ impl<'a> SchemaWrite for &'a str {
     #[inline(always)]
     fn write<W: Writer>(writer: &mut W, src: &&'a str) -> WriteResult<()> {
         write_text::<W>(writer, *src)
+    }
+
+    #[inline(always)]
+    fn encode_front(src: &&'a str, dst: &mut [u8]) -> Option<usize> {
+        encode_text(*src, dst)
     }
 
     ghost write_laws = { str_write_laws 16 (λ s. IsUtf8 s.now) (λ s. s.now) };

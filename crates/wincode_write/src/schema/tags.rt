@@ -98,6 +98,21 @@ impl<T: SchemaWrite> SchemaWrite for Option<T> {
         write_option::<u8, T, W>(writer, src)
     }
 
+    #[inline(always)]
+    fn encode_front(src: &Option<T::Src>, dst: &mut [u8]) -> Option<usize> {
+        if dst.is_empty() {
+            return None;
+        }
+        let (tag, rest) = dst.split_at_mut(1);
+        match src {
+            None => u8::encode(&0, tag).then_some(1),
+            Some(part) => {
+                let size = T::encode_front(part, rest)?;
+                u8::encode(&1, tag).then_some(1 + size)
+            }
+        }
+    }
+
     ghost write_laws = { option_write_laws 1 T.is_valid T.model T.writing T.write_laws };
 }
 
@@ -134,6 +149,24 @@ impl<T: SchemaWrite, E: SchemaWrite> SchemaWrite for Result<T, E> {
         match src {
             Ok(value) => u32::encode(&0, tag) && T::encode(value, rest),
             Err(error) => u32::encode(&1, tag) && E::encode(error, rest),
+        }
+    }
+
+    #[inline(always)]
+    fn encode_front(src: &Result<T::Src, E::Src>, dst: &mut [u8]) -> Option<usize> {
+        if dst.len() < 4 {
+            return None;
+        }
+        let (tag, rest) = dst.split_at_mut(4);
+        match src {
+            Ok(value) => {
+                let size = T::encode_front(value, rest)?;
+                u32::encode(&0, tag).then_some(4 + size)
+            }
+            Err(error) => {
+                let size = E::encode_front(error, rest)?;
+                u32::encode(&1, tag).then_some(4 + size)
+            }
         }
     }
 

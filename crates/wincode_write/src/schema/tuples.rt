@@ -71,6 +71,13 @@ impl<A: SchemaWrite, B: SchemaWrite> SchemaWrite for Members2<A, B> {
         A::encode(&src.0, first) && B::encode(&src.1, second)
     }
 
+    #[inline(always)]
+    fn encode_front(src: &(A::Src, B::Src), dst: &mut [u8]) -> Option<usize> {
+        let first = A::encode_front(&src.0, dst)?;
+        let second = B::encode_front(&src.1, &mut dst[first..])?;
+        Some(first + second)
+    }
+
     ghost write_laws = { pair_write_laws A.write_laws B.write_laws };
 }
 
@@ -109,6 +116,11 @@ impl<'a, U: 'a, T: SchemaWrite<Src = U>> SchemaWrite for &'a Member<T> {
     #[inline(always)]
     fn encode(src: &&'a U, dst: &mut [u8]) -> bool {
         T::encode(*src, dst)
+    }
+
+    #[inline(always)]
+    fn encode_front(src: &&'a U, dst: &mut [u8]) -> Option<usize> {
+        T::encode_front(*src, dst)
     }
 
     fn encode_items(items: &[&'a U], dst: &mut [u8]) -> bool {
@@ -209,6 +221,11 @@ impl<A: SchemaWrite, B: SchemaWrite> SchemaWrite for (A, B) {
     #[inline(always)]
     fn encode(src: &Self::Src, dst: &mut [u8]) -> bool {
         <Members2<A, B> as SchemaWrite>::encode(src, dst)
+    }
+
+    #[inline(always)]
+    fn encode_front(src: &Self::Src, dst: &mut [u8]) -> Option<usize> {
+        <Members2<A, B> as SchemaWrite>::encode_front(src, dst)
     }
 
     ghost write_laws = { write_laws_by (λ t. (t.0, t.1))
