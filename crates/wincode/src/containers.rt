@@ -34,6 +34,7 @@ use wincode_base::meta::TypeMeta;
 pub use wincode_base::parts::Pod;
 use wincode_read::Told;
 use wincode_read::schema::from_items::get_list;
+use wincode_write::schema::runs::encode_list;
 use wincode_write::schema::to_items::{size_of_list, write_list};
 
 /// A `Vec` behind such a length.
@@ -60,6 +61,11 @@ impl<T: SchemaWrite, Len: SeqLen> SchemaWrite for Vec<T, Len> {
 
     fn write<W: Writer>(writer: &mut W, src: &vec::Vec<T::Src>) -> WriteResult<()> {
         write_list::<Len, T, &[T::Src], W, 24>(writer, &src.as_slice())
+    }
+
+    #[inline]
+    fn encode_front(src: &vec::Vec<T::Src>, dst: &mut [u8]) -> option::Option<usize> {
+        encode_list::<Len, T, 24>(src.as_slice(), dst)
     }
 
     ghost write_laws = { list_write_laws Len.scheme 24 (λ v. v.items) T.is_valid T.model T.writing T.write_laws };
@@ -200,6 +206,11 @@ impl<T: SchemaWrite, Len: SeqLen> SchemaWrite for BoxedSlice<T, Len> {
         write_list::<Len, T, &[T::Src], W, 16>(writer, &src.as_slice())
     }
 
+    #[inline]
+    fn encode_front(src: &boxed::BoxedSlice<T::Src>, dst: &mut [u8]) -> option::Option<usize> {
+        encode_list::<Len, T, 16>(src.as_slice(), dst)
+    }
+
     ghost write_laws = { list_write_laws Len.scheme 16 (λ b. (boxed_slice_items b)) T.is_valid T.model T.writing T.write_laws };
 }
 
@@ -267,6 +278,11 @@ impl<T: SchemaWrite, Len: SeqLen> SchemaWrite for RcSlice<T, Len> {
 
     fn write<W: Writer>(writer: &mut W, src: &rc::RcSlice<T::Src>) -> WriteResult<()> {
         write_list::<Len, T, &[T::Src], W, 16>(writer, &src.as_slice())
+    }
+
+    #[inline]
+    fn encode_front(src: &rc::RcSlice<T::Src>, dst: &mut [u8]) -> option::Option<usize> {
+        encode_list::<Len, T, 16>(src.as_slice(), dst)
     }
 
     ghost write_laws = { list_write_laws Len.scheme 16 (λ r. (rc_slice_items r)) T.is_valid T.model T.writing T.write_laws };
@@ -424,6 +440,11 @@ impl<T: SchemaWrite> SchemaWrite for Elem<T> {
     #[inline(always)]
     fn encode(src: &T::Src, dst: &mut [u8]) -> bool {
         T::encode(src, dst)
+    }
+
+    #[inline(always)]
+    fn encode_front(src: &T::Src, dst: &mut [u8]) -> option::Option<usize> {
+        T::encode_front(src, dst)
     }
 
     #[inline(always)]

@@ -1,9 +1,11 @@
-//! Lists of items that are decoded from the bytes at hand, beside the same items that are read one by one.
+//! Lists of items that are decoded from the bytes at hand, and of items that are put together before they are written,
+//! beside the same items that are read and written one by one.
 
 use std::alloc::Global;
 use std::test::Fail;
-use wincode::io::Lifetime;
-use wincode::{RoundTrip, containers};
+use wincode::io::{Lifetime, SliceWriter};
+use wincode::len::ShortU16Len;
+use wincode::{RoundTrip, SchemaWrite, containers};
 use wincode_tests::single::Single;
 use wincode_uses::rewriting::rewrite;
 
@@ -216,5 +218,98 @@ fn results_are_read_alike(rt: HostRuntime) -> Result<(), Fail> {
     let rows = all.as_slice();
     assert!(rt; are_alike::<Vec<Sides>, Vec<SidesApart>>(alloc, rows)?);
     assert!(rt; are_alike::<Vec<[Sides; 2]>, Vec<[SidesApart; 2]>>(alloc, rows)?);
+    Ok(())
+}
+
+/// What writing the value into so many bytes answers: what was written, and the error.
+fn written_into<T: SchemaWrite>(
+    alloc: Global,
+    value: &T::Src,
+    room: usize,
+) -> Result<(Vec<u8>, String), Fail> {
+    let mut bytes = vec![in alloc; 0u8; room]?;
+    let mut writer = SliceWriter::new(bytes.as_mut_slice());
+    let outcome = T::write(&mut writer, value);
+    let written = Vec::from_slice(alloc, writer.written())?;
+    match outcome {
+        Ok(()) => Ok((written, String::new(alloc))),
+        Err(error) => Ok((written, format!(in alloc; "{error:?}")?)),
+    }
+}
+
+/// Whether both write the value alike into each room up to that of its encoding and one byte more, and into a vector
+/// without room at hand.
+fn are_written_alike<U, T: SchemaWrite<Src = U>, S: SchemaWrite<Src = U>>(
+    alloc: Global,
+    value: &U,
+) -> Result<bool, Fail> {
+    let mut bytes = Vec::new(alloc);
+    T::write(&mut bytes, value)?;
+    let mut apart = Vec::new(alloc);
+    S::write(&mut apart, value)?;
+    if bytes != apart {
+        return Ok(false);
+    }
+    for room in 0..bytes.len() + 2 {
+        let one = written_into::<T>(alloc, value, room)?;
+        let other = written_into::<S>(alloc, value, room)?;
+        if one.0 != other.0 || one.1 != other.1 {
+            return Ok(false);
+        }
+    }
+    Ok(true)
+}
+
+/// So many texts of 0 to 6 bytes.
+fn texts_of(alloc: Global, count: usize) -> Result<Vec<String>, Fail> {
+    let mut texts = Vec::new(alloc);
+    for i in 0..count {
+        let letters = "quicker";
+        texts.push(String::from_str(alloc, &letters[..i % 7])?)?;
+    }
+    Ok(texts)
+}
+
+/// Texts and lists, in what holds them.
+#[test]
+fn items_of_no_one_size_are_written_alike(rt: HostRuntime) -> Result<(), Fail> {
+    let alloc = rt.alloc();
+    let all = lists_of(alloc, &[2, 0, 0, 0, 0, 0, 0, 0, 104, 105])?;
+    let rows = all.as_slice();
+    assert!(rt; are_alike::<Vec<String>, Vec<Single<String>>>(alloc, rows)?);
+    assert!(rt; are_alike::<Vec<Vec<u8>>, Vec<Single<Vec<u8>>>>(alloc, rows)?);
+    assert!(rt; are_alike::<Vec<Box<String>>, Vec<Single<Box<String>>>>(alloc, rows)?);
+    let all = lists_of(alloc, &[1, 1, 0, 0, 0, 0, 0, 0, 0, 7])?;
+    let rows = all.as_slice();
+    assert!(rt; are_alike::<Vec<(bool, String)>, Vec<(Flag, Single<String>)>>(alloc, rows)?);
+    assert!(rt; are_alike::<Vec<Option<String>>, Vec<Single<Option<String>>>>(alloc, rows)?);
+    let all = lists_of(alloc, &[0, 0, 0, 0, 9, 1, 0, 0, 0, 2, 0, 0, 0, 0, 0, 0, 0, 7, 8])?;
+    let rows = all.as_slice();
+    assert!(rt;
+        are_alike::<Vec<Result<u8, Vec<u8>>>, Vec<Single<Result<u8, Vec<u8>>>>>(alloc, rows)?
+    );
+    let all = lists_of(alloc, &[2, 7, 8])?;
+    let rows = all.as_slice();
+    assert!(rt;
+        are_alike::<
+            Vec<containers::Vec<u8, ShortU16Len>>,
+            Vec<Single<containers::Vec<u8, ShortU16Len>>>,
+        >(alloc, rows)?
+    );
+    Ok(())
+}
+
+/// Into each room.
+#[test]
+fn items_of_no_one_size_are_refused_alike(rt: HostRuntime) -> Result<(), Fail> {
+    let alloc = rt.alloc();
+    for count in [0, 1, 2, 33, 100] {
+        let texts = texts_of(alloc, count)?;
+        assert!(rt; are_written_alike::<_, Vec<String>, Vec<Single<String>>>(alloc, &texts)?);
+    }
+    let nested = vec![in alloc; texts_of(alloc, 3)?, texts_of(alloc, 90)?, texts_of(alloc, 1)?]?;
+    assert!(rt;
+        are_written_alike::<_, Vec<Vec<String>>, Vec<Single<Vec<Single<String>>>>>(alloc, &nested)?
+    );
     Ok(())
 }

@@ -94,6 +94,11 @@ pair_in_front g h v w a n k old part first behind = (
   ((first.1.0, behind.1.0), (take a old, take n part, first.1.1, behind.1.1, front_more a k n old part first.0 behind.0)),
 )
 
+-- ---- a tag of k bytes, and then what it names
+
+pub tag_in_front : (k tag a n j : ℕ) (old part : List ℕ) → (a ≤ length old) × (take a old ≡ le k tag) → n ≤ length part → (a + n ≤ length (put_mid a j old part)) × (take (a + n) (put_mid a j old part) ≡ le k tag ++ take n part)
+tag_in_front k tag a n j old part first behind = (within_put a j n old part first.0 behind, front_more a j n old part first.0 behind ∙ ap (λ x. x ++ take n part) first.1)
+
 -- ---- texts
 
 pub text_in_front : (v encoding text rest : List ℕ) (prealloc size k : ℕ) → encoding ≡ to_le_bytes w64 (length v) → text ≡ v → size ≡ length v + 8 → length v < 2 ^ 64

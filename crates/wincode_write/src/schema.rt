@@ -16,7 +16,7 @@ mod lists;
 mod maps;
 mod pod;
 mod references;
-mod runs;
+pub mod runs;
 mod short;
 mod strings;
 pub mod tags;

@@ -10,6 +10,7 @@ ghost use Rattle.wincode_base.specs.PairLaws.{windowed_write_laws};
 
 use crate::schema::SchemaWrite;
 use crate::schema::in_window::write_in_window;
+use crate::schema::runs::encode_each;
 use crate::schema::to_items::{add_sizes, write_each};
 use wincode_base::error::WriteResult;
 use wincode_base::meta::TypeMeta;
@@ -52,6 +53,11 @@ impl<T: SchemaWrite, const N: usize> SchemaWrite for Items<T, N> {
         T::encode_items(src.as_slice(), dst)
     }
 
+    #[inline(always)]
+    fn encode_front(src: &[T::Src; N], dst: &mut [u8]) -> Option<usize> {
+        encode_each::<T>(src.as_slice(), dst)
+    }
+
     ghost write_laws = { array_write_laws N T.is_valid T.model T.writing T.write_laws };
 }
 
@@ -89,6 +95,11 @@ impl<T: SchemaWrite, const N: usize> SchemaWrite for [T; N] {
     #[inline(always)]
     fn encode(src: &[T::Src; N], dst: &mut [u8]) -> bool {
         <Items<T, N> as SchemaWrite>::encode(src, dst)
+    }
+
+    #[inline(always)]
+    fn encode_front(src: &[T::Src; N], dst: &mut [u8]) -> Option<usize> {
+        <Items<T, N> as SchemaWrite>::encode_front(src, dst)
     }
 
     #[inline(always)]

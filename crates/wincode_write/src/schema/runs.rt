@@ -33,7 +33,7 @@ fn encode_first<T: SchemaWrite>(items: &[T::Src], dst: &mut [u8]) -> (usize, usi
 /// Puts an encoding of each item, one after another, over the front of the bytes, and gives how many they have; or
 /// answers `None`.
 #[inline(always)]
-fn encode_each<T: SchemaWrite>(items: &[T::Src], dst: &mut [u8]) -> Option<usize>
+pub(crate) fn encode_each<T: SchemaWrite>(items: &[T::Src], dst: &mut [u8]) -> Option<usize>
     ensures { IfSome result (λ n. (n ≤ length dst.new) × IsEncoded (items_write T.writing) (map T.model items.now) (take n dst.new) × Each T.is_valid items.now) }
 {
     if let TypeMeta::Static { size, .. } = T::type_meta() {
@@ -53,7 +53,7 @@ fn encode_each<T: SchemaWrite>(items: &[T::Src], dst: &mut [u8]) -> Option<usize
 /// Puts the length of a list, and then its items, over the front of the bytes, and gives how many they have; or answers
 /// `None`.
 #[inline]
-pub(crate) fn encode_list<Len: SeqLen, T: SchemaWrite, const COUNT: usize>(
+pub fn encode_list<Len: SeqLen, T: SchemaWrite, const COUNT: usize>(
     items: &[T::Src],
     dst: &mut [u8],
 ) -> Option<usize>

@@ -100,15 +100,12 @@ impl<T: SchemaWrite> SchemaWrite for Option<T> {
 
     #[inline(always)]
     fn encode_front(src: &Option<T::Src>, dst: &mut [u8]) -> Option<usize> {
-        if dst.is_empty() {
-            return None;
-        }
-        let (tag, rest) = dst.split_at_mut(1);
         match src {
-            None => u8::encode(&0, tag).then_some(1),
+            None => u8::encode_front(&0, dst),
             Some(part) => {
-                let size = T::encode_front(part, rest)?;
-                u8::encode(&1, tag).then_some(1 + size)
+                let tag = u8::encode_front(&1, dst)?;
+                let size = T::encode_front(part, &mut dst[tag..])?;
+                Some(tag + size)
             }
         }
     }
@@ -154,18 +151,16 @@ impl<T: SchemaWrite, E: SchemaWrite> SchemaWrite for Result<T, E> {
 
     #[inline(always)]
     fn encode_front(src: &Result<T::Src, E::Src>, dst: &mut [u8]) -> Option<usize> {
-        if dst.len() < 4 {
-            return None;
-        }
-        let (tag, rest) = dst.split_at_mut(4);
         match src {
             Ok(value) => {
-                let size = T::encode_front(value, rest)?;
-                u32::encode(&0, tag).then_some(4 + size)
+                let tag = u32::encode_front(&0, dst)?;
+                let size = T::encode_front(value, &mut dst[tag..])?;
+                Some(tag + size)
             }
             Err(error) => {
-                let size = E::encode_front(error, rest)?;
-                u32::encode(&1, tag).then_some(4 + size)
+                let tag = u32::encode_front(&1, dst)?;
+                let size = E::encode_front(error, &mut dst[tag..])?;
+                Some(tag + size)
             }
         }
     }
