@@ -108,3 +108,34 @@ fn buffers_by_function(rt: HostRuntime) -> Result<(), Fail> {
     assert_eq!(rt; vector.as_slice(), [1u8, 0, 3].as_slice());
     Ok(())
 }
+
+/// What a writer has room for before it needs memory; of one with a device none is known.
+#[test]
+fn room_is_at_hand(rt: HostRuntime) -> Result<(), Fail> {
+    let mut vector: Vec<u8> = Vec::with_capacity(rt.alloc(), 9)?;
+    assert_eq!(rt; vector.room_at_hand(), 9);
+    vector.write(&[1, 2])?;
+    assert_eq!(rt; vector.room_at_hand(), 7);
+    let mut window = WriteWindow::new(&mut vector, 5);
+    window.write(&[3])?;
+    assert_eq!(rt; window.room_at_hand(), 4);
+    let cursor = Cursor::new_at(vector, 4);
+    assert_eq!(rt; cursor.room_at_hand(), 5);
+    let mut vector = cursor.into_inner();
+    let cursor = Cursor::new_at(&mut vector, 10);
+    assert_eq!(rt; cursor.room_at_hand(), 0);
+    let mut slice = [0u8; 4];
+    let mut writer = SliceWriter::new(&mut slice);
+    writer.write(&[1])?;
+    assert_eq!(rt; writer.room_at_hand(), 3);
+    let mut at = 1usize;
+    let writer = TrustedSliceWriter::new(&mut slice, &mut at, 2);
+    assert_eq!(rt; writer.room_at_hand(), 2);
+    let cursor = Cursor::new_at(&mut slice, 3);
+    assert_eq!(rt; cursor.room_at_hand(), 1);
+    let cursor = Cursor::new_at(slice.as_mut_slice(), 5);
+    assert_eq!(rt; cursor.room_at_hand(), 0);
+    let device = Counted::new(Vec::new(rt.alloc()), 1);
+    assert_eq!(rt; device.room_at_hand(), 0);
+    Ok(())
+}

@@ -1,5 +1,5 @@
 -- Encodings that are put, one after another, over the front of a list of bytes.
-use Rattle.std.proofs.Common.{◌≡◌, ◌∙◌, sym, ap, subst, ℕ, ◌+◌, ◌<◌, ◌≤◌, ◌^◌, List, [], ◌∷◌, ◌++◌, length, map, take, drop, get_or, refl, arith, Some, w64, length-append, length-take-le, take-append-drop}
+use Rattle.std.proofs.Common.{◌≡◌, ◌∙◌, sym, ap, subst, ℕ, ◌+◌, ◌<◌, ◌≤◌, ◌^◌, List, ◌++◌, length, map, take, drop, get_or, refl, arith, Some, w64, length-append, length-take-le, take-append-drop}
 use Rattle.std.specs.Int.{to_le_bytes}
 use Rattle.std.proofs.lemmas.List.{take_all, take_at, take-append-le, length-map}
 use Rattle.std.proofs.lemmas.Slice.{take-put_mid, take-put_mid_below}

@@ -11,6 +11,9 @@ use wincode_base::len::SeqLen;
 use wincode_base::meta::TypeMeta;
 use wincode_io::Writer;
 
+/// How many items go as their schema writes them, once two that follow each other were not put together.
+const APART: usize = 64;
+
 /// Puts encodings of the first items, one after another, over the front of the bytes, up to one that isn't put there;
 /// gives how many items these are, and how many bytes.
 #[inline(always)]
@@ -74,17 +77,20 @@ pub(crate) fn write_runs<T: SchemaWrite, W: Writer>(
 {
     let mut block = [0; BLOCK];
     let mut rest = items;
+    let mut apart = 1;
     while !rest.is_empty() {
         let room = writer.room_at_hand().min(BLOCK);
         let (count, filled) = encode_first::<T>(rest, &mut block[..room]);
         if count == 0 {
-            let (first, more) = rest.split_at(1);
-            T::write_items::<W>(writer, first)?;
+            let (run, more) = rest.split_at(rest.len().min(apart));
+            T::write_items::<W>(writer, run)?;
             rest = more;
+            apart = APART;
         } else {
             writer.write_ready(&block[..filled]);
             let (_written, more) = rest.split_at(count);
             rest = more;
+            apart = 1;
         }
     }
     Ok(())

@@ -9,10 +9,16 @@ ghost use Rattle.wincode_base.specs.Outcomes.{IsSized, IsEncoded, SizeRefused, W
 ghost use Rattle.wincode_base.specs.PairLaws.{pair_write_laws, write_laws_by, windowed_write_laws};
 ghost use Rattle.wincode_base.specs.Pairs.{pair_write};
 
+mod fronts;
 mod longer;
 
 use crate::schema::SchemaWrite;
 use crate::schema::in_window::write_in_window;
+pub use crate::schema::tuples::fronts::{
+    encode_front_members_2, encode_front_members_3, encode_front_members_4, encode_front_members_5,
+    encode_front_members_6, encode_front_members_7, encode_front_members_8, encode_front_members_9,
+    encode_front_members_10, encode_front_members_11, encode_front_members_12,
+};
 pub use crate::schema::tuples::longer::{
     encode_members_9, encode_members_10, encode_members_11, encode_members_12, size_of_members_9,
     size_of_members_10, size_of_members_11, size_of_members_12, write_members_9, write_members_10,
@@ -225,7 +231,7 @@ impl<A: SchemaWrite, B: SchemaWrite> SchemaWrite for (A, B) {
 
     #[inline(always)]
     fn encode_front(src: &Self::Src, dst: &mut [u8]) -> Option<usize> {
-        <Members2<A, B> as SchemaWrite>::encode_front(src, dst)
+        encode_front_members_2::<A, B>(&src.0, &src.1, dst)
     }
 
     ghost write_laws = { write_laws_by (λ t. (t.0, t.1))
@@ -327,6 +333,11 @@ impl<A: SchemaWrite, B: SchemaWrite, C: SchemaWrite> SchemaWrite for (A, B, C) {
     #[inline(always)]
     fn encode(src: &Self::Src, dst: &mut [u8]) -> bool {
         encode_members_3::<A, B, C>(&src.0, &src.1, &src.2, dst)
+    }
+
+    #[inline(always)]
+    fn encode_front(src: &Self::Src, dst: &mut [u8]) -> Option<usize> {
+        encode_front_members_3::<A, B, C>(&src.0, &src.1, &src.2, dst)
     }
 
     ghost write_laws = { write_laws_by (λ t. (t.0, (t.1, t.2)))
@@ -431,6 +442,11 @@ impl<A: SchemaWrite, B: SchemaWrite, C: SchemaWrite, D: SchemaWrite> SchemaWrite
     #[inline(always)]
     fn encode(src: &Self::Src, dst: &mut [u8]) -> bool {
         encode_members_4::<A, B, C, D>(&src.0, &src.1, &src.2, &src.3, dst)
+    }
+
+    #[inline(always)]
+    fn encode_front(src: &Self::Src, dst: &mut [u8]) -> Option<usize> {
+        encode_front_members_4::<A, B, C, D>(&src.0, &src.1, &src.2, &src.3, dst)
     }
 
     ghost write_laws = { write_laws_by (λ t. (t.0, (t.1, (t.2, t.3))))
@@ -548,6 +564,11 @@ impl<A: SchemaWrite, B: SchemaWrite, C: SchemaWrite, D: SchemaWrite, E: SchemaWr
     #[inline(always)]
     fn encode(src: &Self::Src, dst: &mut [u8]) -> bool {
         encode_members_5::<A, B, C, D, E>(&src.0, &src.1, &src.2, &src.3, &src.4, dst)
+    }
+
+    #[inline(always)]
+    fn encode_front(src: &Self::Src, dst: &mut [u8]) -> Option<usize> {
+        encode_front_members_5::<A, B, C, D, E>(&src.0, &src.1, &src.2, &src.3, &src.4, dst)
     }
 
     ghost write_laws = { write_laws_by (λ t. (t.0, (t.1, (t.2, (t.3, t.4)))))
@@ -696,6 +717,13 @@ impl<
     #[inline(always)]
     fn encode(src: &Self::Src, dst: &mut [u8]) -> bool {
         encode_members_6::<A, B, C, D, E, F>(&src.0, &src.1, &src.2, &src.3, &src.4, &src.5, dst)
+    }
+
+    #[inline(always)]
+    fn encode_front(src: &Self::Src, dst: &mut [u8]) -> Option<usize> {
+        encode_front_members_6::<A, B, C, D, E, F>(
+            &src.0, &src.1, &src.2, &src.3, &src.4, &src.5, dst,
+        )
     }
 
     ghost write_laws = { write_laws_by (λ t. (t.0, (t.1, (t.2, (t.3, (t.4, t.5))))))
@@ -901,6 +929,13 @@ impl<
                 (&src.1, (&src.2, (&src.3, (&src.4, (&src.5, &src.6))))),
             ),
             dst,
+        )
+    }
+
+    #[inline(always)]
+    fn encode_front(src: &Self::Src, dst: &mut [u8]) -> Option<usize> {
+        encode_front_members_7::<A, B, C, D, E, F, G>(
+            &src.0, &src.1, &src.2, &src.3, &src.4, &src.5, &src.6, dst,
         )
     }
 
@@ -1143,6 +1178,13 @@ impl<
                 ),
             ),
             dst,
+        )
+    }
+
+    #[inline(always)]
+    fn encode_front(src: &Self::Src, dst: &mut [u8]) -> Option<usize> {
+        encode_front_members_8::<A, B, C, D, E, F, G, H>(
+            &src.0, &src.1, &src.2, &src.3, &src.4, &src.5, &src.6, &src.7, dst,
         )
     }
 

@@ -7,6 +7,10 @@ ghost use Rattle.wincode_base.specs.PairLaws.{write_laws_by, windowed_write_laws
 use super::size_of_members_8;
 use crate::schema::SchemaWrite;
 use crate::schema::in_window::write_in_window;
+use crate::schema::tuples::fronts::{
+    encode_front_members_9, encode_front_members_10, encode_front_members_11,
+    encode_front_members_12,
+};
 use wincode_base::error::WriteResult;
 use wincode_base::meta::TypeMeta;
 use wincode_base::parts::{Member, Members9, Members10, Members11, Members12};
@@ -270,6 +274,13 @@ impl<
                 ),
             ),
             dst,
+        )
+    }
+
+    #[inline(always)]
+    fn encode_front(src: &Self::Src, dst: &mut [u8]) -> Option<usize> {
+        encode_front_members_9::<A, B, C, D, E, F, G, H, I>(
+            &src.0, &src.1, &src.2, &src.3, &src.4, &src.5, &src.6, &src.7, &src.8, dst,
         )
     }
 
@@ -556,6 +567,13 @@ impl<
                 ),
             ),
             dst,
+        )
+    }
+
+    #[inline(always)]
+    fn encode_front(src: &Self::Src, dst: &mut [u8]) -> Option<usize> {
+        encode_front_members_10::<A, B, C, D, E, F, G, H, I, J>(
+            &src.0, &src.1, &src.2, &src.3, &src.4, &src.5, &src.6, &src.7, &src.8, &src.9, dst,
         )
     }
 
@@ -865,6 +883,14 @@ impl<
                 ),
             ),
             dst,
+        )
+    }
+
+    #[inline(always)]
+    fn encode_front(src: &Self::Src, dst: &mut [u8]) -> Option<usize> {
+        encode_front_members_11::<A, B, C, D, E, F, G, H, I, J, K>(
+            &src.0, &src.1, &src.2, &src.3, &src.4, &src.5, &src.6, &src.7, &src.8, &src.9,
+            &src.10, dst,
         )
     }
 
@@ -1203,6 +1229,14 @@ impl<
                 ),
             ),
             dst,
+        )
+    }
+
+    #[inline(always)]
+    fn encode_front(src: &Self::Src, dst: &mut [u8]) -> Option<usize> {
+        encode_front_members_12::<A, B, C, D, E, F, G, H, I, J, K, M>(
+            &src.0, &src.1, &src.2, &src.3, &src.4, &src.5, &src.6, &src.7, &src.8, &src.9,
+            &src.10, &src.11, dst,
         )
     }
 
