@@ -26,6 +26,8 @@ struct Needs {
     members: u16,
     /// Which numbers of fields structs have that may have one size.
     plain: u16,
+    /// The same, of those structs whose values may differ in size.
+    fronts: u16,
 }
 
 /// The laws of the order of a struct, and of its `==`.
@@ -102,6 +104,22 @@ fn with_cases(needs: Needs, declaration: &Declaration, cases: &Cases) -> Needs {
     all
 }
 
+/// The needs with those of how a struct is put together.
+fn with_encoding(needs: Needs, of: (&Declaration, &Fields)) -> Needs {
+    let (declaration, fields) = of;
+    let bits = bits_of(fields.fields.len());
+    let mut all = needs;
+    if declaration.generics.lifetime.is_some() {
+        return all;
+    }
+    if has_plain(fields) {
+        all.plain |= bits;
+    } else {
+        all.fronts |= bits;
+    }
+    all
+}
+
 /// What all declarations need.
 fn needs_of(alloc: Global, declarations: &[Declaration]) -> DeriveResult<Needs> {
     let mut needs = Needs {
@@ -113,6 +131,7 @@ fn needs_of(alloc: Global, declarations: &[Declaration]) -> DeriveResult<Needs> 
         sides: false,
         members: 0,
         plain: 0,
+        fronts: 0,
     };
     for declaration in declarations {
         match &declaration.shape {
@@ -125,12 +144,7 @@ fn needs_of(alloc: Global, declarations: &[Declaration]) -> DeriveResult<Needs> 
                 let is_lent_key = is_lent_key(alloc, declaration, fields)?;
                 needs.keys = needs.keys || is_lent_key || is_key(declaration, fields);
                 needs.key_bounds = needs.key_bounds || (is_key(declaration, fields) && !is_lawful);
-                let is_plain = !is_lent && has_plain(fields);
-                needs.plain |= if is_plain {
-                    bits_of(fields.fields.len())
-                } else {
-                    0
-                };
+                needs = with_encoding(needs, (declaration, fields));
             }
             DeclaredShape::Enum(cases) => needs = with_cases(needs, declaration, cases),
         }
@@ -295,6 +309,7 @@ fn add_members(
 /// Appends the import of the functions of members.
 fn put_members(alloc: Global, out: &mut String, needs: Needs) -> DeriveResult<()> {
     let mut names = Vec::new(alloc);
+    add_members(alloc, &mut names, "encode_front", needs.fronts)?;
     add_members(alloc, &mut names, "encode", needs.plain)?;
     add_members(alloc, &mut names, "size_of", needs.members)?;
     add_members(alloc, &mut names, "write", needs.members)?;

@@ -39,6 +39,12 @@ const ENCODING: &str = "    #[inline(always)]
 
 ";
 
+const FRONT: &str = "    #[inline(always)]
+    fn encode_front(src: &@src@, dst: &mut [u8]) -> Option<usize> {
+@front@    }
+
+";
+
 const REST: &str = "
 /// The fields from the @place@th on.
 struct @self@;
@@ -734,13 +740,14 @@ pub fn set_calls(
     let size = ("size_of", "");
     let write = ("write", "W");
     let encode = ("encode", "");
+    let front = ("encode_front", "");
     words.set("size", call_of(alloc, size, (&[], &[]), of)?)?;
     words.set("write", call_of(alloc, write, (&["writer"], &[]), of)?)?;
     words.set("encode", call_of(alloc, encode, (&[], &["dst"]), of)?)?;
+    words.set("front", call_of(alloc, front, (&[], &["dst"]), of)?)?;
     let mut encoding = String::new(alloc);
-    if is_plain {
-        fill(&mut encoding, ENCODING, words)?;
-    }
+    let template = if is_plain { ENCODING } else { FRONT };
+    fill(&mut encoding, template, words)?;
     words.set("encoding", encoding)
 }
 

@@ -5,7 +5,8 @@ use super::*;
 use std::alloc::Global;
 use wincode::io::{Lending, Reader, Writer};
 use wincode::schema::tuples::{
-    size_of_members_3, size_of_members_4, write_members_3, write_members_4,
+    encode_front_members_3, encode_front_members_4, size_of_members_3, size_of_members_4,
+    write_members_3, write_members_4,
 };
 use wincode::{
     OneText, ReadResult, RoundTrip, SchemaGet, SchemaRead, SchemaReadOwned, SchemaWrite, TypeMeta,
@@ -39,6 +40,13 @@ impl SchemaWrite for Note {
     fn write<W: Writer>(writer: &mut W, src: &Note) -> WriteResult<()> {
         write_members_3::<u64, String, containers::Vec<u8, ShortU16Len>, W>(
             writer, &src.id, &src.text, &src.marks,
+        )
+    }
+
+    #[inline(always)]
+    fn encode_front(src: &Note, dst: &mut [u8]) -> Option<usize> {
+        encode_front_members_3::<u64, String, containers::Vec<u8, ShortU16Len>>(
+            &src.id, &src.text, &src.marks, dst,
         )
     }
 
@@ -141,6 +149,17 @@ impl SchemaWrite for Order {
             &src.paid,
             &src.note,
             &src.items,
+        )
+    }
+
+    #[inline(always)]
+    fn encode_front(src: &Order, dst: &mut [u8]) -> Option<usize> {
+        encode_front_members_4::<u32, bool, Option<Note>, Vec<Note>>(
+            &src.number,
+            &src.paid,
+            &src.note,
+            &src.items,
+            dst,
         )
     }
 

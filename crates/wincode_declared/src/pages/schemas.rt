@@ -7,8 +7,8 @@ use std::alloc::Global;
 use wincode::io::{Lending, Reader, Writer};
 use wincode::len::SeqLen;
 use wincode::schema::tuples::{
-    encode_members_2, size_of_members_2, size_of_members_3, size_of_members_5, write_members_2,
-    write_members_3, write_members_5,
+    encode_front_members_3, encode_front_members_5, encode_members_2, size_of_members_2,
+    size_of_members_3, size_of_members_5, write_members_2, write_members_3, write_members_5,
 };
 use wincode::{
     Key, OneText, ReadResult, RoundTrip, SchemaGet, SchemaRead, SchemaReadOwned, SchemaWrite,
@@ -222,6 +222,24 @@ impl<T: SchemaWrite> SchemaWrite for Page<T> {
             &src.others,
             &src.both,
             &src.named,
+        )
+    }
+
+    #[inline(always)]
+    fn encode_front(src: &Page<T::Src>, dst: &mut [u8]) -> Option<usize> {
+        encode_front_members_5::<
+            Vec<T>,
+            Option<u64>,
+            containers::Vec<Option<T>, ShortU16Len>,
+            (T, u8),
+            BTreeMap<u32, T>,
+        >(
+            &src.items,
+            &src.next,
+            &src.others,
+            &src.both,
+            &src.named,
+            dst,
         )
     }
 
@@ -512,6 +530,15 @@ impl SchemaWrite for Shelf {
             Option<Alone<Pair<Note, bool>>>,
             W,
         >(writer, &src.pages, &src.first, &src.last)
+    }
+
+    #[inline(always)]
+    fn encode_front(src: &Shelf, dst: &mut [u8]) -> Option<usize> {
+        encode_front_members_3::<
+            Vec<Page<Note>>,
+            Pair<u8, Page<String>>,
+            Option<Alone<Pair<Note, bool>>>,
+        >(&src.pages, &src.first, &src.last, dst)
     }
 
     ghost write_laws = { write_laws_by (λ x. (x.pages, x.first, x.last)) ⟦<ShelfFields as SchemaWrite>⟧.write_laws };

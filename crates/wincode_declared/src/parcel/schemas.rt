@@ -7,7 +7,7 @@ use super::*;
 use std::alloc::Global;
 use wincode::io::{Lending, Reader, Writer};
 use wincode::schema::tuples::{
-    size_of_members_2, size_of_members_8, write_members_2, write_members_8,
+    encode_front_members_8, size_of_members_2, size_of_members_8, write_members_2, write_members_8,
 };
 use wincode::{
     OneText, ReadResult, RoundTrip, SchemaGet, SchemaRead, SchemaReadOwned, SchemaWrite, TypeMeta,
@@ -86,6 +86,30 @@ impl SchemaWrite for Parcel {
             &src.seal,
             &src.letter,
             &src.weight,
+        )
+    }
+
+    #[inline(always)]
+    fn encode_front(src: &Parcel, dst: &mut [u8]) -> Option<usize> {
+        encode_front_members_8::<
+            Vec<Order>,
+            Option<Event>,
+            Box<Signal>,
+            Result<u8, String>,
+            (i32, i32),
+            [u8; 4],
+            char,
+            usize,
+        >(
+            &src.orders,
+            &src.event,
+            &src.signal,
+            &src.outcome,
+            &src.place,
+            &src.seal,
+            &src.letter,
+            &src.weight,
+            dst,
         )
     }
 

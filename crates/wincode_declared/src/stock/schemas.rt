@@ -7,8 +7,8 @@ use super::*;
 use std::alloc::Global;
 use wincode::io::{Lending, Reader, Writer};
 use wincode::schema::tuples::{
-    encode_members_2, size_of_members_2, size_of_members_3, size_of_members_5, write_members_2,
-    write_members_3, write_members_5,
+    encode_front_members_3, encode_front_members_5, encode_members_2, size_of_members_2,
+    size_of_members_3, size_of_members_5, write_members_2, write_members_3, write_members_5,
 };
 use wincode::{
     Key, OneText, ReadResult, RoundTrip, SchemaGet, SchemaRead, SchemaReadOwned, SchemaWrite,
@@ -225,6 +225,24 @@ impl SchemaWrite for Stock {
         )
     }
 
+    #[inline(always)]
+    fn encode_front(src: &Stock, dst: &mut [u8]) -> Option<usize> {
+        encode_front_members_5::<
+            BTreeMap<String, Note>,
+            HashMap<u64, u32>,
+            BTreeSet<Place>,
+            HashSet<String>,
+            BinaryHeap<u32>,
+        >(
+            &src.by_name,
+            &src.counts,
+            &src.places,
+            &src.tags,
+            &src.waiting,
+            dst,
+        )
+    }
+
     ghost write_laws = { write_laws_by (λ x. (x.by_name, x.counts, x.places, x.tags, x.waiting)) ⟦<StockFields as SchemaWrite>⟧.write_laws };
 }
 
@@ -339,6 +357,15 @@ impl SchemaWrite for Depot {
             Option<HashMap<(u8, char), Vec<Stock>>>,
             W,
         >(writer, &src.stocks, &src.by_place, &src.last)
+    }
+
+    #[inline(always)]
+    fn encode_front(src: &Depot, dst: &mut [u8]) -> Option<usize> {
+        encode_front_members_3::<
+            Vec<Stock>,
+            BTreeMap<Place, Stock>,
+            Option<HashMap<(u8, char), Vec<Stock>>>,
+        >(&src.stocks, &src.by_place, &src.last, dst)
     }
 
     ghost write_laws = { write_laws_by (λ x. (x.stocks, x.by_place, x.last)) ⟦<DepotFields as SchemaWrite>⟧.write_laws };

@@ -5,8 +5,9 @@ use super::*;
 use std::alloc::Global;
 use wincode::io::{Lending, Reader, Writer};
 use wincode::schema::tuples::{
-    encode_members_2, encode_members_3, encode_members_12, size_of_members_2, size_of_members_3,
-    size_of_members_12, write_members_2, write_members_3, write_members_12,
+    encode_front_members_3, encode_front_members_12, encode_members_2, encode_members_3,
+    encode_members_12, size_of_members_2, size_of_members_3, size_of_members_12, write_members_2,
+    write_members_3, write_members_12,
 };
 use wincode::{
     OneText, ReadResult, RoundTrip, SchemaRead, SchemaReadOwned, SchemaWrite, TypeMeta, WriteResult,
@@ -463,6 +464,25 @@ impl SchemaWrite for Report {
         )
     }
 
+    #[inline(always)]
+    fn encode_front(src: &Report, dst: &mut [u8]) -> Option<usize> {
+        encode_front_members_12::<u32, String, u8, u8, u8, u8, u8, u8, u8, u8, u8, ReportFrom12>(
+            &src.number,
+            &src.title,
+            &src.a,
+            &src.b,
+            &src.c,
+            &src.d,
+            &src.e,
+            &src.f,
+            &src.g,
+            &src.h,
+            &src.i,
+            src,
+            dst,
+        )
+    }
+
     ghost write_laws = { write_laws_by (λ x. (
       x.number,
       x.title,
@@ -573,6 +593,14 @@ impl SchemaWrite for ReportFrom12 {
         )
     }
 
+    #[inline(always)]
+    fn encode_front(src: &Report, dst: &mut [u8]) -> Option<usize> {
+        encode_front_members_12::<Reading, u8, u8, u8, u8, u8, u8, u8, u8, u8, u8, ReportFrom23>(
+            &src.first, &src.j, &src.k, &src.m, &src.n, &src.o, &src.p, &src.q, &src.r, &src.s,
+            &src.t, src, dst,
+        )
+    }
+
     ghost write_laws = { write_laws_by (λ x. (x.first, x.j, x.k, x.m, x.n, x.o, x.p, x.q, x.r, x.s, x.t, (x.others, x.note, x.end))) ⟦<ReportFrom12Fields as SchemaWrite>⟧.write_laws };
 }
 
@@ -606,6 +634,16 @@ impl SchemaWrite for ReportFrom23 {
             &src.others,
             &src.note,
             &src.end,
+        )
+    }
+
+    #[inline(always)]
+    fn encode_front(src: &Report, dst: &mut [u8]) -> Option<usize> {
+        encode_front_members_3::<Vec<Reading>, Option<String>, u16>(
+            &src.others,
+            &src.note,
+            &src.end,
+            dst,
         )
     }
 

@@ -23,7 +23,7 @@ ghost use Rattle.wincode_declared_keys.specs.declared.kinds.Name.TheVariants.{Kn
 use super::*;
 use std::alloc::Global;
 use wincode::io::{Lending, Reader, Writer};
-use wincode::schema::tuples::{size_of_members_3, write_members_3};
+use wincode::schema::tuples::{encode_front_members_3, size_of_members_3, write_members_3};
 use wincode::{
     Key, OneText, ReadResult, RoundTrip, SchemaGet, SchemaRead, SchemaReadOwned, SchemaWrite,
     TypeMeta, WriteResult,
@@ -675,6 +675,15 @@ impl SchemaWrite for Tally {
             BTreeMap<Name, Kind>,
             W,
         >(writer, &src.by_kind, &src.by_day, &src.by_name)
+    }
+
+    #[inline(always)]
+    fn encode_front(src: &Tally, dst: &mut [u8]) -> Option<usize> {
+        encode_front_members_3::<
+            BTreeMap<Kind, u64>,
+            HashMap<Day, BTreeMap<Kind, u32>>,
+            BTreeMap<Name, Kind>,
+        >(&src.by_kind, &src.by_day, &src.by_name, dst)
     }
 
     ghost write_laws = { write_laws_by (λ x. (x.by_kind, x.by_day, x.by_name)) ⟦<TallyFields as SchemaWrite>⟧.write_laws };

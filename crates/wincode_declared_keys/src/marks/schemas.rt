@@ -447,6 +447,11 @@ impl SchemaWrite for Marker {
         <() as SchemaWrite>::write::<W>(writer, &())
     }
 
+    #[inline(always)]
+    fn encode_front(src: &Marker, dst: &mut [u8]) -> Option<usize> {
+        <() as SchemaWrite>::encode_front(&(), dst)
+    }
+
     ghost write_laws = { write_laws_by (λ x. tt) ⟦<MarkerFields as SchemaWrite>⟧.write_laws };
 }
 

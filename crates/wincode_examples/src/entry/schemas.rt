@@ -4,7 +4,7 @@ ghost use Rattle.wincode_base.specs.PairLaws.{write_laws_by, reads_back_by};
 use super::*;
 use std::alloc::Global;
 use wincode::io::{Lending, Reader, Writer};
-use wincode::schema::tuples::{size_of_members_2, write_members_2};
+use wincode::schema::tuples::{encode_front_members_2, size_of_members_2, write_members_2};
 use wincode::{
     OneText, ReadResult, RoundTrip, SchemaGet, SchemaRead, SchemaReadOwned, SchemaWrite, TypeMeta,
     WriteResult,
@@ -34,6 +34,11 @@ impl SchemaWrite for Entry {
 
     fn write<W: Writer>(writer: &mut W, src: &Entry) -> WriteResult<()> {
         write_members_2::<u64, Vec<u8>, W>(writer, &src.id, &src.tags)
+    }
+
+    #[inline(always)]
+    fn encode_front(src: &Entry, dst: &mut [u8]) -> Option<usize> {
+        encode_front_members_2::<u64, Vec<u8>>(&src.id, &src.tags, dst)
     }
 
     ghost write_laws = { write_laws_by (λ x. (x.id, x.tags)) ⟦<EntryFields as SchemaWrite>⟧.write_laws };

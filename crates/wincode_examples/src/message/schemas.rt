@@ -4,7 +4,7 @@ ghost use Rattle.wincode_base.specs.PairLaws.{write_laws_by, reads_back_by};
 use super::*;
 use std::alloc::Global;
 use wincode::io::{Lending, Reader, Writer};
-use wincode::schema::tuples::{size_of_members_3, write_members_3};
+use wincode::schema::tuples::{encode_front_members_3, size_of_members_3, write_members_3};
 use wincode::{
     OneText, ReadResult, RoundTrip, SchemaGet, SchemaRead, SchemaReadOwned, SchemaWrite, TypeMeta,
     WriteResult,
@@ -37,6 +37,13 @@ impl SchemaWrite for Message {
     fn write<W: Writer>(writer: &mut W, src: &Message) -> WriteResult<()> {
         write_members_3::<u64, containers::Vec<u8, ShortU16Len>, Option<String>, W>(
             writer, &src.id, &src.tags, &src.note,
+        )
+    }
+
+    #[inline(always)]
+    fn encode_front(src: &Message, dst: &mut [u8]) -> Option<usize> {
+        encode_front_members_3::<u64, containers::Vec<u8, ShortU16Len>, Option<String>>(
+            &src.id, &src.tags, &src.note, dst,
         )
     }
 

@@ -5,7 +5,8 @@ use super::*;
 use std::alloc::Global;
 use wincode::io::{Lending, Reader, Writer};
 use wincode::schema::tuples::{
-    encode_members_2, size_of_members_2, size_of_members_4, write_members_2, write_members_4,
+    encode_front_members_2, encode_front_members_4, encode_members_2, size_of_members_2,
+    size_of_members_4, write_members_2, write_members_4,
 };
 use wincode::{
     OneText, ReadResult, RoundTrip, SchemaGet, SchemaRead, SchemaReadOwned, SchemaWrite, TypeMeta,
@@ -165,6 +166,17 @@ impl SchemaWrite for Transfer {
             &src.to,
             &src.amount,
             &src.memo,
+        )
+    }
+
+    #[inline(always)]
+    fn encode_front(src: &Transfer, dst: &mut [u8]) -> Option<usize> {
+        encode_front_members_4::<[u8; 32], [u8; 32], u64, Option<String>>(
+            &src.from,
+            &src.to,
+            &src.amount,
+            &src.memo,
+            dst,
         )
     }
 
@@ -385,6 +397,11 @@ impl SchemaWrite for Day {
 
     fn write<W: Writer>(writer: &mut W, src: &Day) -> WriteResult<()> {
         write_members_2::<u32, Vec<Payment>, W>(writer, &src.number, &src.paid)
+    }
+
+    #[inline(always)]
+    fn encode_front(src: &Day, dst: &mut [u8]) -> Option<usize> {
+        encode_front_members_2::<u32, Vec<Payment>>(&src.number, &src.paid, dst)
     }
 
     ghost write_laws = { write_laws_by (λ x. (x.number, x.paid)) ⟦<DayFields as SchemaWrite>⟧.write_laws };

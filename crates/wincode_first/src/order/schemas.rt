@@ -4,7 +4,7 @@ ghost use Rattle.wincode_base.specs.PairLaws.{write_laws_by, reads_back_by};
 use super::*;
 use std::alloc::Global;
 use wincode::io::{Lending, Reader, Writer};
-use wincode::schema::tuples::{size_of_members_4, write_members_4};
+use wincode::schema::tuples::{encode_front_members_4, size_of_members_4, write_members_4};
 use wincode::{
     OneText, ReadResult, RoundTrip, SchemaGet, SchemaRead, SchemaReadOwned, SchemaWrite, TypeMeta,
     WriteResult,
@@ -35,6 +35,13 @@ impl SchemaWrite for Order {
     fn write<W: Writer>(writer: &mut W, src: &Order) -> WriteResult<()> {
         write_members_4::<u64, bool, String, Vec<u32>, W>(
             writer, &src.id, &src.paid, &src.buyer, &src.items,
+        )
+    }
+
+    #[inline(always)]
+    fn encode_front(src: &Order, dst: &mut [u8]) -> Option<usize> {
+        encode_front_members_4::<u64, bool, String, Vec<u32>>(
+            &src.id, &src.paid, &src.buyer, &src.items, dst,
         )
     }
 
