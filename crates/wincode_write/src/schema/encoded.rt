@@ -109,10 +109,10 @@ pub(crate) fn write_many<T: SchemaWrite, W: Writer>(
     ensures { WriteOutcome (items_write T.writing) (W.state writer.old) (W.state writer.new) (map T.model items.now) (Each T.is_valid items.now) result }
 {
     match T::type_meta() {
-        TypeMeta::Dynamic => write_runs::<T, W>(writer, items),
+        TypeMeta::Dynamic if FEW < items.len() => write_runs::<T, W>(writer, items),
         TypeMeta::Static { size, .. } if SMALL < size && size <= LONGEST && FEW < items.len() => {
             write_blocks::<T, W>(writer, items, size, BLOCK / size)
         }
-        TypeMeta::Static { .. } => T::write_items::<W>(writer, items),
+        _ => T::write_items::<W>(writer, items),
     }
 }

@@ -5,11 +5,13 @@ ghost use Rattle.wincode_base.specs.Lists.{items_write, list_write};
 ghost use Rattle.wincode_base.specs.Outcomes.{IsEncoded, WriteOutcome};
 
 use crate::schema::SchemaWrite;
-use crate::schema::encoded::BLOCK;
 use wincode_base::error::WriteResult;
 use wincode_base::len::SeqLen;
 use wincode_base::meta::TypeMeta;
 use wincode_io::Writer;
+
+/// How many bytes of encodings are put together at a time.
+const RUN: usize = 2048;
 
 /// How many items go as their schema writes them, once two that follow each other were not put together.
 const APART: usize = 64;
@@ -75,11 +77,11 @@ pub(crate) fn write_runs<T: SchemaWrite, W: Writer>(
 ) -> WriteResult<()>
     ensures { WriteOutcome (items_write T.writing) (W.state writer.old) (W.state writer.new) (map T.model items.now) (Each T.is_valid items.now) result }
 {
-    let mut block = [0; BLOCK];
+    let mut block = [0; RUN];
     let mut rest = items;
     let mut apart = 1;
     while !rest.is_empty() {
-        let room = writer.room_at_hand().min(BLOCK);
+        let room = writer.room_at_hand().min(RUN);
         let (count, filled) = encode_first::<T>(rest, &mut block[..room]);
         if count == 0 {
             let (run, more) = rest.split_at(rest.len().min(apart));

@@ -4,10 +4,10 @@ ghost use Rattle.std.specs.BinaryHeap.{heap_items};
 ghost use Rattle.std.specs.HashMap.{IsUnique};
 ghost use Rattle.std.specs.List.{IsDistinct};
 ghost use Rattle.std.specs.List.Sorted.{IsStrictlySortedBy};
-ghost use Rattle.std.specs.Prelude.{◌≡◌, ◌+◌, ◌≤◌, List, length, map, IfSome, IsTrue, IfOk, IfErr};
+ghost use Rattle.std.specs.Prelude.{◌≡◌, ◌+◌, ◌^◌, ◌≤◌, List, length, map, IfSome, IsTrue, IfOk, IfErr};
 ghost use Rattle.wincode_io.specs.Joins.{Each, total};
 ghost use Rattle.wincode_base.specs.Lists.{item_write, items_write, each_write, parts_write, list_write_of, list_write, SizesRefused};
-ghost use Rattle.wincode_base.specs.Outcomes.{IsSized, IsEncoded, SizeRefused, WriteOutcome};
+ghost use Rattle.wincode_base.specs.Outcomes.{IsSized, IsEncoded, SizeRefused, IsOverflow, past_usize, WriteOutcome};
 ghost use Rattle.wincode_base.specs.declared.meta.TypeMeta.TheVariants.{Dynamic};
 ghost use Rattle.wincode_collect.specs.Seen.{sees};
 ghost use Rattle.wincode_base.specs.Pairs.{pair_write};
@@ -18,10 +18,10 @@ use crate::schema::encoded::{BLOCK, short_size, write_item, write_many};
 use crate::schema::tuples::size_of_members_2;
 use std::collections::{BTreeMap, BTreeSet, BinaryHeap, HashMap, HashSet, LinkedList, VecDeque};
 use std::hash::Hash;
-use wincode_base::error::{WriteResult, write_length_encoding_overflow};
+use wincode_base::error::{WriteError, WriteResult, write_length_encoding_overflow};
 use wincode_base::len::SeqLen;
 use wincode_base::parts::{Member, Members2};
-use wincode_base::sizes::{ItemSize, checked_sum};
+use wincode_base::sizes::ItemSize;
 use wincode_io::{WriteWindow, Writer};
 
 /// Items that are gone over in order, by reference.
@@ -47,6 +47,27 @@ pub trait ToItems<T: SchemaWrite> {
         ensures { WriteOutcome (items_write T.writing) (W.state writer.old) (W.state writer.new) (map T.model (listed self.now)) (Each T.is_valid (listed self.now)) result };
 }
 
+/// The refusal of a size past `usize::MAX`. It is made apart, so that nothing is set up for it where there is none.
+#[cold]
+#[inline(never)]
+fn too_large() -> WriteError
+    ensures { IsOverflow past_usize result }
+{
+    write_length_encoding_overflow("usize::MAX")
+}
+
+/// The size of what stands before, and of what stands behind it.
+#[inline(always)]
+fn sum_of(before: usize, behind: usize) -> WriteResult<usize>
+    ensures ok { IfOk result (λ n. n ≡ before + behind) }
+    ensures err { IfErr result (λ e. (2 ^ 64 ≤ before + behind) × IsOverflow past_usize e) }
+{
+    match before.checked_add(behind) {
+        Some(size) => Ok(size),
+        None => Err(too_large()),
+    }
+}
+
 /// The sizes of `n` items, added to the size of what stands before them, where they are known without
 /// looking at the items.
 #[inline(always)]
@@ -57,8 +78,8 @@ fn sizes_alike<T: SchemaWrite>(before: usize, n: usize) -> Option<WriteResult<us
 {
     let size = T::known_size()?;
     match n.checked_mul(size) {
-        Some(total) => Some(checked_sum(before, total)),
-        None => Some(Err(write_length_encoding_overflow("usize::MAX"))),
+        Some(total) => Some(sum_of(before, total)),
+        None => Some(Err(too_large())),
     }
 }
 
