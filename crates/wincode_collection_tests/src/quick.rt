@@ -283,7 +283,10 @@ fn items_of_no_one_size_are_written_alike(rt: HostRuntime) -> Result<(), Fail> {
     let rows = all.as_slice();
     assert!(rt; are_alike::<Vec<(bool, String)>, Vec<(Flag, Single<String>)>>(alloc, rows)?);
     assert!(rt; are_alike::<Vec<Option<String>>, Vec<Single<Option<String>>>>(alloc, rows)?);
-    let all = lists_of(alloc, &[0, 0, 0, 0, 9, 1, 0, 0, 0, 2, 0, 0, 0, 0, 0, 0, 0, 7, 8])?;
+    let all = lists_of(
+        alloc,
+        &[0, 0, 0, 0, 9, 1, 0, 0, 0, 2, 0, 0, 0, 0, 0, 0, 0, 7, 8],
+    )?;
     let rows = all.as_slice();
     assert!(rt;
         are_alike::<Vec<Result<u8, Vec<u8>>>, Vec<Single<Result<u8, Vec<u8>>>>>(alloc, rows)?
@@ -307,7 +310,11 @@ fn items_of_no_one_size_are_refused_alike(rt: HostRuntime) -> Result<(), Fail> {
         let texts = texts_of(alloc, count)?;
         assert!(rt; are_written_alike::<_, Vec<String>, Vec<Single<String>>>(alloc, &texts)?);
     }
-    let nested = vec![in alloc; texts_of(alloc, 3)?, texts_of(alloc, 90)?, texts_of(alloc, 1)?]?;
+    let nested = vec![in alloc;
+        texts_of(alloc, 3)?,
+        texts_of(alloc, 90)?,
+        texts_of(alloc, 1)?,
+    ]?;
     assert!(rt;
         are_written_alike::<_, Vec<Vec<String>>, Vec<Single<Vec<Single<String>>>>>(alloc, &nested)?
     );
