@@ -3,3 +3,4 @@ pub mod OneText
 pub mod OneTextLaws
 pub mod Serde
 pub mod Messages
+pub mod Rewriting

@@ -1,5 +1,5 @@
 -- What the next value of a source is.
-use Rattle.std.specs.Prelude.{ℕ, ◌<◌, ◌⊎◌, length, IsTrue, Result, IfOk, IfErr}
+use Rattle.std.specs.Prelude.{◌<◌, ◌⊎◌, length, IsTrue, Result, IfOk, IfErr}
 use Rattle.wincode_io.specs.Readers.{ReaderState, Stays, BytesReadRefused}
 use Rattle.wincode_base.specs.Grammar.{ReadGrammar}
 use Rattle.wincode_base.specs.Outcomes.{Gives, SchemaReadRefused}

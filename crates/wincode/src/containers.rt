@@ -68,6 +68,28 @@ impl<T: SchemaWrite, Len: SeqLen> SchemaWrite for Vec<T, Len> {
         encode_list::<Len, T, 24>(src.as_slice(), dst)
     }
 
+    #[inline(always)]
+    fn write_at_once<W: Writer>(
+        writer: &mut W,
+        items: &[Self::Src],
+    ) -> option::Option<WriteResult<()>> {
+        let _ = &*writer;
+        let _items = items.len();
+        None
+    }
+
+    #[inline(always)]
+    fn known_size() -> option::Option<usize> {
+        None
+    }
+
+    #[inline(always)]
+    fn encode_items(items: &[Self::Src], dst: &mut [u8]) -> bool {
+        let _items = items.len();
+        let _len = dst.len();
+        false
+    }
+
     ghost write_laws = { list_write_laws Len.scheme 24 (λ v. v.items) T.is_valid T.model T.writing T.write_laws };
 }
 
@@ -97,6 +119,38 @@ impl<L: Lending, T: SchemaRead<L>, Len: SeqLen> SchemaRead<L> for Vec<T, Len> {
     ) -> ReadResult<()> {
         *dst = Some(get_list::<vec::Vec<T::Dst>, Len, L, T, R>(alloc, reader)?);
         Ok(())
+    }
+
+    #[inline(always)]
+    fn read_at_once<R: Reader<L>>(
+        alloc: Global,
+        reader: &mut R,
+        n: usize,
+        into: &mut vec::Vec<Self::Dst>,
+    ) -> option::Option<ReadResult<()>> {
+        let _ = (alloc, n);
+        let _ = &*reader;
+        let _ = &*into;
+        None
+    }
+
+    #[inline(always)]
+    fn blank() -> option::Option<Self::Dst> {
+        None
+    }
+
+    #[inline(always)]
+    fn decode(bytes: &[u8], place: &mut Self::Dst) -> bool {
+        let _ = bytes.len();
+        let _ = &*place;
+        false
+    }
+
+    #[inline(always)]
+    fn decode_over(bytes: &[u8], places: &mut [Self::Dst]) -> bool {
+        let _ = bytes.len();
+        let _ = &*places;
+        false
     }
 
     ghost read_laws = { list_read_laws Len.scheme Len.scheme_laws 24 (lit≤ tt) T.is_valid T.reading T.read_laws };
@@ -137,6 +191,35 @@ impl<T: SchemaWrite, Len: SeqLen> SchemaWrite for VecDeque<T, Len> {
         write_list::<Len, T, collections::VecDeque<T::Src>, W, 24>(writer, src)
     }
 
+    #[inline(always)]
+    fn write_at_once<W: Writer>(
+        writer: &mut W,
+        items: &[Self::Src],
+    ) -> option::Option<WriteResult<()>> {
+        let _ = &*writer;
+        let _items = items.len();
+        None
+    }
+
+    #[inline(always)]
+    fn known_size() -> option::Option<usize> {
+        None
+    }
+
+    #[inline(always)]
+    fn encode_front(src: &Self::Src, dst: &mut [u8]) -> option::Option<usize> {
+        let _ = src;
+        let _len = dst.len();
+        None
+    }
+
+    #[inline(always)]
+    fn encode_items(items: &[Self::Src], dst: &mut [u8]) -> bool {
+        let _items = items.len();
+        let _len = dst.len();
+        false
+    }
+
     ghost write_laws = { list_write_laws Len.scheme 24 (λ q. q.items) T.is_valid T.model T.writing T.write_laws };
 }
 
@@ -166,6 +249,38 @@ impl<L: Lending, T: SchemaRead<L>, Len: SeqLen> SchemaRead<L> for VecDeque<T, Le
     ) -> ReadResult<()> {
         *dst = Some(get_list::<collections::VecDeque<T::Dst>, Len, L, T, R>(alloc, reader)?);
         Ok(())
+    }
+
+    #[inline(always)]
+    fn read_at_once<R: Reader<L>>(
+        alloc: Global,
+        reader: &mut R,
+        n: usize,
+        into: &mut vec::Vec<Self::Dst>,
+    ) -> option::Option<ReadResult<()>> {
+        let _ = (alloc, n);
+        let _ = &*reader;
+        let _ = &*into;
+        None
+    }
+
+    #[inline(always)]
+    fn blank() -> option::Option<Self::Dst> {
+        None
+    }
+
+    #[inline(always)]
+    fn decode(bytes: &[u8], place: &mut Self::Dst) -> bool {
+        let _ = bytes.len();
+        let _ = &*place;
+        false
+    }
+
+    #[inline(always)]
+    fn decode_over(bytes: &[u8], places: &mut [Self::Dst]) -> bool {
+        let _ = bytes.len();
+        let _ = &*places;
+        false
     }
 
     ghost read_laws = { list_read_laws Len.scheme Len.scheme_laws 24 (lit≤ tt) T.is_valid T.reading T.read_laws };
@@ -211,6 +326,28 @@ impl<T: SchemaWrite, Len: SeqLen> SchemaWrite for BoxedSlice<T, Len> {
         encode_list::<Len, T, 16>(src.as_slice(), dst)
     }
 
+    #[inline(always)]
+    fn write_at_once<W: Writer>(
+        writer: &mut W,
+        items: &[Self::Src],
+    ) -> option::Option<WriteResult<()>> {
+        let _ = &*writer;
+        let _items = items.len();
+        None
+    }
+
+    #[inline(always)]
+    fn known_size() -> option::Option<usize> {
+        None
+    }
+
+    #[inline(always)]
+    fn encode_items(items: &[Self::Src], dst: &mut [u8]) -> bool {
+        let _items = items.len();
+        let _len = dst.len();
+        false
+    }
+
     ghost write_laws = { list_write_laws Len.scheme 16 (λ b. (boxed_slice_items b)) T.is_valid T.model T.writing T.write_laws };
 }
 
@@ -240,6 +377,38 @@ impl<L: Lending, T: SchemaRead<L>, Len: SeqLen> SchemaRead<L> for BoxedSlice<T, 
     ) -> ReadResult<()> {
         *dst = Some(get_list::<boxed::BoxedSlice<T::Dst>, Len, L, T, R>(alloc, reader)?);
         Ok(())
+    }
+
+    #[inline(always)]
+    fn read_at_once<R: Reader<L>>(
+        alloc: Global,
+        reader: &mut R,
+        n: usize,
+        into: &mut vec::Vec<Self::Dst>,
+    ) -> option::Option<ReadResult<()>> {
+        let _ = (alloc, n);
+        let _ = &*reader;
+        let _ = &*into;
+        None
+    }
+
+    #[inline(always)]
+    fn blank() -> option::Option<Self::Dst> {
+        None
+    }
+
+    #[inline(always)]
+    fn decode(bytes: &[u8], place: &mut Self::Dst) -> bool {
+        let _ = bytes.len();
+        let _ = &*place;
+        false
+    }
+
+    #[inline(always)]
+    fn decode_over(bytes: &[u8], places: &mut [Self::Dst]) -> bool {
+        let _ = bytes.len();
+        let _ = &*places;
+        false
     }
 
     ghost read_laws = { list_read_laws Len.scheme Len.scheme_laws 16 (lit≤ tt) T.is_valid T.reading T.read_laws };
@@ -285,6 +454,28 @@ impl<T: SchemaWrite, Len: SeqLen> SchemaWrite for RcSlice<T, Len> {
         encode_list::<Len, T, 16>(src.as_slice(), dst)
     }
 
+    #[inline(always)]
+    fn write_at_once<W: Writer>(
+        writer: &mut W,
+        items: &[Self::Src],
+    ) -> option::Option<WriteResult<()>> {
+        let _ = &*writer;
+        let _items = items.len();
+        None
+    }
+
+    #[inline(always)]
+    fn known_size() -> option::Option<usize> {
+        None
+    }
+
+    #[inline(always)]
+    fn encode_items(items: &[Self::Src], dst: &mut [u8]) -> bool {
+        let _items = items.len();
+        let _len = dst.len();
+        false
+    }
+
     ghost write_laws = { list_write_laws Len.scheme 16 (λ r. (rc_slice_items r)) T.is_valid T.model T.writing T.write_laws };
 }
 
@@ -314,6 +505,38 @@ impl<L: Lending, T: SchemaRead<L>, Len: SeqLen> SchemaRead<L> for RcSlice<T, Len
     ) -> ReadResult<()> {
         *dst = Some(get_list::<rc::RcSlice<T::Dst>, Len, L, T, R>(alloc, reader)?);
         Ok(())
+    }
+
+    #[inline(always)]
+    fn read_at_once<R: Reader<L>>(
+        alloc: Global,
+        reader: &mut R,
+        n: usize,
+        into: &mut vec::Vec<Self::Dst>,
+    ) -> option::Option<ReadResult<()>> {
+        let _ = (alloc, n);
+        let _ = &*reader;
+        let _ = &*into;
+        None
+    }
+
+    #[inline(always)]
+    fn blank() -> option::Option<Self::Dst> {
+        None
+    }
+
+    #[inline(always)]
+    fn decode(bytes: &[u8], place: &mut Self::Dst) -> bool {
+        let _ = bytes.len();
+        let _ = &*place;
+        false
+    }
+
+    #[inline(always)]
+    fn decode_over(bytes: &[u8], places: &mut [Self::Dst]) -> bool {
+        let _ = bytes.len();
+        let _ = &*places;
+        false
     }
 
     ghost read_laws = { list_read_laws Len.scheme Len.scheme_laws 16 (lit≤ tt) T.is_valid T.reading T.read_laws };
@@ -357,6 +580,35 @@ where
         write_list::<Len, T, collections::BinaryHeap<T::Src>, W, 24>(writer, src)
     }
 
+    #[inline(always)]
+    fn write_at_once<W: Writer>(
+        writer: &mut W,
+        items: &[Self::Src],
+    ) -> option::Option<WriteResult<()>> {
+        let _ = &*writer;
+        let _items = items.len();
+        None
+    }
+
+    #[inline(always)]
+    fn known_size() -> option::Option<usize> {
+        None
+    }
+
+    #[inline(always)]
+    fn encode_front(src: &Self::Src, dst: &mut [u8]) -> option::Option<usize> {
+        let _ = src;
+        let _len = dst.len();
+        None
+    }
+
+    #[inline(always)]
+    fn encode_items(items: &[Self::Src], dst: &mut [u8]) -> bool {
+        let _items = items.len();
+        let _len = dst.len();
+        false
+    }
+
     ghost write_laws = { scattered_write_laws Len.scheme heap_items T.write_laws };
 }
 
@@ -389,6 +641,38 @@ where
     ) -> ReadResult<()> {
         *dst = Some(get_list::<collections::BinaryHeap<T::Dst>, Len, L, T, R>(alloc, reader)?);
         Ok(())
+    }
+
+    #[inline(always)]
+    fn read_at_once<R: Reader<L>>(
+        alloc: Global,
+        reader: &mut R,
+        n: usize,
+        into: &mut vec::Vec<Self::Dst>,
+    ) -> option::Option<ReadResult<()>> {
+        let _ = (alloc, n);
+        let _ = &*reader;
+        let _ = &*into;
+        None
+    }
+
+    #[inline(always)]
+    fn blank() -> option::Option<Self::Dst> {
+        None
+    }
+
+    #[inline(always)]
+    fn decode(bytes: &[u8], place: &mut Self::Dst) -> bool {
+        let _ = bytes.len();
+        let _ = &*place;
+        false
+    }
+
+    #[inline(always)]
+    fn decode_over(bytes: &[u8], places: &mut [Self::Dst]) -> bool {
+        let _ = bytes.len();
+        let _ = &*places;
+        false
     }
 
     ghost read_laws = { bag_read_laws Len.scheme Len.scheme_laws (item_size T.reading.meta) T.model T.read_laws };
@@ -428,18 +712,17 @@ impl<T: SchemaWrite> SchemaWrite for Elem<T> {
         T::write::<W>(writer, src)
     }
 
-    fn write_items<W: Writer>(writer: &mut W, items: &[T::Src]) -> WriteResult<()> {
-        T::write_items::<W>(writer, items)
+    #[inline(always)]
+    fn write_at_once<W: Writer>(
+        writer: &mut W,
+        items: &[T::Src],
+    ) -> option::Option<WriteResult<()>> {
+        T::write_at_once::<W>(writer, items)
     }
 
     #[inline(always)]
     fn known_size() -> option::Option<usize> {
         T::known_size()
-    }
-
-    #[inline(always)]
-    fn encode(src: &T::Src, dst: &mut [u8]) -> bool {
-        T::encode(src, dst)
     }
 
     #[inline(always)]
@@ -482,13 +765,14 @@ impl<L: Lending, T: SchemaRead<L>> SchemaRead<L> for Elem<T> {
         T::read::<R>(alloc, reader, dst)
     }
 
-    fn read_items<R: Reader<L>>(
+    #[inline(always)]
+    fn read_at_once<R: Reader<L>>(
         alloc: Global,
         reader: &mut R,
         n: usize,
         into: &mut vec::Vec<T::Dst>,
-    ) -> ReadResult<()> {
-        T::read_items::<R>(alloc, reader, n, into)
+    ) -> option::Option<ReadResult<()>> {
+        T::read_at_once::<R>(alloc, reader, n, into)
     }
 
     #[inline(always)]
@@ -504,11 +788,6 @@ impl<L: Lending, T: SchemaRead<L>> SchemaRead<L> for Elem<T> {
     #[inline(always)]
     fn decode_over(bytes: &[u8], places: &mut [T::Dst]) -> bool {
         T::decode_over(bytes, places)
-    }
-
-    #[inline(always)]
-    fn decode_items(bytes: &[u8], n: usize, into: &mut vec::Vec<T::Dst>) -> bool {
-        T::decode_items(bytes, n, into)
     }
 
     ghost read_laws = { T.read_laws };

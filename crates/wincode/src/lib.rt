@@ -1,4 +1,15 @@
 //! Values to bytes and back, in the default layout of bincode 1.
+//!
+//! - `serialize`, `deserialize` and their like are the calls; `serde` has them as methods of every schema.
+//! - `schema`, `len`, `tag`, `meta`, `error`, `io`: what schemas are made of, and what is read from and written to.
+//! - `containers`: lists with a length scheme of choice, options and results with a tag of choice, and more.
+//! - `messages`: the values of a file, a pipe or a socket, one after another.
+//! - `markers`: `RoundTrip`, `OneText`, `SchemaReadOwned`, which a generic call may ask for.
+//! - `rewriting`: `rewrite` and `copy_front`, two calls that ask for them.
+//! - `shape`: a type that is read and written as another.
+//! - `laws`: edits of values in a buffer.
+//!
+//! `use wincode::prelude::*` brings what most programs need. docs/USING.md has recipes.
 #![tactic(auto)]
 
 mod calls;
@@ -8,6 +19,7 @@ pub mod len;
 pub mod markers;
 pub mod messages;
 pub mod prelude;
+pub mod rewriting;
 pub mod schema;
 pub mod serde;
 pub mod shape;
@@ -18,6 +30,7 @@ pub use calls::{
 };
 pub use markers::{OneText, RoundTrip, SchemaReadOwned};
 pub use messages::Messages;
+pub use rewriting::{copy_front, rewrite};
 pub use shape::{By, Shape};
 pub use wincode_base::error::{Error, ReadError, ReadResult, Result, WriteError, WriteResult};
 pub use wincode_base::meta::TypeMeta;

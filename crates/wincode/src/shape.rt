@@ -1,6 +1,6 @@
 //! Types of a user's own that are written and read as another, a tuple say, without a grammar or a law of
 //! their own.
-ghost use Rattle.std.specs.Prelude.{◌≡◌, IsTrue, IfOk, IfErr};
+ghost use Rattle.std.specs.Prelude.{◌≡◌, ◌≤◌, length, take, IfSome, IfOk, IfErr};
 ghost use Rattle.wincode_base.specs.Outcomes.{IsSized, IsEncoded, SizeRefused, WriteOutcome};
 ghost use Rattle.wincode_base.specs.PairLaws.{write_laws_by, reads_back_by};
 
@@ -39,15 +39,16 @@ pub trait Shape: Drop {
         ensures { WriteOutcome Self.As.SchemaWrite.writing (W.state writer.old) (W.state writer.new) (Self.As.SchemaWrite.model (parts self.now))
             (Self.As.SchemaWrite.is_valid (parts self.now)) result };
 
-    /// Puts an encoding of its parts over all of the bytes, where it has as many, as `As` does; or answers
-    /// `false`, and may have put any bytes there.
+    /// Puts an encoding of its parts over the front of the bytes, as `As` does, and gives how many it has; or
+    /// answers `None`, as where there are fewer, and may have put any bytes there.
     #[inline(always)]
-    fn encode_parts(&self, dst: &mut [u8]) -> bool
-        ensures { IsTrue result → IsEncoded Self.As.SchemaWrite.writing (Self.As.SchemaWrite.model (parts self.now)) dst.new × Self.As.SchemaWrite.is_valid (parts self.now) }
+    fn encode_parts(&self, dst: &mut [u8]) -> Option<usize>
+        ensures { IfSome result (λ n. (n ≤ length dst.new) × IsEncoded Self.As.SchemaWrite.writing (Self.As.SchemaWrite.model (parts self.now)) (take n dst.new)
+            × Self.As.SchemaWrite.is_valid (parts self.now)) }
     {
         let _ = &*self;
         let _len = dst.len();
-        false
+        None
     }
 }
 
@@ -78,8 +79,27 @@ impl<T: Shape> SchemaWrite for By<T> {
     }
 
     #[inline(always)]
-    fn encode(src: &T, dst: &mut [u8]) -> bool {
+    fn encode_front(src: &T, dst: &mut [u8]) -> Option<usize> {
         src.encode_parts(dst)
+    }
+
+    #[inline(always)]
+    fn write_at_once<W: Writer>(writer: &mut W, items: &[Self::Src]) -> Option<WriteResult<()>> {
+        let _ = &*writer;
+        let _items = items.len();
+        None
+    }
+
+    #[inline(always)]
+    fn known_size() -> Option<usize> {
+        None
+    }
+
+    #[inline(always)]
+    fn encode_items(items: &[Self::Src], dst: &mut [u8]) -> bool {
+        let _items = items.len();
+        let _len = dst.len();
+        false
     }
 
     ghost write_laws = { write_laws_by T.parts T.As.SchemaWrite.write_laws };
@@ -129,6 +149,26 @@ where
         }
         *place = T::make(parts);
         true
+    }
+
+    #[inline(always)]
+    fn read_at_once<R: Reader<L>>(
+        alloc: Global,
+        reader: &mut R,
+        n: usize,
+        into: &mut Vec<Self::Dst>,
+    ) -> Option<ReadResult<()>> {
+        let _ = (alloc, n);
+        let _ = &*reader;
+        let _ = &*into;
+        None
+    }
+
+    #[inline(always)]
+    fn decode_over(bytes: &[u8], places: &mut [Self::Dst]) -> bool {
+        let _ = bytes.len();
+        let _ = &*places;
+        false
     }
 
     ghost read_laws = { T.As.SchemaRead.read_laws };

@@ -1,5 +1,5 @@
 -- Many numbers of one byte read or written at once.
-use Rattle.std.proofs.Common.{◌≡◌, ◌∙◌, sym, ap, subst, ℕ, ◌*◌, ◌<◌, ◌≤◌, ◌^◌, ◌&&◌, Bool, true, false, List, [], ◌∷◌, ◌++◌, length, length-take, map, take, suc, refl, arith}
+use Rattle.std.proofs.Common.{◌≡◌, ◌∙◌, sym, ap, subst, ℕ, ◌*◌, ◌<◌, ◌≤◌, ◌^◌, true, false, List, [], ◌∷◌, ◌++◌, length, length-take, map, take, suc, refl, arith}
 use Rattle.std.proofs.lemmas.List.Elements.{All-head, All-tail}
 use Rattle.std.specs.Prelude.{Result, Ok, Err, is_ok, OnOk}
 use Rattle.wincode_io.specs.Bytes.{IsBytes}
@@ -13,6 +13,7 @@ use Rattle.wincode_base.specs.AsForms.{BulkReadRefused}
 use Rattle.wincode_base.specs.Grammar.{WriteGrammar}
 use Rattle.wincode_base.specs.Leaves.{number_read, number_write}
 use Rattle.wincode_base.specs.Lists.{items_write}
+use Rattle.wincode_base.specs.ListLaws.{none_spared}
 use Rattle.wincode_base.specs.Outcomes.{Gives, Adds, ReadRefused, IsEncoded, Wrote, WriteRefused, Stopped}
 use Rattle.wincode_base.specs.WriteSequences.{encoding_wrote, encoding_unwritten, nothing_stopped}
 use Rattle.wincode_base.specs.declared.error.ReadError.TheVariants as reading
@@ -44,10 +45,7 @@ shown_takes n old mid new bytes size shown stays loses = record {
 
 -- memory was refused before anything was taken
 pub wanted_refuses : {V : Type 0} (reads : List ℕ → V → Type 0) (borrow : ℕ) (old new : ReaderState) → Stays old new → ReadRefused reads borrow false old new reading.OutOfMemory
-wanted_refuses reads borrow old new s = record { kept = s.kept; left = λ t. record { front = []; joins = sym (s.rest t) }; place = stays_onward old new s; due = none_spared new.never_fails } where
-  none_spared : (a : Bool) → (a && false) ≡ false
-  none_spared false = refl
-  none_spared true = refl
+wanted_refuses reads borrow old new s = record { kept = s.kept; left = λ t. record { front = []; joins = sym (s.rest t) }; place = stays_onward old new s; due = none_spared new.never_fails }
 
 byte_encoding : (v : ℕ) → v < 256 → le 1 v ≡ v ∷ []
 unfolding le

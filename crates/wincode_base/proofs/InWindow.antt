@@ -140,14 +140,6 @@ module _ {S K V : Type 0} {put : S → List ℕ → S} {room : S → ℕ} (g : W
   pub short_halted : {s : ℕ} {z : Bool} (n : ℕ) → WriterLaws put room → (e : IoWriteError) → g.meta ≡ Static s z → BytesWriteRefused n old new e → Stopped (item_write g) old new v (writing.Io e)
   short_halted n laws e is d = nothing_stopped laws old new (writing.Io e) d.0.content (λ dynamic. absurd (cc (is, dynamic)))
 
-  -- through its window it was refused as it says
-  pub item_windowed : {e : WriteError} → Stopped (windowed_write g) old new v e → Stopped (item_write (windowed_write g)) old new v e
-  item_windowed s = stopped_map (windowed_write g) (item_write (windowed_write g)) v v (λ a x dynamic. x) s
-
--- an item is refused as it says
-pub item_alone : {S K V : Type 0} {put : S → List ℕ → S} {room : S → ℕ} (g : WriteGrammar V) (v : V) {old new : WriterState put room K} {e : WriteError} → Stopped g old new v e → Stopped (item_write g) old new v e
-item_alone g v s = stopped_map g (item_write g) v v (λ a x dynamic. x) s
-
 -- what can't be written was refused inside
 pub static_inside : {V : Type 0} (g : WriteGrammar V) (v : V) (m : TypeMeta) {s : ℕ} {z : Bool} (room : ℕ) (added : List ℕ) (e : WriteError) → m ≡ Static s z → (g.can v → ⊥) → (inside : ℕ) → g.refused v inside added e → WindowWriteRefused m g v room added e
 static_inside g v m room added e is cannot inside r = rw is (inr (cannot, (inside, r)))

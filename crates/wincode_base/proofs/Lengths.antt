@@ -1,6 +1,5 @@
 -- What lengths of eight bytes read and write.
-use Rattle.std.proofs.Common.{◌≡◌, ◌∙◌, sym, ap, subst, ℕ, ◌*◌, ◌<◌, ◌≤◌, ◌^◌, List, [], ◌++◌, length, take, length-append, arith, true, Some, w64, inl}
-use Rattle.std.proofs.lemmas.List.{take_at}
+use Rattle.std.proofs.Common.{◌≡◌, ◌∙◌, sym, ap, subst, ℕ, ◌*◌, ◌<◌, ◌≤◌, ◌^◌, List, [], length, take, arith, true, Option, Some, None, IfSome, w64, inl}
 use Rattle.std.specs.Int.{to_le_bytes}
 use Rattle.wincode_io.specs.Numbers.{le}
 use Rattle.wincode_io.specs.NumberLaws.{length-le, to_le_bytes-le}
@@ -70,8 +69,8 @@ module _ {S K : Type 0} {put : S → List ℕ → S} {room : S → ℕ} (limit n
 pub length_needed : (limit n : ℕ) → n < 2 ^ 64 → HasEncoding (bincode limit) n × (8 ≡ encoding_len ((bincode limit).encoding n))
 length_needed limit n small = let has = bincode_encoding limit n small in ((le 8 n, has), sym (ap encoding_len has ∙ length-le 8 n))
 
--- eight bytes that were put in front of others
-pub length_in_front : (limit n : ℕ) {encoding : List ℕ} (rest : List ℕ) → n < 2 ^ 64 → encoding ≡ to_le_bytes w64 n → (8 ≤ length (encoding ++ rest)) × ((bincode limit).encoding n ≡ Some (take 8 (encoding ++ rest)))
-length_in_front limit n {encoding} rest small e =
-    let size : length encoding ≡ 8 = ap length (text_is n encoding e) ∙ length-le 8 n in
-    (omega (arith, size, length-append encoding rest), has limit n encoding small e ∙ ap (λ b. Some b) (sym (take_at encoding rest 8 size)))
+-- eight bytes that were put over the front of others, where they were
+pub length_put : (limit n : ℕ) {encoding : List ℕ} (small : n < 2 ^ 64) (e : encoding ≡ to_le_bytes w64 n) (bytes : List ℕ) (r : Option ℕ) → IfSome r (λ k. (k ≤ length bytes) × (take k bytes ≡ encoding))
+    → IfSome r (λ k. (k ≤ length bytes) × ((bincode limit).encoding n ≡ Some (take k bytes)))
+length_put limit n small e bytes None p = tt
+length_put limit n {encoding} small e bytes (Some k) p = (p.0, has limit n encoding small e ∙ ap (λ b. Some b) (sym p.1))

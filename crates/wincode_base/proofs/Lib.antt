@@ -1,11 +1,9 @@
 mod Rows
-pub mod Refused
 pub mod ReadAnswers
 pub mod Integers
 pub mod Lengths
 pub mod Short
 pub mod Lists
-pub mod Encoding
 pub mod Items
 pub mod Decoding
 pub mod Runs

@@ -9,6 +9,7 @@ use Rattle.std.proofs.lemmas.Str.{encode_ascii, IsUtf8-encode, cons_from_encodes
 use Rattle.wincode_io.specs.Readers.{ReaderState, Stays, Loses, Takes, IsShort, IsShown, IsPeeked, ReadRefusedFor, BytesReadRefused}
 use Rattle.wincode_io.specs.Writers.{WriterState, WriterLaws, Added, BytesWriteRefused}
 use Rattle.wincode_base.specs.Grammar.{WriteGrammar, WriteLaws}
+use Rattle.wincode_base.specs.ListLaws.{none_spared}
 use Rattle.wincode_base.specs.Lengths.{IsLength, HasEncoding, bincode, length_write, encoding_len, LengthWriteRefused, preallocation_limit}
 use Rattle.wincode_base.specs.LengthLaws.{bincode_encoding, bincode_encoding_is, bincode_laws, length_one, length_write_laws}
 use Rattle.wincode_base.specs.LeafLaws.{same_front}
@@ -218,10 +219,6 @@ char_gives old mid shown_by new lead n c bytes more is s p t size shown u e l =
     }
 
 -- ---- texts
-
-none_spared : (a : Bool) → (a && false) ≡ false
-none_spared false = refl
-none_spared true = refl
 
 body_short : (n : ℕ) (old : ReaderState) → IsShort n old → Accepts (IsStrBytes n) old → ⊥
 body_short n old short a =

@@ -214,9 +214,6 @@ module _ {X : Type 0} {is_valid : X → Type 0} {s : ℕ} {form : X → List ℕ
   form_is b all e = (e, λ p. sym (law.form_value b all e))
 
   module _ {S K : Type 0} {put : S → List ℕ → S} {room : S → ℕ} {old new : WriterState put room K} (b : List ℕ) (all : IsBytes b) (e : length b ≡ s) where
-    pub form_wrote : Added b old new → Wrote (form_write is_valid s form any prealloc) old new (value b)
-    form_wrote a = encoding_wrote (form_write is_valid s form any prealloc) (value b) b (form_is b all e) e old new tt a
-
     pub form_unwritten : WriterLaws put room → (x : IoWriteError) → BytesWriteRefused (length b) old new x → WriteRefused (form_write is_valid s form any prealloc) old new (value b) (writing.Io x)
     form_unwritten laws x d = encoding_unwritten (form_write is_valid s form any prealloc) (value b) b (form_is b all e) e laws old new x d
 

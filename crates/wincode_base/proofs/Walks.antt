@@ -9,7 +9,7 @@ use Rattle.wincode_base.specs.Lists.{item_write, items_write, ItemsWriteRefused,
 use Rattle.wincode_base.specs.ListLaws.{items_write_laws}
 use Rattle.wincode_base.specs.Outcomes.{Wrote, WriteRefused, Stopped, SizeRefused}
 use Rattle.wincode_base.specs.Pairs.{pair_write}
-use Rattle.wincode_base.specs.WriteSequences.{items_wrote_more, items_unwritten, items_halted, item_halted, stopped_map, stopped_behind, wrote_map, unwritten_map, pair_wrote, pair_unwritten_first, pair_unwritten_second}
+use Rattle.wincode_base.specs.WriteSequences.{items_wrote_more, items_unwritten, item_halted, stopped_map, stopped_behind, wrote_map, unwritten_map, pair_wrote, pair_unwritten_first, pair_unwritten_second}
 use Rattle.wincode_base.specs.declared.error.WriteError.{WriteError}
 
 -- so far the items before `rest` were written
@@ -90,10 +90,6 @@ module _ {S K V E : Type 0} {put : S → List ℕ → S} {room : S → ℕ} (law
   walk_refused {old} {cur} {new} {all} {rest} {left} {e} {x} w k u =
       let Q : List V → Type 0 = λ vs. WriteRefused (items_write g) old new vs x in
       subst Q (part_model see w.done rest all left e w.joins k) (items_unwritten laws l (map see w.done) (see e) (map see rest) w.items u)
-
-  pub walk_halted : {old cur new : WriterState put room K} {all rest left : List E} {e : E} {x : WriteError} → WritesSoFar g see P old cur all left → left ≡ e ∷ rest → Stopped g cur new (see e) x
-      → Stopped (items_write g) old new (map see all) x
-  walk_halted {all = all} {rest = rest} {left = left} {e = e} w k s = items_halted laws l (map see w.done) (see e) (map see rest) (map see all) (sym (part_model see w.done rest all left e w.joins k)) w.items s
 
   -- so, of an item of whose refusal no more is said where it has one size
   pub walk_item_more : {old cur new : WriterState put room K} {all rest left : List E} {e : E} → WritesSoFar g see P old cur all left → left ≡ e ∷ rest → Wrote (item_write g) cur new (see e) → P e → WritesSoFar g see P old new all rest

@@ -1,17 +1,13 @@
 -- What writes answer, made of what they answer in parts.
-use Rattle.std.proofs.Common.{◌≡◌, ℕ, List, sym, subst, refl, Result, Ok, Err}
-use Rattle.std.specs.Result.{IsErr, IsErrAnd}
+use Rattle.std.proofs.Common.{ℕ, List, sym, subst, refl, Result, Ok, Err}
 use Rattle.wincode_io.specs.Writers.{WriterState}
+use Rattle.wincode_base.proofs.ReadAnswers.{IsPassed}
 use Rattle.wincode_base.specs.Grammar.{WriteGrammar}
 use Rattle.wincode_base.specs.Boxed.{boxed_write}
 use Rattle.wincode_base.specs.Outcomes.{Wrote, WriteRefused, Stopped, WriteOutcome}
 use Rattle.wincode_base.specs.Strings.{reference_write}
 use Rattle.wincode_base.specs.WriteSequences.{wrote_map, unwritten_map, stopped_map}
 use Rattle.wincode_base.specs.declared.error.WriteError.{WriteError}
-
--- an error that a `?` passes on
-abbrev pub IsPassed : {T E : Type 0} → Result T E → E → Type 0
-IsPassed r e = IsErr r × IsErrAnd r (λ x. x ≡ e)
 
 module _ {A S K V : Type 0} {put : S → List ℕ → S} {room : S → ℕ} (g : WriteGrammar V) {old new : WriterState put room K} (v : V) (is_valid : Type 0) where
   pub write_refused : (r : Result A WriteError) (e : WriteError) → IsPassed r e → WriteRefused g old new v e → Stopped g old new v e → WriteOutcome g old new v is_valid r

@@ -23,13 +23,4 @@ boxed_read g = record {
 
 -- and it is written as what it holds
 abbrev pub boxed_write : {V : Type 0} → WriteGrammar V → WriteGrammar V
-boxed_write g = record {
-  writes = g.writes;
-  can = g.can;
-  size = g.size;
-  fits = g.fits;
-  meta = reference_meta g.meta;
-  prealloc = 8;
-  builtin = g.builtin;
-  refused = g.refused;
-}
+boxed_write g = record g { meta = reference_meta g.meta; prealloc = 8 }

@@ -28,8 +28,8 @@ abbrev pub WriteRefusal : Type 0 → Type 1
 WriteRefusal V = V → ℕ → List ℕ → WriteError → Type 0
 
 -- no write is refused
-abbrev pub never_unwritten : {V : Type 0} → WriteRefusal V
-never_unwritten v room added e = ⊥
+abbrev pub never_refused : {V : Type 0} → WriteRefusal V
+never_refused v room added e = ⊥
 
 -- What writing makes: the encodings of a value, whether it has one, their size, and whether each length inside is within
 -- the limit by which it is read. `builtin` says that all parts are this crate's own, and `refused` what holds of a refused

@@ -18,7 +18,7 @@ StaticReadRefused (Static s z) inside = WindowReadRefused s inside
 
 -- what is read through one window of its size, where it has one
 abbrev pub windowed_read : {V : Type 0} → ReadGrammar V → ReadGrammar V
-windowed_read g = record { reads = g.reads; meta = g.meta; prealloc = g.prealloc; borrow = g.borrow; takes_no_memory = g.takes_no_memory; refused = StaticReadRefused g.meta g.refused }
+windowed_read g = record g { refused = StaticReadRefused g.meta g.refused }
 
 -- What has one size is written through a window of it, and was refused: the window was; or what can't be written was,
 -- in some room. What has none was refused as it says.
@@ -28,13 +28,4 @@ WindowWriteRefused (Static s z) g = λ v room added e. PieceWriteRefused s room 
 
 -- what is written through one window of its size, where it has one
 abbrev pub windowed_write : {V : Type 0} → WriteGrammar V → WriteGrammar V
-windowed_write g = record {
-  writes = g.writes;
-  can = g.can;
-  size = g.size;
-  fits = g.fits;
-  meta = g.meta;
-  prealloc = g.prealloc;
-  builtin = g.builtin;
-  refused = WindowWriteRefused g.meta g;
-}
+windowed_write g = record g { refused = WindowWriteRefused g.meta g }

@@ -4,7 +4,7 @@ use Rattle.std.specs.Prelude.{ℤ, FitsSigned}
 use Rattle.std.specs.Int.{Width, byte_len, cast_unsigned}
 use Rattle.wincode_io.specs.Numbers.{le}
 use Rattle.wincode_io.specs.Readers.{Takes, IsShort, BytesReadRefused, nothing}
-use Rattle.wincode_base.specs.Grammar.{ReadGrammar, WriteGrammar, never_unwritten, ReadRefusal}
+use Rattle.wincode_base.specs.Grammar.{ReadGrammar, WriteGrammar, never_refused, ReadRefusal}
 use Rattle.wincode_base.specs.Outcomes.{PieceWriteRefused, PieceReadRefused, never}
 use Rattle.wincode_base.specs.declared.error.ReadError.TheVariants as reading
 use Rattle.wincode_base.specs.declared.meta.TypeMeta.TheVariants.{Static}
@@ -113,5 +113,5 @@ unit_write = record {
   meta = Static 0 true;
   prealloc = 1;
   builtin = true;
-  refused = never_unwritten;
+  refused = never_refused;
 }

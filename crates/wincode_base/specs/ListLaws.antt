@@ -82,7 +82,7 @@ module _ {V : Type 0} (reads : List ℕ → V → Type 0) where
   pub items_refused : IsUnambiguous reads → (i n borrow : ℕ) (takes_no_memory : Bool) → i < n → (old mid new : ReaderState) (vs : List V) (e : ReadError) → Gives (AreItems i reads) old mid vs → ReadRefused reads borrow takes_no_memory mid new e → ReadRefused (AreItems n reads) borrow false old new e
   items_refused one i n borrow takes_no_memory = items_refused_by one i n borrow takes_no_memory false (λ x. refl)
 
-none_spared : (a : Bool) → (a && false) ≡ false
+pub none_spared : (a : Bool) → (a && false) ≡ false
 none_spared false = refl
 none_spared true = refl
 

@@ -33,16 +33,7 @@ ItemsWriteRefused g vs room added e = g.meta ≡ Dynamic → ItemWriteRefused g 
 
 -- an item among others, of whose refusal no more is said where it has one size
 abbrev pub item_write : {V : Type 0} → WriteGrammar V → WriteGrammar V
-item_write g = record {
-  writes = g.writes;
-  can = g.can;
-  size = g.size;
-  fits = g.fits;
-  meta = g.meta;
-  prealloc = g.prealloc;
-  builtin = g.builtin;
-  refused = λ v room added e. g.meta ≡ Dynamic → g.refused v room added e;
-}
+item_write g = record g { refused = λ v room added e. g.meta ≡ Dynamic → g.refused v room added e }
 
 -- items without their length, as something to write
 abbrev pub items_write : {V : Type 0} → WriteGrammar V → WriteGrammar (List V)
@@ -59,16 +50,7 @@ items_write g = record {
 
 -- the same, each item by itself, whatever is announced of their size
 abbrev pub each_write : {V : Type 0} → WriteGrammar V → WriteGrammar (List V)
-each_write g = record {
-  writes = λ vs b. Joined g.writes vs b;
-  can = λ vs. Each g.can vs;
-  size = λ vs. total g.size vs;
-  fits = λ vs. Each g.fits vs;
-  meta = Dynamic;
-  prealloc = 1;
-  builtin = g.builtin;
-  refused = ItemWriteRefused g;
-}
+each_write g = record (items_write g) { refused = ItemWriteRefused g }
 
 -- b is the encoding of the length of vs, and then their encodings joined
 abbrev pub IsListEncoding : {V : Type 0} → Scheme → (V → List ℕ → Type 0) → List V → List ℕ → Type 0
@@ -123,16 +105,7 @@ ListWriteRefused s Vast g = WholeWriteRefused s Vast g
 
 -- A list of items of this size, through one window where it is known.
 abbrev pub list_write_of : {V : Type 0} → Scheme → ℕ → ItemSize → WriteGrammar V → WriteGrammar (List V)
-list_write_of s count size g = record {
-  writes = (parts_write s count g).writes;
-  can = (parts_write s count g).can;
-  size = (parts_write s count g).size;
-  fits = (parts_write s count g).fits;
-  meta = Dynamic;
-  prealloc = count;
-  builtin = s.builtin && g.builtin;
-  refused = ListWriteRefused s size g;
-}
+list_write_of s count size g = record (parts_write s count g) { refused = ListWriteRefused s size g }
 
 -- The same, written: `fits` says that the length is admitted where the list is read back.
 abbrev pub list_write : {V : Type 0} → Scheme → ℕ → WriteGrammar V → WriteGrammar (List V)
@@ -178,7 +151,7 @@ items_read n g = record { reads = AreItems n g.reads; meta = Dynamic; prealloc =
 
 -- n items of this size, through one window where it is known
 abbrev pub run_read : {V : Type 0} → ℕ → ItemSize → ReadGrammar V → ReadGrammar (List V)
-run_read n size g = record { reads = AreItems n g.reads; meta = Dynamic; prealloc = 1; borrow = g.borrow; takes_no_memory = false; refused = RunReadRefused n size g }
+run_read n size g = record (items_read n g) { refused = RunReadRefused n size g }
 
 -- What a read answers that adds n values to a list: they are there; or it was refused, and the list is as it was.
 pub record AddOutcome {A D V : Type 0} (n : ℕ) (g : ReadGrammar V) (model : D → V) (old new : ReaderState) (before after : List D) (r : Result A ReadError) : Type 0 where

@@ -157,9 +157,9 @@ WriteDue able new writing.OutOfMemory = new.never_fails ≡ false
 WriteDue able new _ = able → ⊥
 
 -- the error of a writer, which its memory or its device refused
-abbrev pub IsReason : {S K : Type 0} {put : S → List ℕ → S} {room : S → ℕ} → WriterState put room K → WriteError → Type 0
-IsReason new (writing.Io e) = WriteRefusedFor ⊥ 0 new e
-IsReason new _ = ⊥
+abbrev pub IsOfTheWriter : {S K : Type 0} {put : S → List ℕ → S} {room : S → ℕ} → WriterState put room K → WriteError → Type 0
+IsOfTheWriter new (writing.Io e) = WriteRefusedFor ⊥ 0 new e
+IsOfTheWriter new _ = ⊥
 
 -- v can be written, in at most `usize::MAX` bytes, for which there is room
 abbrev pub IsAble : {S K V : Type 0} {put : S → List ℕ → S} {room : S → ℕ} → WriteGrammar V → WriterState put room K → V → Type 0
@@ -195,7 +195,7 @@ pub record WriteOutcome {A S K V : Type 0} {put : S → List ℕ → S} {room : 
 -- back was refused its memory or by its device.
 abbrev pub SerializeIntoRefused : {S K V : Type 0} {put : S → List ℕ → S} {room : S → ℕ} → Bool → WriteGrammar V → WriterState put room K → WriterState put room K → V → WriteError → Type 0
 SerializeIntoRefused buffers g old new v e = (WriteRefused g old new v e × Stopped g old new v e)
-    ⊎ (Wrote g old new v × IsTrue buffers × IsReason new e)
+    ⊎ (Wrote g old new v × IsTrue buffers × IsOfTheWriter new e)
 
 -- the text of an overflow of a size past `usize::MAX`
 abbrev pub past_usize : List ℕ

@@ -68,14 +68,14 @@ StrReadRefused unlent owned old new e = LengthReadRefused preallocation_limit 1 
     ⊎ ((n : ℕ) × (mid : ReaderState) × Gives (IsLength (bincode preallocation_limit) 1) old mid n × StrBytesReadRefused (unlent mid) owned n mid new e)
 
 -- whether a borrow that is asked for may be refused by a reader, which lends too little
-abbrev pub LendsNothing : ℕ → ReaderState → Type 0
-LendsNothing zero s = ⊥
-LendsNothing (suc n) s = s.lends < suc n
+abbrev pub LendsTooLittle : ℕ → ReaderState → Type 0
+LendsTooLittle zero s = ⊥
+LendsTooLittle (suc n) s = s.lends < suc n
 
 -- whether a text takes memory
-abbrev pub IsOwned : Bool → Type 0
-IsOwned true = ⊥
-IsOwned false = ⊤
+abbrev pub TakesMemory : Bool → Type 0
+TakesMemory true = ⊥
+TakesMemory false = ⊤
 
 -- A text is how many bytes it has in UTF-8, as eight bytes, and then those bytes, which are its value.
 abbrev pub str_read : ℕ → ℕ → Bool → ReadGrammar (List ℕ)
@@ -85,7 +85,7 @@ str_read prealloc borrow takes_no_memory = record {
   prealloc = prealloc;
   borrow = borrow;
   takes_no_memory = takes_no_memory;
-  refused = StrReadRefused (LendsNothing borrow) (IsOwned takes_no_memory);
+  refused = StrReadRefused (LendsTooLittle borrow) (TakesMemory takes_no_memory);
 }
 
 -- the length of a text was refused, or, behind it, its bytes, each in one piece
@@ -117,7 +117,7 @@ body_read n borrow takes_no_memory = record {
   prealloc = 1;
   borrow = borrow;
   takes_no_memory = takes_no_memory;
-  refused = λ old. StrBytesReadRefused (LendsNothing borrow old) (IsOwned takes_no_memory) n old;
+  refused = λ old. StrBytesReadRefused (LendsTooLittle borrow old) (TakesMemory takes_no_memory) n old;
 }
 
 -- the size of what is written for a reference, which is not a list of bytes
@@ -127,13 +127,4 @@ reference_meta Dynamic = Dynamic
 
 -- what is written for a reference is what is written for its value
 abbrev pub reference_write : {V : Type 0} → WriteGrammar V → WriteGrammar V
-reference_write g = record {
-  writes = g.writes;
-  can = g.can;
-  size = g.size;
-  fits = g.fits;
-  meta = reference_meta g.meta;
-  prealloc = g.prealloc;
-  builtin = g.builtin;
-  refused = g.refused;
-}
+reference_write g = record g { meta = reference_meta g.meta }

@@ -12,7 +12,7 @@ use Rattle.wincode_base.specs.LeafLaws.{number_one}
 use Rattle.wincode_base.specs.Pairs.{pair_meta}
 use Rattle.wincode_base.specs.Sequences.{Then, then_gives, then_first, then_second, then_unambiguous, strip, gives_map, refuses_map}
 use Rattle.wincode_base.specs.Outcomes.{Gives, ReadRefused, unsaid}
-use Rattle.wincode_base.specs.Tags.{IsTagSize, greatest_tag, tagged_read, tagged_write, counted_read, counted_write, option_tag, OptionReads, option_part_read, option_read, OptionReadRefused, OptionWrites, IfPart, option_size, option_part_write, option_write, sides_tag, result_tag, sides_meta, SidesRead, sides_read, result_read, SidesWrite, IfSide, sides_size, sides_write, result_write}
+use Rattle.wincode_base.specs.Tags.{IsTagSize, tagged_read, tagged_write, counted_read, counted_write, option_tag, OptionReads, option_part_read, option_read, OptionReadRefused, OptionWrites, IfPart, option_size, option_part_write, option_write, sides_tag, result_tag, sides_meta, SidesRead, sides_read, result_read, SidesWrite, IfSide, sides_size, sides_write, result_write}
 use Rattle.wincode_base.specs.declared.meta.TypeMeta.{TypeMeta}
 use Rattle.wincode_base.specs.declared.meta.TypeMeta.TheVariants.{Static, Dynamic}
 use Rattle.wincode_base.specs.declared.error.ReadError.{ReadError}
@@ -48,9 +48,6 @@ small_tag (suc (suc k)) some t h =
     let e : 256 ^ suc (suc k) ≡ 256 * 256 ^ suc k = rw pow-suc (omega arith) in
     omega (arith, r, e)
 
-pub small_tag_at_most : (k : ℕ) → 1 ≤ k → (t : ℕ) → t < 256 → t ≤ greatest_tag k
-small_tag_at_most k some t h = omega (arith, small_tag k some t h)
-
 -- ---- a tag, and then what it names
 
 -- what stands behind the tag t
@@ -65,7 +62,7 @@ pub record CaseLaws {V : Type 0} (k : ℕ) (tag : V → ℕ) (is_valid : V → T
   pub statics : IsReadStatic part.reads part.meta
   pub prealloc : 1 ≤ part.prealloc
 
-spares : (b : Bool) → true ≡ false → b ≡ false
+pub spares : (b : Bool) → true ≡ false → b ≡ false
 spares b e = cc
 
 module _ {V : Type 0} (k : ℕ) (tag : V → ℕ) (small : (v : V) → tag v < 256 ^ k) (part : ReadGrammar V) where
@@ -133,10 +130,6 @@ cases_read_laws {refusal = refusal} {k = k} {tag = tag} {is_valid = is_valid} {p
 -- what has one tag alone
 pub one_case : {V : Type 0} {k : ℕ} {p : V → Type 0} {g : ReadGrammar V} (t : ℕ) → t < 256 ^ k → ReadLaws p g → CaseLaws k (λ v. t) p g
 one_case t small l = record { small = λ v. small; one = λ u a b x y v w i j e. l.one_front a b x y v w i.1 j.1 e; reads_valid = l.reads_valid; statics = l.statics; prealloc = l.prealloc }
-
--- counted otherwise against a limit
-pub counted_cases : {V : Type 0} {k : ℕ} {tag : V → ℕ} {p : V → Type 0} {g : ReadGrammar V} (n : ℕ) → 1 ≤ n → CaseLaws k tag p g → CaseLaws k tag p (counted_read n g)
-counted_cases n some l = record { small = l.small; one = l.one; reads_valid = l.reads_valid; statics = l.statics; prealloc = some }
 
 -- ---- writing a tag and then what it names
 
@@ -237,7 +230,7 @@ side_sizes : {V W : Type 0} (g : ReadGrammar V) (h : ReadGrammar W) (a b : ℕ) 
 side_sizes g h a b e i j t (Ok v) r = i t v r
 side_sizes g h a b e i j t (Err w) r = j t w r ∙ sym e
 
-sides_static : {V W : Type 0} (g : ReadGrammar V) (h : ReadGrammar W) (m n : TypeMeta) → IsReadStatic g.reads m → IsReadStatic h.reads n → IsReadStatic (SidesRead g.reads h.reads) (sides_meta m n)
+pub sides_static : {V W : Type 0} (g : ReadGrammar V) (h : ReadGrammar W) (m n : TypeMeta) → IsReadStatic g.reads m → IsReadStatic h.reads n → IsReadStatic (SidesRead g.reads h.reads) (sides_meta m n)
 sides_static g h Dynamic n i j = tt
 sides_static g h (Static a x) Dynamic i j = tt
 sides_static {V} {W} g h (Static a x) (Static b y) i j =

@@ -50,11 +50,11 @@ tagged_write k tag part = record {
 
 -- the same, of which each value counts n against a limit
 abbrev pub counted_read : {V : Type 0} → ℕ → ReadGrammar V → ReadGrammar V
-counted_read n g = record { reads = g.reads; meta = g.meta; prealloc = n; borrow = g.borrow; takes_no_memory = g.takes_no_memory; refused = g.refused }
+counted_read n g = record g { prealloc = n }
 
 -- the same, written
 abbrev pub counted_write : {V : Type 0} → ℕ → WriteGrammar V → WriteGrammar V
-counted_write n g = record { writes = g.writes; can = g.can; size = g.size; fits = g.fits; meta = g.meta; prealloc = n; builtin = g.builtin; refused = g.refused }
+counted_write n g = record g { prealloc = n }
 
 -- A tag of k bytes was refused: too few bytes are left, and they stay; or the tag, which was read, names nothing.
 abbrev pub TagReadRefused : ℕ → (ℕ → Type 0) → ReadRefusal

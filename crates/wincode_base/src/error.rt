@@ -182,6 +182,7 @@ impl<T: Drop> From<AllocFailed<T>> for WriteError {
 }
 
 /// A cast of bytes at the wrong alignment.
+#[cold]
 pub fn unaligned_pointer_read() -> ReadError
     ensures { result ≡ ReadError.UnalignedPointerRead }
 {
@@ -189,6 +190,7 @@ pub fn unaligned_pointer_read() -> ReadError
 }
 
 /// A list that would need `needed` bytes where `limit` are admitted.
+#[cold]
 pub fn preallocation_size_limit(needed: usize, limit: usize) -> ReadError
     ensures { result ≡ ReadError.PreallocationSizeLimit needed limit }
 {
@@ -196,6 +198,7 @@ pub fn preallocation_size_limit(needed: usize, limit: usize) -> ReadError
 }
 
 /// A length to read past `max_length`.
+#[cold]
 pub fn read_length_encoding_overflow(max_length: &'static str) -> ReadError
     ensures { result ≡ ReadError.LengthEncodingOverflow max_length.entry }
 {
@@ -203,6 +206,7 @@ pub fn read_length_encoding_overflow(max_length: &'static str) -> ReadError
 }
 
 /// A length to write past `max_length`.
+#[cold]
 pub fn write_length_encoding_overflow(max_length: &'static str) -> WriteError
     ensures { result ≡ WriteError.LengthEncodingOverflow max_length.entry }
 {
@@ -210,6 +214,7 @@ pub fn write_length_encoding_overflow(max_length: &'static str) -> WriteError
 }
 
 /// A number that does not fit a pointer.
+#[cold]
 pub fn pointer_sized_decode_error() -> ReadError
     ensures { result ≡ ReadError.PointerSizedReadError }
 {
@@ -217,6 +222,7 @@ pub fn pointer_sized_decode_error() -> ReadError
 }
 
 /// A byte that is no `bool`.
+#[cold]
 pub fn invalid_bool_encoding(byte: u8) -> ReadError
     ensures { result ≡ ReadError.InvalidBoolEncoding byte }
 {
@@ -224,6 +230,7 @@ pub fn invalid_bool_encoding(byte: u8) -> ReadError
 }
 
 /// A tag that names no case.
+#[cold]
 pub fn invalid_tag_encoding(tag: usize) -> ReadError
     ensures { result ≡ ReadError.InvalidTagEncoding tag }
 {
@@ -231,6 +238,7 @@ pub fn invalid_tag_encoding(tag: usize) -> ReadError
 }
 
 /// Bytes that are not UTF-8.
+#[cold]
 pub fn invalid_utf8_encoding(error: Utf8Error) -> ReadError
     ensures { result ≡ ReadError.InvalidUtf8Encoding error }
 {
@@ -238,6 +246,7 @@ pub fn invalid_utf8_encoding(error: Utf8Error) -> ReadError
 }
 
 /// A first byte that no `char` has.
+#[cold]
 pub fn invalid_char_lead(val: u8) -> ReadError
     ensures { result ≡ ReadError.InvalidCharLead val }
 {

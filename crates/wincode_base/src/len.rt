@@ -7,6 +7,7 @@ ghost use Rattle.wincode_base.specs.Outcomes.{WriteOutcome, GetOutcome};
 pub mod short_vec;
 
 use crate::error::{ReadResult, WriteResult, preallocation_size_limit};
+use crate::front::put_front;
 pub use crate::len::short_vec::{ShortU16, ShortU16Len};
 use crate::reader::take_number;
 use wincode_io::{Lending, Reader, Writer};
@@ -81,11 +82,7 @@ impl<const MAX_SIZE: usize> SeqLen for BincodeLen<MAX_SIZE> {
 
     #[inline(always)]
     fn encode(len: usize, dst: &mut [u8]) -> Option<usize> {
-        if dst.len() < 8 {
-            return None;
-        }
-        dst[..8].copy_from_slice(&(len as u64).to_le_bytes());
-        Some(8)
+        put_front(&(len as u64).to_le_bytes(), dst)
     }
 
     ghost scheme_laws = { bincode_laws MAX_SIZE };

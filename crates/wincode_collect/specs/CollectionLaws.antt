@@ -38,10 +38,6 @@ module _ {K : Type 0} (cmp : K → K → Ordering) (o : IsTotalOrder cmp) where
   below_all q k [] l a = tt
   below_all q k (x ∷ ks) l a = (o.trans q k x l a.0, below_all q k ks l a.1)
 
-  -- no key past the first is equal to what the first is
-  pub none_past : (q k : K) (ks : List K) → IsStrictlySortedBy cmp (k ∷ ks) → is_eq (cmp q k) ≡ true → find (is_at (cmp q)) ks ≡ None
-  none_past q k ks s e = ap (λ t. find t ks) (same_test q k e) ∙ none_below k ks (sorted_head cmp k ks s)
-
   pub none_from : (q k : K) (ks : List K) → IsStrictlySortedBy cmp (k ∷ ks) → cmp q k ≡ Less → find (is_at (cmp q)) (k ∷ ks) ≡ None
   none_from q k ks s l = none_below q (k ∷ ks) (l, below_all q k ks l (sorted_head cmp k ks s))
 
@@ -84,9 +80,6 @@ map_more cmp o ps es fs k v m e s u = record {
   };
   lasts = λ q. u q ∙ ap (λ b. cond b (Some v) (lookup (is_at (cmp q)) es)) ((eq_by_cmp_equiv o).symm k q) ∙ ap (cond (is_at (cmp q) k) (Some v)) (m.lasts q) ∙ sym (ap (lookup (is_at (cmp q))) (reverse-append ps ((k, v) ∷ [])));
 }
-
-pub map_none : {K X : Type 0} (cmp : K → K → Ordering) (es : List (K × X)) → IsStrictlySortedBy cmp (keys_of es) → es ≡ [] → IsMapOf cmp [] es
-map_none cmp es s e = record { keys = record { ordered = s; firsts = λ q. rw e refl }; lasts = λ q. rw e refl }
 
 module _ {K : Type 0} (cmp : K → K → Ordering) (o : IsTotalOrder cmp) where
   set_by_order : (q k e : K) (es : List K) → IsStrictlySortedBy cmp (e ∷ es) → find (is_at (cmp q)) (insert_key cmp es k) ≡ option_or (find (is_at (cmp q)) es) (find (is_at (cmp q)) (k ∷ []))
@@ -181,9 +174,6 @@ module _ {K : Type 0} (eq : K → K → Bool) (laws : IsEquivalence eq) where
       };
       lasts = λ q. u q ∙ ap (λ b. cond b (Some v) (lookup (eq q) es)) (laws.symm k q) ∙ ap (cond (eq q k) (Some v)) (m.lasts q) ∙ sym (ap (lookup (eq q)) (reverse-append ps ((k, v) ∷ [])));
     }
-
-    pub hash_none : (es : List (K × X)) → IsDistinct eq (keys_of es) → es ≡ [] → IsHashMapOf eq [] es
-    hash_none es d e = record { keys = record { once = d; firsts = λ q. rw e refl }; lasts = λ q. rw e refl }
 
 pub any_found : {K : Type 0} (t : K → Bool) (ks : List K) → list_any t ks ≡ is_some (find t ks)
 any_found t [] = refl

@@ -7,7 +7,7 @@ use std::alloc::Global;
 use std::process::ExitCode;
 use std::rt::{Env, Files};
 use std::{env, fs, io};
-use wincode_deriving::{DeriveError, DeriveResult, answers_of, module_of};
+use wincode_derive_text::{DeriveError, DeriveResult, answers_of, module_of};
 
 /// What is to be done.
 #[derive(Clone, Copy, PartialEq)]

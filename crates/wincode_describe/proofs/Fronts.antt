@@ -6,11 +6,11 @@ use Rattle.std.proofs.lemmas.List.{drop_all, drop-drop, drop-map, length-map}
 use Rattle.std.proofs.lemmas.Str.Parse.{IsNumeralModel, numerals_by_value, tells_all_ascii_digits, parse_digits}
 use Rattle.std.specs.Str.{all_ascii_digits}
 use Rattle.std.specs.Str.Parse.{ParsesUnsigned, digits_value}
-use Rattle.wincode_deriving.specs.Splits.{piece}
+use Rattle.wincode_derive_text.specs.Splits.{piece}
 use Rattle.wincode_describe.specs.Phrases.{Piece, front_text, number_front, number_of}
-use Rattle.wincode_deriving.specs.declared.tokens.Kind.{Kind}
-use Rattle.wincode_deriving.specs.declared.tokens.Kind.TheVariants as kind
-use Rattle.wincode_deriving.specs.declared.tokens.Token.{Token}
+use Rattle.wincode_derive_text.specs.declared.tokens.Kind.{Kind}
+use Rattle.wincode_derive_text.specs.declared.tokens.Kind.TheVariants as kind
+use Rattle.wincode_derive_text.specs.declared.tokens.Token.{Token}
 
 -- a token stands in front of what is left from its place on
 pub at_front : (items : List Token) (n : ℕ) (t : Token) → n < length items → t ≡ get_or items n t → drop n (map piece items) ≡ piece t ∷ map piece (drop (suc n) items)

@@ -8,8 +8,8 @@ use Rattle.std.proofs.lemmas.Str.Parse.{IsNumeralModel, numerals_by_value, tells
 use Rattle.std.specs.Char.{encode_utf8}
 use Rattle.std.specs.Str.{all_ascii_digits}
 use Rattle.std.specs.Str.Parse.{digits_value}
-use Rattle.wincode_deriving.specs.Splits.{all_of_word, of_word, tokens_from, tokens_in}
-use Rattle.wincode_deriving.proofs.SplitLaws.{and_left, and_right, ascii_of_word, word_before, digits_of_word}
+use Rattle.wincode_derive_text.specs.Splits.{all_of_word, of_word, tokens_from, tokens_in}
+use Rattle.wincode_derive_text.proofs.SplitLaws.{and_left, and_right, ascii_of_word, word_before, digits_of_word}
 use Rattle.wincode_describe.proofs.ReadsBack.{type_back}
 use Rattle.wincode_describe.specs.Forms.{Form, seen, Number, Flag, Letter, Nothing, Words, Bytes, ByteBlock, Maybe, Either, Held, Many, Several, Pairs, Block, Group, Record, Both, Named, Choice, LastCase, OneCase}
 use Rattle.wincode_describe.specs.Phrases.{Piece}

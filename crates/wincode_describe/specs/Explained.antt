@@ -35,5 +35,6 @@ ExplainsSource d s parts (Some e) = (IsTrue s.is_known → AreFront s.coming par
 abbrev pub Checks : Described → List ℕ → ℕ → Option ReadError → Type 0
 Checks d bytes n refused = (parts : List Part) × (n ≡ length (parts_bytes parts)) × Explains d bytes parts refused
 
+-- so, of what a reader has
 abbrev pub ChecksRead : Described → ReaderState → ReaderState → ℕ → Option ReadError → Type 0
 ChecksRead d old new n refused = (parts : List Part) × (n ≡ length (parts_bytes parts)) × ExplainsRead d old new parts refused

@@ -2,9 +2,9 @@
 use Rattle.std.specs.Prelude.{◌≡◌, ◌^◌, ℕ, if◌then◌else◌, ◌&&◌, nat_lt, List, [], ◌∷◌, length, drop, map, bytes_eq, Option, Some, None, option_and_then, option_map, Result, Ok, Err}
 use Rattle.std.specs.Str.{all_ascii_digits}
 use Rattle.std.specs.Str.Parse.{digits_value}
-use Rattle.wincode_deriving.specs.Splits.{piece}
-use Rattle.wincode_deriving.specs.declared.tokens.Kind.{Kind}
-use Rattle.wincode_deriving.specs.declared.tokens.Kind.TheVariants as kind
+use Rattle.wincode_derive_text.specs.Splits.{piece}
+use Rattle.wincode_derive_text.specs.declared.tokens.Kind.{Kind}
+use Rattle.wincode_derive_text.specs.declared.tokens.Kind.TheVariants as kind
 use Rattle.wincode_describe.specs.declared.error.DescribeError.{DescribeError}
 use Rattle.wincode_describe.specs.declared.error.DescribeError.TheVariants.{OutOfMemory}
 use Rattle.wincode_describe.specs.declared.tokens.Tokens.{Tokens}

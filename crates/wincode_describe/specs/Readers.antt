@@ -76,6 +76,7 @@ opening_of w =
     else if bytes_eq w (codes "containers") then opening.Container
     else opening.Name
 
+-- the width of an enum's tag, by its word
 abbrev pub tag_of : List ℕ → Option TagSize
 tag_of w =
     if bytes_eq w (codes "u8") then Some tag.U8
@@ -84,6 +85,7 @@ tag_of w =
     else if bytes_eq w (codes "u64") then Some tag.U64
     else None
 
+-- the greatest tag of this width
 abbrev pub greatest_of : TagSize → ℕ
 greatest_of tag.U8 = 255
 greatest_of tag.U16 = 65535
@@ -95,16 +97,19 @@ abbrev pub list_form : LengthScheme → Form → Form
 list_form s (Number U8) = Bytes s
 list_form s d = Many s d
 
+-- an array of bytes is one part
 abbrev pub array_form : ℕ → Form → Form
 array_form n (Number U8) = ByteBlock n
 array_form n d = Block n d
 
+-- what stands in the angle brackets of such a word is held so
 abbrev pub held_form : Holder → Form → Form
 held_form holder.Option d = Maybe d
 held_form holder.Boxed d = Held d
 held_form holder.Set d = Several d
 held_form holder.List d = list_form Eight d
 
+-- the two that stand in the angle brackets of such a word
 abbrev pub pair_form : Pair → Form → Form → Form
 pair_form pair.Result d e = Either d e
 pair_form pair.Map d e = Pairs (Both d e)
@@ -127,15 +132,19 @@ goes_on closing ts = on (behind_sign (codes ",") ts)
     (option_map (λ end. (false, end)) (behind_sign closing ts))
 
 module _ (types : Reader) where
+  -- an item, a semicolon, how many there are, and the closing bracket
   abbrev pub array_by : Reader
   array_by ts = and_then (types ts) (λ d. and_then (sign_front (codes ";") d.1) (λ s. and_then (number_front s.1) (λ n. and_then (sign_front (codes "]") n.1) (λ e. Some (array_form n.0 d.0, e.1)))))
 
+  -- one type in angle brackets
   abbrev pub item_by : (Form → Form) → Reader
   item_by f ts = and_then (sign_front (codes "<") ts) (λ s. and_then (types s.1) (λ d. and_then (sign_front (codes ">") d.1) (λ e. Some (f d.0, e.1))))
 
+  -- `Vec` and its item, behind the word `short`: a list behind a short length
   abbrev pub short_by : Reader
   short_by ts = and_then (word_front ts) (λ w. if bytes_eq w.0 (codes "Vec") then item_by (list_form Short) w.1 else None)
 
+  -- two types in angle brackets
   abbrev pub two_by : (Form → Form → Form) → Reader
   two_by f ts = and_then (sign_front (codes "<") ts) (λ s. and_then (types s.1) (λ d. and_then (sign_front (codes ",") d.1) (λ t. and_then (types t.1) (λ e. and_then (sign_front (codes ">") e.1) (λ u. Some (f d.0 e.0, u.1))))))
 
@@ -143,15 +152,19 @@ module _ (types : Reader) where
   abbrev pub several_by : Reader → Reader
   several_by members ts = and_then (types ts) (λ d. and_then (sign_front (codes ",") d.1) (λ s. and_then (members s.1) (λ e. Some (Group (Both d.0 e.0), e.1))))
 
+  -- behind the opening bracket of a tuple: none, or two members or more
   abbrev pub tuple_by : Reader → Reader
   tuple_by members ts = on (behind_sign (codes ")") ts) (λ rest. Some (Nothing, rest)) (several_by members ts)
 
+  -- one member or more, up to the closing bracket
   abbrev pub members_by : Reader → Reader
   members_by members ts = and_then (types ts) (λ d. and_then (goes_on (codes ")") d.1) (λ g. if g.0 then and_then (members g.1) (λ e. Some (Both d.0 e.0, e.1)) else Some (d.0, g.1)))
 
+  -- one field or more, each by its name, up to the closing brace
   abbrev pub fields_by : Reader → Reader
   fields_by fields ts = and_then (word_front ts) (λ w. and_then (sign_front (codes ":") w.1) (λ s. and_then (types s.1) (λ d. and_then (goes_on (codes "}") d.1) (λ g. if g.0 then and_then (fields g.1) (λ e. Some (Both (Named w.0 d.0) e.0, e.1)) else Some (Named w.0 d.0, g.1)))))
 
+  -- one case or more, each by a tag that no other has, up to the closing brace
   abbrev pub cases_by : ℕ → Reader → Reader
   cases_by greatest cases ts = and_then (number_front ts) (λ n. if nat_lt greatest n.0 then None else and_then (sign_front (codes ":") n.1) (λ s. and_then (types s.1) (λ d. and_then (goes_on (codes "}") d.1) (λ g. if g.0 then and_then (cases g.1) (λ e. if has_tag e.0 n.0 then None else Some (OneCase n.0 d.0 e.0, e.1)) else Some (LastCase n.0 d.0, g.1)))))
 
@@ -163,12 +176,15 @@ pub record Readers : Type 0 where
   pub fields : Reader
   pub cases : ℕ → Reader
 
+-- the fields of a struct, in braces
 abbrev pub struct_by : Reader → Reader
 struct_by fields ts = and_then (sign_front (codes "{") ts) (λ s. and_then (fields s.1) (λ d. Some (Record d.0, d.1)))
 
+-- the word of an enum's tag, and its cases, in braces
 abbrev pub enum_by : (ℕ → Reader) → Reader
 enum_by cases ts = and_then (word_front ts) (λ w. and_then (tag_of w.0) (λ k. and_then (sign_front (codes "{") w.1) (λ s. and_then (cases (greatest_of k) s.1) (λ d. Some (Choice k d.0, d.1)))))
 
+-- what stands behind the word that begins a type
 abbrev pub behind_word : Readers → Opening → Reader
 behind_word below opening.Struct ts = struct_by below.fields ts
 behind_word below opening.Enum ts = enum_by below.cases ts
@@ -185,6 +201,7 @@ word_by below w = on (plain_of w.0) (λ d. Some (d, w.1)) (behind_word below (op
 abbrev pub array_or_word : Readers → Reader
 array_or_word below ts = on (behind_sign (codes "[") ts) (array_by below.types) (and_then (word_front ts) (word_by below))
 
+-- a type: a tuple, an array, or one that begins with a word
 abbrev pub type_by : Readers → Reader
 type_by below ts = on (behind_sign (codes "(") ts) below.tuple (array_or_word below ts)
 
@@ -202,6 +219,7 @@ one_more below = record {
 abbrev pub unread : Reader
 unread ts = None
 
+-- where no level is left, nothing is read but `()`
 abbrev pub no_more : Readers
 no_more = record {
   types = unread;

@@ -1,8 +1,8 @@
 -- The words and signs of a described type, and which forms are of types.
 use Rattle.std.specs.Prelude.{◌≡◌, ◌^◌, ◌<◌, ◌≤◌, ℕ, zero, suc, Bool, true, false, List, ◌∷◌, length, codes}
 use Rattle.std.specs.Fmt.{decimal}
-use Rattle.wincode_deriving.specs.Splits.{all_of_word}
-use Rattle.wincode_deriving.specs.declared.tokens.Kind.TheVariants as kind
+use Rattle.wincode_derive_text.specs.Splits.{all_of_word}
+use Rattle.wincode_derive_text.specs.declared.tokens.Kind.TheVariants as kind
 use Rattle.wincode_describe.specs.Forms.{Form, Number, Flag, Letter, Nothing, Words, Bytes, ByteBlock, Maybe, Either, Held, Many, Several, Pairs, Block, Group, Record, Both, Named, Choice, LastCase, OneCase}
 use Rattle.wincode_describe.specs.Phrases.{Piece}
 use Rattle.wincode_describe.specs.Readers.{greatest_of, has_tag}
@@ -11,9 +11,11 @@ use Rattle.wincode_describe.specs.declared.described.Integer.TheVariants.{U8}
 use Rattle.wincode_describe.specs.declared.described.LengthScheme.{LengthScheme}
 use Rattle.wincode_describe.specs.declared.described.LengthScheme.TheVariants.{Eight, Short}
 
+-- a word, as a piece of the text
 abbrev pub word : List ℕ → Piece
 word w = (kind.Word, w)
 
+-- a sign, as a piece of the text
 abbrev pub sign : List ℕ → Piece
 sign s = (kind.Sign, s)
 

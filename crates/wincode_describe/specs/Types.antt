@@ -29,9 +29,11 @@ use Rattle.wincode_describe.specs.declared.described.Cases.TheVariants.{Last', C
 abbrev pub natural_shown : Integer → ℕ → List Part
 natural_shown i n = Natural i n ∷ []
 
+-- so of one with a sign
 abbrev pub signed_shown : Integer → ℤ → List Part
 signed_shown i z = Signed i z ∷ []
 
+-- an integer is read as its schema reads it
 abbrev pub integer_read : Integer → ReadGrammar (List Part)
 integer_read U8 = shown_read (natural_shown U8) (number_read 1 true)
 integer_read U16 = shown_read (natural_shown U16) (number_read 2 true)
@@ -46,6 +48,7 @@ integer_read I64 = shown_read (signed_shown I64) (signed_read w64 true)
 integer_read I128 = shown_read (signed_shown I128) (signed_read w128 true)
 integer_read Isize = shown_read (signed_shown Isize) (signed_read w64 false)
 
+-- the scheme by which the length of a list is read
 abbrev pub scheme_of : LengthScheme → Scheme
 scheme_of Eight = bincode preallocation_limit
 scheme_of Short = short_scheme
@@ -54,6 +57,7 @@ scheme_of Short = short_scheme
 abbrev pub text_shown : List ℕ → List Part
 text_shown v = Length Eight (length v) ∷ Text v ∷ []
 
+-- a list of bytes is its length, and then its bytes
 abbrev pub bytes_shown : LengthScheme → List ℕ → List Part
 bytes_shown s v = Length s (length v) ∷ Bytes v ∷ []
 
@@ -66,16 +70,20 @@ abbrev pub option_shown : Option (List Part) → List Part
 option_shown None = Tag 1 0 ∷ []
 option_shown (Some v) = Tag 1 1 ∷ v
 
+-- so of a result, whose tag has four bytes
 abbrev pub result_shown : Result (List Part) (List Part) → List Part
 result_shown (Ok v) = Tag 4 0 ∷ v
 result_shown (Err w) = Tag 4 1 ∷ w
 
+-- two parts, one after the other
 abbrev pub both_shown : List Part × List Part → List Part
 both_shown v = v.0 ++ v.1
 
+-- a list is read as its schema reads it
 abbrev pub list_of : LengthScheme → ReadGrammar (List Part) → ReadGrammar (List Part)
 list_of s g = shown_read (list_shown s) (list_read (scheme_of s) 24 g)
 
+-- how many bytes a tag of this width has
 abbrev pub tag_bytes : TagSize → ℕ
 tag_bytes tag.U8 = 1
 tag_bytes tag.U16 = 2

@@ -9,6 +9,7 @@ use Rattle.wincode_describe.specs.declared.described.LengthScheme.TheVariants.{E
 use Rattle.wincode_describe.specs.declared.described.TagSize.{TagSize}
 use Rattle.wincode_describe.specs.declared.described.TagSize.TheVariants as tag
 
+-- the word of an integer's type
 abbrev pub integer_name : Integer → List ℕ
 integer_name U8 = codes "u8"
 integer_name U16 = codes "u16"
@@ -23,10 +24,12 @@ integer_name I64 = codes "i64"
 integer_name I128 = codes "i128"
 integer_name Isize = codes "isize"
 
+-- what a list is called
 abbrev pub list_name : LengthScheme → List ℕ
 list_name Eight = codes "Vec"
 list_name Short = codes "short Vec"
 
+-- the word of a tag's width
 abbrev pub tag_name : TagSize → List ℕ
 tag_name tag.U8 = codes "u8"
 tag_name tag.U16 = codes "u16"

@@ -4,7 +4,7 @@ ghost use Rattle.wincode_describe.specs.declared.error.DescribeError.TheVariants
 
 use std::alloc::{AllocError, AllocFailed};
 use thiserror::Error;
-use wincode_deriving::DeriveError;
+use wincode_derive_text::DeriveError;
 
 /// Why a text describes no type.
 #[derive(Debug, Drop, Error)]

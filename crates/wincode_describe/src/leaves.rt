@@ -18,7 +18,7 @@ use wincode_base::len::{BincodeLen, PREALLOCATION_LIMIT, SeqLen, ShortU16Len};
 use wincode_base::tag::read_tag;
 use wincode_io::{Lending, ReadWindow, Reader};
 use wincode_read::schema::from_items::get_list;
-use wincode_read::schema::{SchemaGet, SchemaRead};
+use wincode_read::schema::{SchemaGet, read_bytes};
 
 /// The length of a list.
 pub(crate) fn read_length<L: Lending, R: Reader<L>>(
@@ -205,7 +205,7 @@ fn get_array<L: Lending, R: Reader<L>>(
 {
     let mut window = reader.as_trusted_for(n)?;
     let mut bytes = Vec::new(alloc);
-    <u8 as SchemaRead<L>>::read_items::<ReadWindow<L>>(alloc, &mut window, n, &mut bytes)?;
+    read_bytes::<L, ReadWindow<L>>(&mut window, n, &mut bytes)?;
     Ok(bytes)
 }
 

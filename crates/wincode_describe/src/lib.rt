@@ -1,4 +1,12 @@
 //! Types as values, by which bytes of any type are read, checked and explained.
+//!
+//! - `described`: `Described`, a type; `parsing` and `printing` have its text.
+//! - `reading`, `windows`: a value of a described type read part by part, from any reader.
+//! - `shown`, `sink`, `parts`, `spans`: the parts, where they go, their bytes, and where each stands.
+//! - `explaining`, `streaming`: the parts of bytes in memory, or of bytes as they come.
+//! - `lines`, `places`: what is printed of them.
+//!
+//! The grammar of a described type is made of those of the schemas: `specs/Types.antt`.
 #![tactic(auto)]
 
 pub mod described;

@@ -9,6 +9,7 @@ use crate::spans::{Span, spans};
 use crate::streaming::{bytes_left, explain_source};
 use std::alloc::{AllocError, Global};
 use wincode_base::error::ReadResult;
+use wincode_base::len::{BincodeLen, PREALLOCATION_LIMIT, SeqLen, ShortU16Len};
 use wincode_io::{Lifetime, Source, StreamReader};
 
 /// How many bytes of a part are printed.
@@ -204,21 +205,14 @@ fn push_front(bytes: &mut Vec<u8>, front: &[u8], size: usize) -> Result<(), Allo
     Ok(())
 }
 
-/// Adds the bytes of a length.
+/// Adds the bytes of a length, as its scheme puts them together.
 fn push_length(bytes: &mut Vec<u8>, scheme: LengthScheme, count: usize) -> Result<(), AllocError> {
-    let groups = [
-        (count % 128) as u8,
-        (count / 128 % 128) as u8,
-        (count / 16384 % 128) as u8,
-    ];
-    match scheme {
-        LengthScheme::Eight => push_front(bytes, &count.to_le_bytes(), 8),
-        LengthScheme::Short if count < 128 => push_front(bytes, &groups, 1),
-        LengthScheme::Short if count < 16384 => {
-            push_front(bytes, &[groups[0] | 128, groups[1]], 2)
-        }
-        LengthScheme::Short => push_front(bytes, &[groups[0] | 128, groups[1] | 128, groups[2]], 3),
-    }
+    let mut room = [0u8; 8];
+    let size = match scheme {
+        LengthScheme::Eight => BincodeLen::<PREALLOCATION_LIMIT>::encode(count, &mut room),
+        LengthScheme::Short => ShortU16Len::encode(count, &mut room),
+    };
+    push_front(bytes, &room, size.unwrap_or(0))
 }
 
 /// Adds the bytes of a part.

@@ -2,7 +2,7 @@
 ghost use Rattle.std.specs.Prelude.{◌≡◌, ◌<◌, option_map, length};
 ghost use Rattle.std.specs.String.{string_bytes};
 ghost use Rattle.std.specs.Str.{chars};
-ghost use Rattle.wincode_deriving.specs.Splits.{tokens_in};
+ghost use Rattle.wincode_derive_text.specs.Splits.{tokens_in};
 ghost use Rattle.wincode_describe.specs.Forms.{Both, Choice, Form, Group, LastCase, Named, OneCase, Record, seen, seen_cases};
 ghost use Rattle.wincode_describe.specs.Phrases.{left, Reads};
 ghost use Rattle.wincode_describe.specs.Readers.{
@@ -35,7 +35,7 @@ use crate::described::{Cases, Described, Integer, LengthScheme, TagSize};
 use crate::error::{DescribeError, DescribeResult, wanted};
 use crate::tokens::Tokens;
 use std::alloc::Global;
-use wincode_deriving::{
+use wincode_derive_text::{
     Declaration, DeclaredShape, Field, Fields, Token, Variant, declarations_of, tokens_of,
 };
 

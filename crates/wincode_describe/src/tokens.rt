@@ -2,14 +2,14 @@
 ghost use Rattle.std.specs.Prelude.{◌≡◌, ◌<◌, ◌==◌, if◌then◌else◌, length, drop, MatchResult, string_bytes};
 ghost use Rattle.std.specs.Bool.{OnFalse};
 ghost use Rattle.std.specs.Str.{chars};
-ghost use Rattle.wincode_deriving.specs.Splits.{tokens_in};
+ghost use Rattle.wincode_derive_text.specs.Splits.{tokens_in};
 ghost use Rattle.wincode_describe.specs.Phrases.{HasTokens, Reads, behind_sign, front_text, front_word, left, number_front};
 ghost use Rattle.wincode_describe.specs.Readers.{sign_front};
 ghost use Rattle.wincode_describe.specs.declared.error.DescribeError.TheVariants.{OutOfMemory};
 
 use crate::error::{DescribeError, DescribeResult, wanted};
 use std::alloc::Global;
-use wincode_deriving::{DeriveError, Kind, Token, tokens_of};
+use wincode_derive_text::{DeriveError, Kind, Token, tokens_of};
 
 /// The tokens of a text, and which of them is the next.
 #[derive(Drop)]

@@ -1,5 +1,5 @@
 //! How values of a type are read.
-ghost use Rattle.std.specs.Prelude.{◌≡◌, ◌++◌, List, length, map, IsTrue};
+ghost use Rattle.std.specs.Prelude.{◌≡◌, ◌++◌, List, length, map, IfSome, IsNone, IsTrue};
 ghost use Rattle.wincode_io.specs.Joins.{AreItems};
 ghost use Rattle.wincode_base.specs.Grammar.{ReadGrammar, ReadLaws};
 ghost use Rattle.wincode_base.specs.Lists.{AddOutcome};
@@ -23,6 +23,7 @@ mod tuples;
 mod views;
 
 use crate::schema::at_hand::front_at_hand;
+pub use crate::schema::leaves::read_bytes;
 use std::alloc::Global;
 use wincode_base::error::{ReadError, ReadResult};
 use wincode_base::meta::TypeMeta;
@@ -60,45 +61,23 @@ pub trait SchemaRead<L: Lending> {
     ) -> ReadResult<()>
         ensures { ReadOutcome reading model (R.state reader.old) (R.state reader.new) dst.old dst.new result };
 
-    /// Reads `n` values, one after another, and adds them to the list. Refused, the list holds what it
-    /// held, and the reader has an end of what it had.
-    fn read_items<R: Reader<L>>(
+    /// Reads `n` values at once and adds them to the list, and gives what this answers; or answers `None`, and has read
+    /// nothing.
+    #[inline(always)]
+    fn read_at_once<R: Reader<L>>(
         alloc: Global,
         reader: &mut R,
         n: usize,
         into: &mut Vec<Self::Dst>,
-    ) -> ReadResult<()>
-        ensures { AddOutcome n reading model (R.state reader.old) (R.state reader.new) into.old.items into.new.items result }
+    ) -> Option<ReadResult<()>>
+        ensures done { IfSome result (λ r. AddOutcome n reading model (R.state reader.old) (R.state reader.new) into.old.items into.new.items r) }
+        ensures left { IsNone result → R.state reader.new ≡ R.state reader.old }
+        ensures same { IsNone result → into.new.items ≡ into.old.items }
     {
-        let before = into.len();
-        if into.reserve(n).is_err() {
-            return Err(ReadError::OutOfMemory);
-        }
-        if let Some(bytes) = front_at_hand::<L, R>(reader, n, Self::type_meta()) {
-            let total = bytes.len();
-            if Self::decode_items(bytes, n, into) {
-                reader.consume_unchecked(total);
-                return Ok(());
-            }
-            into.truncate(before);
-        }
-        for _i in 0..n {
-            let mut item = None;
-            if let Err(error) = Self::read(alloc, reader, &mut item) {
-                into.truncate(before);
-                return Err(error);
-            }
-            match item {
-                Some(value) => {
-                    if into.push(value).is_err() {
-                        into.truncate(before);
-                        return Err(ReadError::OutOfMemory);
-                    }
-                }
-                None => unreachable!(),
-            }
-        }
-        Ok(())
+        let _ = (alloc, n);
+        let _ = &*reader;
+        let _ = &*into;
+        None
     }
 
     /// Some value to begin with, where the schema decodes values over others. What it is does not matter.
@@ -123,6 +102,19 @@ pub trait SchemaRead<L: Lending> {
     fn decode_over(bytes: &[u8], places: &mut [Self::Dst]) -> bool
         ensures { IsTrue result → AreItems (length places.old) reading.reads bytes.now (map model places.new) }
     {
+        let _ = bytes.len();
+        let _ = &*places;
+        false
+    }
+
+    /// As `decode_over`, and by `decode` where it answers `false`.
+    #[inline(always)]
+    final fn take_over(bytes: &[u8], places: &mut [Self::Dst]) -> bool
+        ensures { IsTrue result → AreItems (length places.old) reading.reads bytes.now (map model places.new) }
+    {
+        if Self::decode_over(bytes, places) {
+            return true;
+        }
         let TypeMeta::Static { size, .. } = Self::type_meta() else {
             return false;
         };
@@ -140,10 +132,10 @@ pub trait SchemaRead<L: Lending> {
         rest.is_empty()
     }
 
-    /// As `decode_over`, and adds the `n` values to the list; where it answers that it did not, any
+    /// As `take_over`, and adds the `n` values to the list; where it answers that it did not, any
     /// number of values may have been added.
     #[inline(always)]
-    fn decode_items(bytes: &[u8], n: usize, into: &mut Vec<Self::Dst>) -> bool
+    final fn take_items(bytes: &[u8], n: usize, into: &mut Vec<Self::Dst>) -> bool
         ensures { (ds : List Self.Dst) × (into.new.items ≡ into.old.items ++ ds) × (IsTrue result → AreItems n reading.reads bytes.now (map model ds)) }
     {
         let TypeMeta::Static { size, .. } = Self::type_meta() else {
@@ -168,6 +160,50 @@ pub trait SchemaRead<L: Lending> {
             rest = back;
         }
         rest.is_empty()
+    }
+
+    /// Reads `n` values, one after another, and adds them to the list. Refused, the list holds what it
+    /// held, and the reader has an end of what it had.
+    final fn read_items<R: Reader<L>>(
+        alloc: Global,
+        reader: &mut R,
+        n: usize,
+        into: &mut Vec<Self::Dst>,
+    ) -> ReadResult<()>
+        ensures { AddOutcome n reading model (R.state reader.old) (R.state reader.new) into.old.items into.new.items result }
+    {
+        if let Some(result) = Self::read_at_once::<R>(alloc, reader, n, into) {
+            return result;
+        }
+        let before = into.len();
+        if into.reserve(n).is_err() {
+            return Err(ReadError::OutOfMemory);
+        }
+        if let Some(bytes) = front_at_hand::<L, R>(reader, n, Self::type_meta()) {
+            let total = bytes.len();
+            if Self::take_items(bytes, n, into) {
+                reader.consume_unchecked(total);
+                return Ok(());
+            }
+            into.truncate(before);
+        }
+        for _i in 0..n {
+            let mut item = None;
+            if let Err(error) = Self::read(alloc, reader, &mut item) {
+                into.truncate(before);
+                return Err(error);
+            }
+            match item {
+                Some(value) => {
+                    if into.push(value).is_err() {
+                        into.truncate(before);
+                        return Err(ReadError::OutOfMemory);
+                    }
+                }
+                None => unreachable!(),
+            }
+        }
+        Ok(())
     }
 
     ghost read_laws: { ReadLaws is_valid reading };

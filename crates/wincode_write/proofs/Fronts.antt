@@ -1,17 +1,16 @@
 -- Encodings that are put, one after another, over the front of a list of bytes.
-use Rattle.std.proofs.Common.{◌≡◌, ◌∙◌, sym, ap, subst, ℕ, ◌+◌, ◌<◌, ◌≤◌, ◌^◌, List, ◌++◌, length, map, take, drop, get_or, refl, arith, Some, w64, length-append, length-take-le, take-append-drop}
-use Rattle.std.specs.Int.{to_le_bytes}
-use Rattle.std.proofs.lemmas.List.{take_all, take_at, take-append-le, length-map}
-use Rattle.std.proofs.lemmas.Slice.{take-put_mid, take-put_mid_below}
+use Rattle.std.proofs.Common.{◌≡◌, ◌∙◌, sym, ap, subst, ℕ, ◌+◌, ◌*◌, ◌<◌, ◌≤◌, List, ◌++◌, length, map, take, drop, get_or, refl, arith, Some, length-append, length-take-le, take-append-drop}
+use Rattle.std.proofs.lemmas.List.{take_all, take-append-le, length-map}
+use Rattle.std.proofs.lemmas.Slice.{take-put_mid_below}
 use Rattle.std.proofs.Math.Seq.{take-append-add}
 use borrow.Rule.Slice.PartMut.{put_mid, post_of}
 use Rattle.wincode_io.specs.Numbers.{le}
-use Rattle.wincode_io.specs.NumberLaws.{length-le, to_le_bytes-le}
 use Rattle.wincode_io.specs.Joins.{Joined, Each}
 use Rattle.wincode_io.specs.JoinLaws.{joined_snoc, map_more, each_after, each_map_after}
 use Rattle.wincode_io.specs.Writers.{WriterState, WriterLaws, Took}
 use Rattle.wincode_base.specs.Grammar.{WriteGrammar, WriteLaws}
-use Rattle.wincode_base.specs.Lengths.{Scheme}
+use Rattle.wincode_base.specs.Lengths.{Scheme, bincode}
+use Rattle.wincode_base.specs.LengthLaws.{bincode_encoding_is}
 use Rattle.wincode_base.specs.Lists.{items_write, parts_write}
 use Rattle.wincode_base.specs.ListLaws.{items_write_laws}
 use Rattle.wincode_base.specs.Outcomes.{IsEncoded}
@@ -69,11 +68,28 @@ module _ {A V : Type 0} (g : WriteGrammar V) (f : A → V) (p : A → Type 0) (x
     each = each_after xs i x h is p w.each one.2;
   }
 
-  -- so many items are encoded, which are all
-  pub filled_all : (i filled : ℕ) (bytes : List ℕ) → length xs ≤ i → IsEncoded (items_write g) (map f (take i xs)) (take filled bytes) → Each p (take i xs) → IsEncoded (items_write g) (map f xs) (take filled bytes) × Each p xs
-  filled_all i filled bytes all e each =
-      let whole : take i xs ≡ xs = take_all i xs all in
-      (subst (λ ys. IsEncoded (items_write g) (map f ys) (take filled bytes)) whole e, subst (Each p) whole each)
+  -- all items are encoded, over all of the bytes
+  pub filled_all : (i filled : ℕ) (bytes : List ℕ) → length xs ≤ i → length bytes ≤ filled → FilledSoFar g f p i filled xs bytes → IsEncoded (items_write g) (map f xs) bytes × Each p xs
+  filled_all i filled bytes all full w =
+      let items : take i xs ≡ xs = take_all i xs all in
+      let whole : take filled bytes ≡ bytes = take_all filled bytes full in (
+        (
+          subst (λ ys. Each g.can (map f ys)) items w.can,
+          subst (λ ys. Joined g.writes (map f ys) bytes) items (subst (Joined g.writes (map f (take i xs))) whole w.writes),
+        ),
+        subst (Each p) items w.each,
+      )
+
+  -- so, of items of n bytes each
+  pub sized_none : (n : ℕ) (bytes : List ℕ) → FilledSoFar g f p 0 (0 * n) xs bytes
+  sized_none n bytes = let none : 0 ≡ 0 * n = omega arith in subst (λ k. FilledSoFar g f p 0 k xs bytes) none (filled_none bytes)
+
+  pub sized_more : (i n k : ℕ) (x : A) (h : i < length xs) (is : x ≡ get_or xs i x) (old part : List ℕ) → FilledSoFar g f p i (i * n) xs old → length part ≡ n → IsEncoded g (f x) part × p x → FilledSoFar g f p (i + 1) ((i + 1) * n) xs (put_mid (i * n) k old part)
+  sized_more i n k x h is old part w sized one =
+      let more : i * n + n ≡ (i + 1) * n = omega arith in
+      let whole : take n part ≡ part = take_all n part (omega (arith, sized)) in
+      let next = filled_more i (i * n) n k x h is old part w (omega (arith, sized), subst (IsEncoded g (f x)) (sym whole) one.0, one.1) in
+      subst (λ m. FilledSoFar g f p (i + 1) m xs (put_mid (i * n) k old part)) more next
 
   -- the length of a list, and then its items
   pub list_in_front : (s : Scheme) (count a n k : ℕ) (old part : List ℕ) → (a ≤ length old) × (s.encoding (length xs) ≡ Some (take a old)) → (n ≤ length part) × IsEncoded (items_write g) (map f xs) (take n part) × Each p xs
@@ -94,25 +110,14 @@ pair_in_front g h v w a n k old part first behind = (
   ((first.1.0, behind.1.0), (take a old, take n part, first.1.1, behind.1.1, front_more a k n old part first.0 behind.0)),
 )
 
--- ---- a tag of k bytes, and then what it names
-
-pub tag_in_front : (k tag a n j : ℕ) (old part : List ℕ) → (a ≤ length old) × (take a old ≡ le k tag) → n ≤ length part → (a + n ≤ length (put_mid a j old part)) × (take (a + n) (put_mid a j old part) ≡ le k tag ++ take n part)
-tag_in_front k tag a n j old part first behind = (within_put a j n old part first.0 behind, front_more a j n old part first.0 behind ∙ ap (λ x. x ++ take n part) first.1)
-
 -- ---- texts
 
-pub text_in_front : (v encoding text rest : List ℕ) (prealloc size k : ℕ) → encoding ≡ to_le_bytes w64 (length v) → text ≡ v → size ≡ length v + 8 → length v < 2 ^ 64
-    → (size ≤ length (put_mid 8 k (encoding ++ rest) text)) × IsEncoded (str_write prealloc) v (take size (put_mid 8 k (encoding ++ rest) text))
-text_in_front v encoding text rest prealloc size k e t is small =
-    let number : encoding ≡ le 8 (length v) = e ∙ to_le_bytes-le w64 (length v) in
-    let eight : length encoding ≡ 8 = ap length number ∙ length-le 8 (length v) in
-    let long : 8 ≤ length (encoding ++ rest) = omega (arith, eight, length-append encoding rest) in
-    let same : length text ≡ length v = ap length t in (
-      omega (arith, is, same, within_put 8 k (length text) (encoding ++ rest) text long (omega arith)),
-      (
-        small,
-        take-put_mid 8 k (encoding ++ rest) text size (omega (arith, is, same)) long ∙ ap (λ x. x ++ text) (take_at encoding rest 8 eight ∙ number) ∙ ap (λ x. le 8 (length v) ++ x) t,
-      ),
+pub text_in_front : (limit prealloc : ℕ) (v : List ℕ) (a n k : ℕ) (old part : List ℕ) → (a ≤ length old) × ((bincode limit).encoding (length v) ≡ Some (take a old)) → (n ≤ length part) × (take n part ≡ v)
+    → (a + n ≤ length (put_mid a k old part)) × IsEncoded (str_write prealloc) v (take (a + n) (put_mid a k old part))
+text_in_front limit prealloc v a n k old part first behind =
+    let number = bincode_encoding_is limit (length v) (take a old) first.1 in (
+      within_put a k n old part first.0 behind.0,
+      (number.0, front_more a k n old part first.0 behind.0 ∙ ap (λ x. x ++ take n part) number.1 ∙ ap (λ x. le 8 (length v) ++ x) behind.1),
     )
 
 -- ---- what was put together is written

@@ -1,5 +1,5 @@
 //! How values of a type are written.
-ghost use Rattle.std.specs.Prelude.{◌≡◌, ◌≤◌, length, take, map, IfSome, IsTrue, IfOk, IfErr};
+ghost use Rattle.std.specs.Prelude.{◌≡◌, ◌≤◌, length, take, map, IfSome, IsNone, IsTrue, IfOk, IfErr};
 ghost use Rattle.wincode_io.specs.Joins.{Each};
 ghost use Rattle.wincode_base.specs.Grammar.{WriteGrammar, WriteLaws};
 ghost use Rattle.wincode_base.specs.Lists.{items_write};
@@ -68,12 +68,94 @@ pub trait SchemaWrite {
     fn write<W: Writer>(writer: &mut W, src: &Self::Src) -> WriteResult<()>
         ensures { WriteOutcome writing (W.state writer.old) (W.state writer.new) (model src.now) (is_valid src.now) result };
 
+    /// Writes one encoding of each item, one after another, all or nothing, and gives what this answers; or answers
+    /// `None`, and has written nothing.
+    #[inline(always)]
+    fn write_at_once<W: Writer>(writer: &mut W, items: &[Self::Src]) -> Option<WriteResult<()>>
+        ensures done { IfSome result (λ r. WriteOutcome (items_write writing) (W.state writer.old) (W.state writer.new) (map model items.now) (Each is_valid items.now) r) }
+        ensures left { IsNone result → W.state writer.new ≡ W.state writer.old }
+    {
+        let _ = &*writer;
+        let _items = items.len();
+        None
+    }
+
+    /// The size, in bytes, of every encoding of every value, where each value can be written and this is known
+    /// without looking at it.
+    #[inline(always)]
+    fn known_size() -> Option<usize>
+        ensures { IfSome result (λ n. (x : Self.Src) → IsSized writing (model x) n) }
+    {
+        None
+    }
+
+    /// Puts an encoding of the value over the front of the bytes, and gives how many it has; or answers `None`, as
+    /// where there are fewer, and may have put any bytes there.
+    #[inline(always)]
+    fn encode_front(src: &Self::Src, dst: &mut [u8]) -> Option<usize>
+        ensures { IfSome result (λ n. (n ≤ length dst.new) × IsEncoded writing (model src.now) (take n dst.new) × is_valid src.now) }
+    {
+        let _ = src;
+        let _len = dst.len();
+        None
+    }
+
+    /// Puts an encoding of each item, one after another, over all of the bytes, where they have as many; or
+    /// answers `false`, and may have put any bytes there.
+    #[inline(always)]
+    fn encode_items(items: &[Self::Src], dst: &mut [u8]) -> bool
+        ensures { IsTrue result → IsEncoded (items_write writing) (map model items.now) dst.new × Each is_valid items.now }
+    {
+        let _items = items.len();
+        let _len = dst.len();
+        false
+    }
+
+    /// Puts an encoding of the value over all of the bytes, where it has as many; or answers `false`, and may
+    /// have put any bytes there.
+    #[inline(always)]
+    final fn encode(src: &Self::Src, dst: &mut [u8]) -> bool
+        ensures { IsTrue result → IsEncoded writing (model src.now) dst.new × is_valid src.now }
+    {
+        match Self::encode_front(src, dst) {
+            Some(size) => size == dst.len(),
+            None => false,
+        }
+    }
+
+    /// As `encode_items`, and by `encode` where it answers `false`.
+    #[inline(always)]
+    final fn put_items(items: &[Self::Src], dst: &mut [u8]) -> bool
+        ensures { IsTrue result → IsEncoded (items_write writing) (map model items.now) dst.new × Each is_valid items.now }
+    {
+        let size = match Self::type_meta() {
+            TypeMeta::Static { size, .. } => size,
+            TypeMeta::Dynamic => return false,
+        };
+        if items.len().checked_mul(size) != Some(dst.len()) {
+            return false;
+        }
+        if Self::encode_items(items, dst) {
+            return true;
+        }
+        for i in 0..items.len() {
+            let at = i * size;
+            if !Self::encode(&items[i], &mut dst[at..at + size]) {
+                return false;
+            }
+        }
+        true
+    }
+
     /// Writes one encoding of each item, one after another. Refused, where all of them can be written, it
     /// has added a beginning of these encodings joined.
     #[inline]
-    fn write_items<W: Writer>(writer: &mut W, items: &[Self::Src]) -> WriteResult<()>
+    final fn write_items<W: Writer>(writer: &mut W, items: &[Self::Src]) -> WriteResult<()>
         ensures { WriteOutcome (items_write writing) (W.state writer.old) (W.state writer.new) (map model items.now) (Each is_valid items.now) result }
     {
+        if let Some(result) = Self::write_at_once::<W>(writer, items) {
+            return result;
+        }
         let size = match Self::type_meta() {
             TypeMeta::Static { size, .. } => size,
             TypeMeta::Dynamic => usize::MAX,
@@ -88,64 +170,5 @@ pub trait SchemaWrite {
             }
         }
         Ok(())
-    }
-
-    /// The size, in bytes, of every encoding of every value, where each value can be written and this is known
-    /// without looking at it.
-    #[inline(always)]
-    fn known_size() -> Option<usize>
-        ensures { IfSome result (λ n. (x : Self.Src) → IsSized writing (model x) n) }
-    {
-        None
-    }
-
-    /// Puts an encoding of the value over all of the bytes, where it has as many; or answers `false`, and may
-    /// have put any bytes there.
-    #[inline(always)]
-    fn encode(src: &Self::Src, dst: &mut [u8]) -> bool
-        ensures { IsTrue result → IsEncoded writing (model src.now) dst.new × is_valid src.now }
-    {
-        let _ = src;
-        let _len = dst.len();
-        false
-    }
-
-    /// Puts an encoding of the value over the front of the bytes, and gives how many it has; or answers `None`, as
-    /// where there are fewer, and may have put any bytes there.
-    #[inline(always)]
-    fn encode_front(src: &Self::Src, dst: &mut [u8]) -> Option<usize>
-        ensures { IfSome result (λ n. (n ≤ length dst.new) × IsEncoded writing (model src.now) (take n dst.new) × is_valid src.now) }
-    {
-        match Self::type_meta() {
-            TypeMeta::Static { size, .. } if size <= dst.len() => {
-                if Self::encode(src, &mut dst[..size]) {
-                    return Some(size);
-                }
-                None
-            }
-            _ => None,
-        }
-    }
-
-    /// Puts an encoding of each item, one after another, over all of the bytes, where they have as many; or
-    /// answers `false`, and may have put any bytes there.
-    #[inline(always)]
-    fn encode_items(items: &[Self::Src], dst: &mut [u8]) -> bool
-        ensures { IsTrue result → IsEncoded (items_write writing) (map model items.now) dst.new × Each is_valid items.now }
-    {
-        let size = match Self::type_meta() {
-            TypeMeta::Static { size, .. } => size,
-            TypeMeta::Dynamic => return false,
-        };
-        if items.len().checked_mul(size) != Some(dst.len()) {
-            return false;
-        }
-        for i in 0..items.len() {
-            let at = i * size;
-            if !Self::encode(&items[i], &mut dst[at..at + size]) {
-                return false;
-            }
-        }
-        true
     }
 }

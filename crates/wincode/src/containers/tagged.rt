@@ -43,6 +43,35 @@ impl<T: SchemaWrite, Tag: TagCode> SchemaWrite for Option<T, Tag> {
         write_option::<Tag, T, W>(writer, src)
     }
 
+    #[inline(always)]
+    fn write_at_once<W: Writer>(
+        writer: &mut W,
+        items: &[Self::Src],
+    ) -> option::Option<WriteResult<()>> {
+        let _ = &*writer;
+        let _items = items.len();
+        None
+    }
+
+    #[inline(always)]
+    fn known_size() -> option::Option<usize> {
+        None
+    }
+
+    #[inline(always)]
+    fn encode_front(src: &Self::Src, dst: &mut [u8]) -> option::Option<usize> {
+        let _ = src;
+        let _len = dst.len();
+        None
+    }
+
+    #[inline(always)]
+    fn encode_items(items: &[Self::Src], dst: &mut [u8]) -> bool {
+        let _items = items.len();
+        let _len = dst.len();
+        false
+    }
+
     ghost write_laws = { option_write_laws Tag.size T.is_valid T.model T.writing T.write_laws };
 }
 
@@ -74,6 +103,38 @@ impl<L: Lending, T: SchemaRead<L>, Tag: TagCode> SchemaRead<L> for Option<T, Tag
     ) -> ReadResult<()> {
         *dst = Some(get_option::<Tag, L, T, R>(alloc, reader)?);
         Ok(())
+    }
+
+    #[inline(always)]
+    fn read_at_once<R: Reader<L>>(
+        alloc: Global,
+        reader: &mut R,
+        n: usize,
+        into: &mut Vec<Self::Dst>,
+    ) -> option::Option<ReadResult<()>> {
+        let _ = (alloc, n);
+        let _ = &*reader;
+        let _ = &*into;
+        None
+    }
+
+    #[inline(always)]
+    fn blank() -> option::Option<Self::Dst> {
+        None
+    }
+
+    #[inline(always)]
+    fn decode(bytes: &[u8], place: &mut Self::Dst) -> bool {
+        let _ = bytes.len();
+        let _ = &*place;
+        false
+    }
+
+    #[inline(always)]
+    fn decode_over(bytes: &[u8], places: &mut [Self::Dst]) -> bool {
+        let _ = bytes.len();
+        let _ = &*places;
+        false
     }
 
     ghost read_laws = { option_read_laws Tag.size (some_bytes Tag.tag_law) T.is_valid T.reading T.read_laws };
@@ -112,6 +173,35 @@ impl<T: SchemaWrite, E: SchemaWrite, Tag: TagCode> SchemaWrite for Result<T, E, 
         write_result::<Tag, T, E, W>(writer, src)
     }
 
+    #[inline(always)]
+    fn write_at_once<W: Writer>(
+        writer: &mut W,
+        items: &[Self::Src],
+    ) -> option::Option<WriteResult<()>> {
+        let _ = &*writer;
+        let _items = items.len();
+        None
+    }
+
+    #[inline(always)]
+    fn known_size() -> option::Option<usize> {
+        None
+    }
+
+    #[inline(always)]
+    fn encode_front(src: &Self::Src, dst: &mut [u8]) -> option::Option<usize> {
+        let _ = src;
+        let _len = dst.len();
+        None
+    }
+
+    #[inline(always)]
+    fn encode_items(items: &[Self::Src], dst: &mut [u8]) -> bool {
+        let _items = items.len();
+        let _len = dst.len();
+        false
+    }
+
     ghost write_laws = { result_write_laws Tag.size T.is_valid E.is_valid T.model E.model T.writing E.writing T.write_laws E.write_laws };
 }
 
@@ -144,6 +234,38 @@ impl<L: Lending, T: SchemaRead<L>, E: SchemaRead<L>, Tag: TagCode> SchemaRead<L>
     ) -> ReadResult<()> {
         *dst = Some(get_result::<Tag, L, T, E, R>(alloc, reader)?);
         Ok(())
+    }
+
+    #[inline(always)]
+    fn read_at_once<R: Reader<L>>(
+        alloc: Global,
+        reader: &mut R,
+        n: usize,
+        into: &mut Vec<Self::Dst>,
+    ) -> option::Option<ReadResult<()>> {
+        let _ = (alloc, n);
+        let _ = &*reader;
+        let _ = &*into;
+        None
+    }
+
+    #[inline(always)]
+    fn blank() -> option::Option<Self::Dst> {
+        None
+    }
+
+    #[inline(always)]
+    fn decode(bytes: &[u8], place: &mut Self::Dst) -> bool {
+        let _ = bytes.len();
+        let _ = &*place;
+        false
+    }
+
+    #[inline(always)]
+    fn decode_over(bytes: &[u8], places: &mut [Self::Dst]) -> bool {
+        let _ = bytes.len();
+        let _ = &*places;
+        false
     }
 
     ghost read_laws = { result_read_laws Tag.size (some_bytes Tag.tag_law) T.is_valid E.is_valid T.reading E.reading T.read_laws E.read_laws };

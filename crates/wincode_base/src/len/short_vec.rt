@@ -10,6 +10,7 @@ ghost use Rattle.wincode_base.specs.ShortLaws.{short_scheme_laws};
 use crate::error::{
     ReadResult, WriteResult, read_length_encoding_overflow, write_length_encoding_overflow,
 };
+use crate::front::put_front;
 use crate::len::SeqLen;
 use wincode_io as io;
 use wincode_io::{Lending, Reader, Writer};
@@ -89,18 +90,6 @@ pub fn write_short<W: Writer>(writer: &mut W, value: u16) -> io::WriteResult<()>
         return writer.write(&[low, high as u8]);
     }
     writer.write(&[low, (128 + high % 128) as u8, (high / 128) as u8])
-}
-
-/// Puts the bytes over the front of others, and gives how many they are; or answers `None`, where there are fewer.
-fn put_front(src: &[u8], dst: &mut [u8]) -> Option<usize>
-    ensures { IfSome result (λ n. (n ≤ length dst.new) × (take n dst.new ≡ src.now)) }
-{
-    let size = src.len();
-    if dst.len() < size {
-        return None;
-    }
-    dst[..size].copy_from_slice(src);
-    Some(size)
 }
 
 /// Puts a short number over the front of the bytes, and gives how many it has; or answers `None`, where there are

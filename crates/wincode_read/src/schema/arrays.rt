@@ -122,7 +122,27 @@ impl<L: Lending, T: SchemaRead<L>, const N: usize> SchemaRead<L> for Items<T, N>
 
     #[inline(always)]
     fn decode(bytes: &[u8], place: &mut [T::Dst; N]) -> bool {
-        T::decode_over(bytes, place.as_mut_slice())
+        T::take_over(bytes, place.as_mut_slice())
+    }
+
+    #[inline(always)]
+    fn read_at_once<R: Reader<L>>(
+        alloc: Global,
+        reader: &mut R,
+        n: usize,
+        into: &mut Vec<Self::Dst>,
+    ) -> Option<ReadResult<()>> {
+        let _ = (alloc, n);
+        let _ = &*reader;
+        let _ = &*into;
+        None
+    }
+
+    #[inline(always)]
+    fn decode_over(bytes: &[u8], places: &mut [Self::Dst]) -> bool {
+        let _ = bytes.len();
+        let _ = &*places;
+        false
     }
 
     ghost read_laws = { array_read_laws N T.is_valid T.reading T.read_laws };
@@ -155,13 +175,16 @@ impl<L: Lending, T: SchemaRead<L>, const N: usize> SchemaRead<L> for [T; N] {
         read_in_window::<L, Items<T, N>, R>(alloc, reader, dst)
     }
 
-    fn read_items<R: Reader<L>>(
+    fn read_at_once<R: Reader<L>>(
         alloc: Global,
         reader: &mut R,
         n: usize,
         into: &mut Vec<[T::Dst; N]>,
-    ) -> ReadResult<()> {
-        <Items<T, N> as SchemaRead<L>>::read_items::<R>(alloc, reader, n, into)
+    ) -> Option<ReadResult<()>> {
+        let _ = (alloc, n);
+        let _ = &*reader;
+        let _ = &*into;
+        None
     }
 
     #[inline(always)]
@@ -176,12 +199,9 @@ impl<L: Lending, T: SchemaRead<L>, const N: usize> SchemaRead<L> for [T; N] {
 
     #[inline(always)]
     fn decode_over(bytes: &[u8], places: &mut [[T::Dst; N]]) -> bool {
-        <Items<T, N> as SchemaRead<L>>::decode_over(bytes, places)
-    }
-
-    #[inline(always)]
-    fn decode_items(bytes: &[u8], n: usize, into: &mut Vec<[T::Dst; N]>) -> bool {
-        <Items<T, N> as SchemaRead<L>>::decode_items(bytes, n, into)
+        let _ = bytes.len();
+        let _ = &*places;
+        false
     }
 
     ghost read_laws = { windowed_read_laws (array_read_laws N T.is_valid T.reading T.read_laws) };

@@ -1,5 +1,5 @@
 //! The schema of a value that has a byte form.
-ghost use Rattle.std.specs.Prelude.{true};
+ghost use Rattle.std.specs.Prelude.{IsSome, ◌≡◌, true, IfSome, IsNone};
 ghost use Rattle.wincode_base.specs.AsForms.{ReadAtOnce};
 ghost use Rattle.wincode_base.specs.Outcomes.{GetOutcome};
 ghost use Rattle.wincode_base.specs.ViewLaws.{form_prealloc_some, form_read_laws};
@@ -27,6 +27,21 @@ fn take_form<L: Lending, T: ZeroCopy, R: Reader<L>>(reader: &mut R) -> ReadResul
     let value = T::of_form(bytes);
     reader.consume_unchecked(size);
     Ok(value)
+}
+
+/// Reads `n` values at once, and adds them to the list.
+fn read_pods<L: Lending, T: ZeroCopy, R: Reader<L>>(
+    reader: &mut R,
+    n: usize,
+    into: &mut Vec<T>,
+) -> ReadResult<()>
+    ensures { ReadAtOnce T.size n (pod_read T.is_valid T.size T.form) (λ v. v) (R.state reader.old) (R.state reader.new) into.old.items into.new.items result }
+{
+    match T::form_size() {
+        Some(_) => read_all::<L, R, T>(reader, n, into),
+        None if n == 0 => Ok(()),
+        None => Err(read_length_encoding_overflow("usize::MAX")),
+    }
 }
 
 impl<L: Lending, T: ZeroCopy> SchemaRead<L> for Pod<T> {
@@ -58,19 +73,19 @@ impl<L: Lending, T: ZeroCopy> SchemaRead<L> for Pod<T> {
 
     /// All at once: `ReadSizeLimit` of the size of all where fewer bytes are left. Refused, for memory
     /// too, all bytes stay. Where `usize` can't count the bytes of one it is `LengthEncodingOverflow`.
-    fn read_items<R: Reader<L>>(
+    #[inline(always)]
+    fn read_at_once<R: Reader<L>>(
         _alloc: Global,
         reader: &mut R,
         n: usize,
         into: &mut Vec<T>,
-    ) -> ReadResult<()>
-        ensures { ReadAtOnce T.size n (pod_read T.is_valid T.size T.form) (λ v. v) (R.state reader.old) (R.state reader.new) into.old.items into.new.items result }
+    ) -> Option<ReadResult<()>>
+        ensures always { IsSome result }
+        ensures done { IfSome result (λ r. ReadAtOnce T.size n (pod_read T.is_valid T.size T.form) (λ v. v) (R.state reader.old) (R.state reader.new) into.old.items into.new.items r) }
+        ensures left { IsNone result → R.state reader.new ≡ R.state reader.old }
+        ensures same { IsNone result → into.new.items ≡ into.old.items }
     {
-        match T::form_size() {
-            Some(_) => read_all::<L, R, T>(reader, n, into),
-            None if n == 0 => Ok(()),
-            None => Err(read_length_encoding_overflow("usize::MAX")),
-        }
+        Some(read_pods::<L, T, R>(reader, n, into))
     }
 
     /// That of zeros, where a form has at most 64 bytes.
@@ -85,6 +100,13 @@ impl<L: Lending, T: ZeroCopy> SchemaRead<L> for Pod<T> {
     #[inline(always)]
     fn decode(bytes: &[u8], place: &mut T) -> bool {
         decode_form(bytes, place)
+    }
+
+    #[inline(always)]
+    fn decode_over(bytes: &[u8], places: &mut [Self::Dst]) -> bool {
+        let _ = bytes.len();
+        let _ = &*places;
+        false
     }
 
     ghost read_laws = { form_read_laws T.byte_form true (form_prealloc T.size) 0 (form_prealloc_some T.size) };

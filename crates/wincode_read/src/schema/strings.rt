@@ -76,6 +76,38 @@ impl<L: Lending> SchemaRead<L> for char {
         Ok(())
     }
 
+    #[inline(always)]
+    fn read_at_once<R: Reader<L>>(
+        alloc: Global,
+        reader: &mut R,
+        n: usize,
+        into: &mut Vec<Self::Dst>,
+    ) -> Option<ReadResult<()>> {
+        let _ = (alloc, n);
+        let _ = &*reader;
+        let _ = &*into;
+        None
+    }
+
+    #[inline(always)]
+    fn blank() -> Option<Self::Dst> {
+        None
+    }
+
+    #[inline(always)]
+    fn decode(bytes: &[u8], place: &mut Self::Dst) -> bool {
+        let _ = bytes.len();
+        let _ = &*place;
+        false
+    }
+
+    #[inline(always)]
+    fn decode_over(bytes: &[u8], places: &mut [Self::Dst]) -> bool {
+        let _ = bytes.len();
+        let _ = &*places;
+        false
+    }
+
     ghost read_laws = { char_read_laws };
 }
 
@@ -209,6 +241,38 @@ impl<L: Lending> SchemaRead<L> for String {
         }
         *dst = Some(get_text::<L, R>(alloc, reader, is_refused)?);
         Ok(())
+    }
+
+    #[inline(always)]
+    fn read_at_once<R: Reader<L>>(
+        alloc: Global,
+        reader: &mut R,
+        n: usize,
+        into: &mut Vec<Self::Dst>,
+    ) -> Option<ReadResult<()>> {
+        let _ = (alloc, n);
+        let _ = &*reader;
+        let _ = &*into;
+        None
+    }
+
+    #[inline(always)]
+    fn blank() -> Option<Self::Dst> {
+        None
+    }
+
+    #[inline(always)]
+    fn decode(bytes: &[u8], place: &mut Self::Dst) -> bool {
+        let _ = bytes.len();
+        let _ = &*place;
+        false
+    }
+
+    #[inline(always)]
+    fn decode_over(bytes: &[u8], places: &mut [Self::Dst]) -> bool {
+        let _ = bytes.len();
+        let _ = &*places;
+        false
     }
 
     ghost read_laws = { str_read_laws 24 0 false (lit≤ tt) };

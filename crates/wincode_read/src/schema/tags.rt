@@ -121,6 +121,38 @@ impl<L: Lending, T: SchemaRead<L>> SchemaRead<L> for Option<T> {
         Ok(())
     }
 
+    #[inline(always)]
+    fn read_at_once<R: Reader<L>>(
+        alloc: Global,
+        reader: &mut R,
+        n: usize,
+        into: &mut Vec<Self::Dst>,
+    ) -> Option<ReadResult<()>> {
+        let _ = (alloc, n);
+        let _ = &*reader;
+        let _ = &*into;
+        None
+    }
+
+    #[inline(always)]
+    fn blank() -> Option<Self::Dst> {
+        None
+    }
+
+    #[inline(always)]
+    fn decode(bytes: &[u8], place: &mut Self::Dst) -> bool {
+        let _ = bytes.len();
+        let _ = &*place;
+        false
+    }
+
+    #[inline(always)]
+    fn decode_over(bytes: &[u8], places: &mut [Self::Dst]) -> bool {
+        let _ = bytes.len();
+        let _ = &*places;
+        false
+    }
+
     ghost read_laws = { option_read_laws 1 (lit≤ tt) T.is_valid T.reading T.read_laws };
 }
 
@@ -163,6 +195,26 @@ impl<L: Lending, T: SchemaRead<L>, E: SchemaRead<L>> SchemaRead<L> for Result<T,
     #[inline(always)]
     fn decode(bytes: &[u8], place: &mut Result<T::Dst, E::Dst>) -> bool {
         decode_result::<L, T, E>(bytes, place)
+    }
+
+    #[inline(always)]
+    fn read_at_once<R: Reader<L>>(
+        alloc: Global,
+        reader: &mut R,
+        n: usize,
+        into: &mut Vec<Self::Dst>,
+    ) -> Option<ReadResult<()>> {
+        let _ = (alloc, n);
+        let _ = &*reader;
+        let _ = &*into;
+        None
+    }
+
+    #[inline(always)]
+    fn decode_over(bytes: &[u8], places: &mut [Self::Dst]) -> bool {
+        let _ = bytes.len();
+        let _ = &*places;
+        false
     }
 
     ghost read_laws = { result_read_laws 4 (lit≤ tt) T.is_valid E.is_valid T.reading E.reading T.read_laws E.read_laws };

@@ -93,6 +93,38 @@ impl<L: Lending, B: Borrowed<L>, T: ZeroCopy> SchemaRead<L> for View<B, T> {
         Ok(())
     }
 
+    #[inline(always)]
+    fn read_at_once<R: Reader<L>>(
+        alloc: Global,
+        reader: &mut R,
+        n: usize,
+        into: &mut Vec<Self::Dst>,
+    ) -> Option<ReadResult<()>> {
+        let _ = (alloc, n);
+        let _ = &*reader;
+        let _ = &*into;
+        None
+    }
+
+    #[inline(always)]
+    fn blank() -> Option<Self::Dst> {
+        None
+    }
+
+    #[inline(always)]
+    fn decode(bytes: &[u8], place: &mut Self::Dst) -> bool {
+        let _ = bytes.len();
+        let _ = &*place;
+        false
+    }
+
+    #[inline(always)]
+    fn decode_over(bytes: &[u8], places: &mut [Self::Dst]) -> bool {
+        let _ = bytes.len();
+        let _ = &*places;
+        false
+    }
+
     ghost read_laws = { form_read_laws T.byte_form false 8 B.borrow (lit≤ tt) };
 }
 
@@ -123,6 +155,38 @@ impl<L: Lending, B: Borrowed<L>, T: ZeroCopy> SchemaRead<L> for SliceView<B, T> 
     ) -> ReadResult<()> {
         *dst = Some(lend_forms::<L, B, T, R>(reader)?);
         Ok(())
+    }
+
+    #[inline(always)]
+    fn read_at_once<R: Reader<L>>(
+        alloc: Global,
+        reader: &mut R,
+        n: usize,
+        into: &mut Vec<Self::Dst>,
+    ) -> Option<ReadResult<()>> {
+        let _ = (alloc, n);
+        let _ = &*reader;
+        let _ = &*into;
+        None
+    }
+
+    #[inline(always)]
+    fn blank() -> Option<Self::Dst> {
+        None
+    }
+
+    #[inline(always)]
+    fn decode(bytes: &[u8], place: &mut Self::Dst) -> bool {
+        let _ = bytes.len();
+        let _ = &*place;
+        false
+    }
+
+    #[inline(always)]
+    fn decode_over(bytes: &[u8], places: &mut [Self::Dst]) -> bool {
+        let _ = bytes.len();
+        let _ = &*places;
+        false
     }
 
     ghost read_laws = { lent_read_laws B.borrow T.size T.is_valid (form_item_read T.is_valid T.size T.form)

@@ -3,7 +3,7 @@ use crate::asking::{Asked, Fault, Question};
 use std::alloc::Global;
 use std::io::{self, ErrorKind, Write};
 use std::test::Fail;
-use wincode_tests::rows::bytes_of;
+use testkit_schemas::rows::bytes_of;
 
 /// The shape, the input, the lines, and the line of a check.
 const EXPLAINED: [(&str, &str, &str, &str); 17] = [

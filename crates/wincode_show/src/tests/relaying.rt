@@ -6,9 +6,9 @@ use std::alloc::Global;
 use std::io::{self, ErrorKind, Read, Write};
 use std::process::Abort;
 use std::test::Fail;
+use testkit_schemas::rows::printed;
 use wincode::io::ReadError as IoReadError;
 use wincode::{ReadError, WriteError};
-use wincode_tests::rows::printed;
 
 /// Gives at most `piece` bytes a call, and fails once it was asked `sound` times, as a device or by a signal.
 #[derive(Drop)]

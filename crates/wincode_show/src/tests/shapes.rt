@@ -5,7 +5,7 @@ use crate::relaying::relay;
 use std::alloc::Global;
 use std::io::{self, Write};
 use std::test::Fail;
-use wincode_tests::rows::bytes_of;
+use testkit_schemas::rows::bytes_of;
 
 /// What relaying the input as the shape answers: the bytes that it wrote, or the error with how many were written.
 fn relayed(alloc: Global, shape: &str, input: &[u8]) -> Result<Result<Vec<u8>, String>, Fail> {

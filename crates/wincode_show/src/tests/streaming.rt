@@ -2,11 +2,11 @@
 use super::NESTED;
 use crate::recoding::RelayError;
 use crate::streaming::relay_stream;
+use example_schemas::faults::Pieces;
 use std::alloc::Global;
 use std::test::Fail;
 use wincode::ReadError;
 use wincode::io::{ReadError as IoReadError, Source, StdSource};
-use wincode_examples::faults::Pieces;
 
 /// The bytes in pieces of this size, with an empty one before each.
 fn in_pieces(alloc: Global, bytes: &[u8], size: usize, fails: bool) -> Result<Pieces, Fail> {

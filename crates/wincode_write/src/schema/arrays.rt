@@ -11,7 +11,7 @@ ghost use Rattle.wincode_base.specs.PairLaws.{windowed_write_laws};
 use crate::schema::SchemaWrite;
 use crate::schema::in_window::write_in_window;
 use crate::schema::runs::encode_each;
-use crate::schema::to_items::{add_sizes, write_each};
+use crate::schema::to_items::{sizes_of_items, write_apart};
 use wincode_base::error::WriteResult;
 use wincode_base::meta::TypeMeta;
 use wincode_base::parts::Items;
@@ -34,13 +34,13 @@ impl<T: SchemaWrite, const N: usize> SchemaWrite for Items<T, N> {
     }
 
     fn size_of(src: &[T::Src; N]) -> WriteResult<usize> {
-        add_sizes::<T>(0, src.as_slice())
+        sizes_of_items::<T>(0, src.as_slice())
     }
 
     fn write<W: Writer>(writer: &mut W, src: &[T::Src; N]) -> WriteResult<()> {
         match size_of_items(N, T::type_meta()) {
             TypeMeta::Static { .. } => T::write_items::<W>(writer, src.as_slice()),
-            TypeMeta::Dynamic => write_each::<T, W>(writer, src.as_slice()),
+            TypeMeta::Dynamic => write_apart::<T, W>(writer, src.as_slice()),
         }
     }
 
@@ -49,13 +49,22 @@ impl<T: SchemaWrite, const N: usize> SchemaWrite for Items<T, N> {
     }
 
     #[inline(always)]
-    fn encode(src: &[T::Src; N], dst: &mut [u8]) -> bool {
-        T::encode_items(src.as_slice(), dst)
+    fn encode_front(src: &[T::Src; N], dst: &mut [u8]) -> Option<usize> {
+        encode_each::<T>(src.as_slice(), dst)
     }
 
     #[inline(always)]
-    fn encode_front(src: &[T::Src; N], dst: &mut [u8]) -> Option<usize> {
-        encode_each::<T>(src.as_slice(), dst)
+    fn write_at_once<W: Writer>(writer: &mut W, items: &[Self::Src]) -> Option<WriteResult<()>> {
+        let _ = &*writer;
+        let _items = items.len();
+        None
+    }
+
+    #[inline(always)]
+    fn encode_items(items: &[Self::Src], dst: &mut [u8]) -> bool {
+        let _items = items.len();
+        let _len = dst.len();
+        false
     }
 
     ghost write_laws = { array_write_laws N T.is_valid T.model T.writing T.write_laws };
@@ -84,17 +93,14 @@ impl<T: SchemaWrite, const N: usize> SchemaWrite for [T; N] {
         write_in_window::<Items<T, N>, W>(writer, src)
     }
 
-    fn write_items<W: Writer>(writer: &mut W, items: &[[T::Src; N]]) -> WriteResult<()> {
-        <Items<T, N> as SchemaWrite>::write_items::<W>(writer, items)
+    fn write_at_once<W: Writer>(writer: &mut W, items: &[[T::Src; N]]) -> Option<WriteResult<()>> {
+        let _ = &*writer;
+        let _items = items.len();
+        None
     }
 
     fn known_size() -> Option<usize> {
         None
-    }
-
-    #[inline(always)]
-    fn encode(src: &[T::Src; N], dst: &mut [u8]) -> bool {
-        <Items<T, N> as SchemaWrite>::encode(src, dst)
     }
 
     #[inline(always)]

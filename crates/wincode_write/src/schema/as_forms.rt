@@ -1,5 +1,5 @@
 //! Many values at once, as their byte forms.
-ghost use Rattle.std.specs.Prelude.{IsTrue, length, map};
+ghost use Rattle.std.specs.Prelude.{◌≤◌, length, take, map, IfSome};
 ghost use Rattle.wincode_io.specs.Joins.{Each};
 ghost use Rattle.wincode_base.specs.AsForms.{writes_form, WrittenAtOnce};
 ghost use Rattle.wincode_base.specs.Outcomes.{IsEncoded};
@@ -17,17 +17,17 @@ pub(crate) fn write_all<T: ZeroCopy, W: Writer>(writer: &mut W, items: &[T]) -> 
     Ok(())
 }
 
-/// Puts the form of the value over all of the bytes, where it has as many.
+/// Puts the form of the value over the front of the bytes, and gives how many it has; or answers `None`, where there are
+/// fewer.
 #[inline(always)]
-pub(crate) fn encode_form<T: ZeroCopy>(src: &T, dst: &mut [u8]) -> bool
-    ensures { IsTrue result → IsEncoded (writes_form T.size T.form) src.now dst.new × T.is_valid src.now }
+pub(crate) fn encode_form<T: ZeroCopy>(src: &T, dst: &mut [u8]) -> Option<usize>
+    ensures { IfSome result (λ n. (n ≤ length dst.new) × IsEncoded (writes_form T.size T.form) src.now (take n dst.new) × T.is_valid src.now) }
 {
-    let is_long = match T::form_size() {
-        Some(size) => size == dst.len(),
-        None => false,
-    };
-    if is_long {
-        src.put_form(dst);
+    match T::form_size() {
+        Some(size) if size <= dst.len() => {
+            src.put_form(&mut dst[..size]);
+            Some(size)
+        }
+        _ => None,
     }
-    is_long
 }

@@ -38,6 +38,25 @@ impl<T: SchemaWrite> SchemaWrite for Box<T> {
         T::encode_front(src.as_ref(), dst)
     }
 
+    #[inline(always)]
+    fn write_at_once<W: Writer>(writer: &mut W, items: &[Self::Src]) -> Option<WriteResult<()>> {
+        let _ = &*writer;
+        let _items = items.len();
+        None
+    }
+
+    #[inline(always)]
+    fn known_size() -> Option<usize> {
+        None
+    }
+
+    #[inline(always)]
+    fn encode_items(items: &[Self::Src], dst: &mut [u8]) -> bool {
+        let _items = items.len();
+        let _len = dst.len();
+        false
+    }
+
     ghost write_laws = { boxed_write_laws T.is_valid T.model (λ held. held.value) T.writing T.write_laws };
 }
 
@@ -68,6 +87,25 @@ impl<T: SchemaWrite> SchemaWrite for Rc<T> {
     #[inline(always)]
     fn encode_front(src: &Rc<T::Src>, dst: &mut [u8]) -> Option<usize> {
         T::encode_front(src.as_ref(), dst)
+    }
+
+    #[inline(always)]
+    fn write_at_once<W: Writer>(writer: &mut W, items: &[Self::Src]) -> Option<WriteResult<()>> {
+        let _ = &*writer;
+        let _items = items.len();
+        None
+    }
+
+    #[inline(always)]
+    fn known_size() -> Option<usize> {
+        None
+    }
+
+    #[inline(always)]
+    fn encode_items(items: &[Self::Src], dst: &mut [u8]) -> bool {
+        let _items = items.len();
+        let _len = dst.len();
+        false
     }
 
     ghost write_laws = { boxed_write_laws T.is_valid T.model (λ held. held.value) T.writing T.write_laws };

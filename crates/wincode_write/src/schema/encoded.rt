@@ -1,4 +1,4 @@
-//! A short value of one size is put together, and then written at once; many of them are written a block at a time.
+//! A short value of one size is put together, and then written at once.
 ghost use Rattle.std.specs.Prelude.{◌≡◌, ◌*◌, ◌<◌, ◌≤◌, true, false, map, IfOk, IfErr, IfSome};
 ghost use Rattle.wincode_io.specs.Joins.{Each};
 ghost use Rattle.wincode_base.specs.InWindow.{windowed_write};
@@ -12,10 +12,7 @@ use wincode_base::error::WriteResult;
 use wincode_base::meta::TypeMeta;
 use wincode_io::Writer;
 
-/// How many bytes of encodings are put together at a time, where there are many of them.
-pub(crate) const BLOCK: usize = 1024;
-
-/// The longest encoding, in bytes, of which many are written by the schema's own `write_items`.
+/// The longest byte form, in bytes, of which many are written by the schema's own `write_items`.
 const SMALL: usize = 16;
 
 /// How many items are written one by one, where a block for them costs more.
@@ -72,35 +69,8 @@ pub(crate) fn short_size<T: SchemaWrite>() -> Option<usize>
     }
 }
 
-/// Writes items of one size, at most `count` at a time: those that their schema puts together by one call of the
-/// writer, others as it writes them.
-fn write_blocks<T: SchemaWrite, W: Writer>(
-    writer: &mut W,
-    items: &[T::Src],
-    size: usize,
-    count: usize,
-) -> WriteResult<()>
-    requires one_size { T.writing.meta ≡ Dynamic → ⊥ }
-    requires count { 0 < count }
-    requires block { count * size ≤ 1024 }
-    ensures { WriteOutcome (items_write T.writing) (W.state writer.old) (W.state writer.new) (map T.model items.now) (Each T.is_valid items.now) result }
-{
-    let mut block = [0; BLOCK];
-    let mut rest = items;
-    while !rest.is_empty() {
-        let (run, more) = rest.split_at(rest.len().min(count));
-        let bytes = &mut block[..run.len() * size];
-        if T::encode_items(run, bytes) {
-            writer.write(bytes)?;
-        } else {
-            T::write_items::<W>(writer, run)?;
-        }
-        rest = more;
-    }
-    Ok(())
-}
-
-/// Writes items, one after another: those of no one size, and more than a few of one, a block at a time.
+/// Writes items, one after another: more than a few of them a block at a time, but for those whose form is as short
+/// as in memory.
 #[inline]
 pub(crate) fn write_many<T: SchemaWrite, W: Writer>(
     writer: &mut W,
@@ -109,10 +79,11 @@ pub(crate) fn write_many<T: SchemaWrite, W: Writer>(
     ensures { WriteOutcome (items_write T.writing) (W.state writer.old) (W.state writer.new) (map T.model items.now) (Each T.is_valid items.now) result }
 {
     match T::type_meta() {
-        TypeMeta::Dynamic if FEW < items.len() => write_runs::<T, W>(writer, items),
-        TypeMeta::Static { size, .. } if SMALL < size && size <= LONGEST && FEW < items.len() => {
-            write_blocks::<T, W>(writer, items, size, BLOCK / size)
-        }
+        TypeMeta::Static {
+            size,
+            zero_copy: true,
+        } if size <= SMALL => T::write_items::<W>(writer, items),
+        _ if FEW < items.len() => write_runs::<T, W>(writer, items),
         _ => T::write_items::<W>(writer, items),
     }
 }

@@ -47,6 +47,25 @@ impl<T: SchemaWrite> SchemaWrite for Vec<T> {
         encode_list::<BincodeLen<PREALLOCATION_LIMIT>, T, 24>(src.as_slice(), dst)
     }
 
+    #[inline(always)]
+    fn write_at_once<W: Writer>(writer: &mut W, items: &[Self::Src]) -> Option<WriteResult<()>> {
+        let _ = &*writer;
+        let _items = items.len();
+        None
+    }
+
+    #[inline(always)]
+    fn known_size() -> Option<usize> {
+        None
+    }
+
+    #[inline(always)]
+    fn encode_items(items: &[Self::Src], dst: &mut [u8]) -> bool {
+        let _items = items.len();
+        let _len = dst.len();
+        false
+    }
+
     ghost write_laws = { list_write_laws (bincode preallocation_limit) 24 (λ v. v.items) T.is_valid T.model T.writing T.write_laws };
 }
 
@@ -72,6 +91,32 @@ impl<T: SchemaWrite> SchemaWrite for VecDeque<T> {
 
     fn write<W: Writer>(writer: &mut W, src: &VecDeque<T::Src>) -> WriteResult<()> {
         write_list::<BincodeLen<PREALLOCATION_LIMIT>, T, VecDeque<T::Src>, W, 24>(writer, src)
+    }
+
+    #[inline(always)]
+    fn write_at_once<W: Writer>(writer: &mut W, items: &[Self::Src]) -> Option<WriteResult<()>> {
+        let _ = &*writer;
+        let _items = items.len();
+        None
+    }
+
+    #[inline(always)]
+    fn known_size() -> Option<usize> {
+        None
+    }
+
+    #[inline(always)]
+    fn encode_front(src: &Self::Src, dst: &mut [u8]) -> Option<usize> {
+        let _ = src;
+        let _len = dst.len();
+        None
+    }
+
+    #[inline(always)]
+    fn encode_items(items: &[Self::Src], dst: &mut [u8]) -> bool {
+        let _items = items.len();
+        let _len = dst.len();
+        false
     }
 
     ghost write_laws = { list_write_laws (bincode preallocation_limit) 24 (λ q. q.items) T.is_valid T.model T.writing T.write_laws };
@@ -101,6 +146,32 @@ impl<T: SchemaWrite> SchemaWrite for LinkedList<T> {
         write_list::<BincodeLen<PREALLOCATION_LIMIT>, T, LinkedList<T::Src>, W, 24>(writer, src)
     }
 
+    #[inline(always)]
+    fn write_at_once<W: Writer>(writer: &mut W, items: &[Self::Src]) -> Option<WriteResult<()>> {
+        let _ = &*writer;
+        let _items = items.len();
+        None
+    }
+
+    #[inline(always)]
+    fn known_size() -> Option<usize> {
+        None
+    }
+
+    #[inline(always)]
+    fn encode_front(src: &Self::Src, dst: &mut [u8]) -> Option<usize> {
+        let _ = src;
+        let _len = dst.len();
+        None
+    }
+
+    #[inline(always)]
+    fn encode_items(items: &[Self::Src], dst: &mut [u8]) -> bool {
+        let _items = items.len();
+        let _len = dst.len();
+        false
+    }
+
     ghost write_laws = { list_write_laws (bincode preallocation_limit) 24 (λ l. l) T.is_valid T.model T.writing T.write_laws };
 }
 
@@ -128,11 +199,10 @@ impl<'a, U: 'a, T: SchemaWrite<Src = U>> SchemaWrite for &'a [T] {
         write_list::<BincodeLen<NO_LIMIT>, T, &'a [U], W, 16>(writer, src)
     }
 
-    fn write_items<W: Writer>(writer: &mut W, items: &[&'a [U]]) -> WriteResult<()> {
-        for item in items {
-            write_list::<BincodeLen<NO_LIMIT>, T, &'a [U], W, 16>(writer, item)?;
-        }
-        Ok(())
+    fn write_at_once<W: Writer>(writer: &mut W, items: &[&'a [U]]) -> Option<WriteResult<()>> {
+        let _ = &*writer;
+        let _items = items.len();
+        None
     }
 
     #[inline]
@@ -140,16 +210,15 @@ impl<'a, U: 'a, T: SchemaWrite<Src = U>> SchemaWrite for &'a [T] {
         encode_list::<BincodeLen<NO_LIMIT>, T, 16>(*src, dst)
     }
 
-    fn encode(src: &&'a [U], dst: &mut [u8]) -> bool {
-        let _items = src.len();
-        let _len = dst.len();
-        false
-    }
-
     fn encode_items(items: &[&'a [U]], dst: &mut [u8]) -> bool {
         let _items = items.len();
         let _len = dst.len();
         false
+    }
+
+    #[inline(always)]
+    fn known_size() -> Option<usize> {
+        None
     }
 
     ghost write_laws = { list_write_laws (bincode byte_limit) 16 (λ s. s.now) T.is_valid T.model T.writing T.write_laws };

@@ -69,6 +69,32 @@ where
         >(writer, src, size)
     }
 
+    #[inline(always)]
+    fn write_at_once<W: Writer>(writer: &mut W, items: &[Self::Src]) -> Option<WriteResult<()>> {
+        let _ = &*writer;
+        let _items = items.len();
+        None
+    }
+
+    #[inline(always)]
+    fn known_size() -> Option<usize> {
+        None
+    }
+
+    #[inline(always)]
+    fn encode_front(src: &Self::Src, dst: &mut [u8]) -> Option<usize> {
+        let _ = src;
+        let _len = dst.len();
+        None
+    }
+
+    #[inline(always)]
+    fn encode_items(items: &[Self::Src], dst: &mut [u8]) -> bool {
+        let _items = items.len();
+        let _len = dst.len();
+        false
+    }
+
     ghost write_laws = { sounder_laws (IsOrdered K.Src.cmp) (list_write_laws_of (bincode preallocation_limit) 24 (pair_size K.writing.meta V.writing.meta) (λ m. m.entries)
         (λ e. K.is_valid e.0 × V.is_valid e.1) (sees K.model V.model)
         (pair_write K.writing V.writing) (pair_write_laws K.write_laws V.write_laws)) };
@@ -113,6 +139,32 @@ where
         >(writer, src, size)
     }
 
+    #[inline(always)]
+    fn write_at_once<W: Writer>(writer: &mut W, items: &[Self::Src]) -> Option<WriteResult<()>> {
+        let _ = &*writer;
+        let _items = items.len();
+        None
+    }
+
+    #[inline(always)]
+    fn known_size() -> Option<usize> {
+        None
+    }
+
+    #[inline(always)]
+    fn encode_front(src: &Self::Src, dst: &mut [u8]) -> Option<usize> {
+        let _ = src;
+        let _len = dst.len();
+        None
+    }
+
+    #[inline(always)]
+    fn encode_items(items: &[Self::Src], dst: &mut [u8]) -> bool {
+        let _items = items.len();
+        let _len = dst.len();
+        false
+    }
+
     ghost write_laws = { sounder_laws (IsUnique K.Src.eq) (scattered_write_laws_of (bincode preallocation_limit) (pair_size K.writing.meta V.writing.meta) (λ m. m.entries)
         (pair_write_laws K.write_laws V.write_laws)) };
 }
@@ -144,6 +196,32 @@ where
         write_list::<BincodeLen<PREALLOCATION_LIMIT>, K, BTreeSet<K::Src>, W, 24>(writer, src)
     }
 
+    #[inline(always)]
+    fn write_at_once<W: Writer>(writer: &mut W, items: &[Self::Src]) -> Option<WriteResult<()>> {
+        let _ = &*writer;
+        let _items = items.len();
+        None
+    }
+
+    #[inline(always)]
+    fn known_size() -> Option<usize> {
+        None
+    }
+
+    #[inline(always)]
+    fn encode_front(src: &Self::Src, dst: &mut [u8]) -> Option<usize> {
+        let _ = src;
+        let _len = dst.len();
+        None
+    }
+
+    #[inline(always)]
+    fn encode_items(items: &[Self::Src], dst: &mut [u8]) -> bool {
+        let _items = items.len();
+        let _len = dst.len();
+        false
+    }
+
     ghost write_laws = { sounder_laws (λ s. IsStrictlySortedBy K.Src.cmp s.keys) (list_write_laws (bincode preallocation_limit) 24 (λ s. s.keys) K.is_valid K.model K.writing K.write_laws) };
 }
 
@@ -172,6 +250,32 @@ where
 
     fn write<W: Writer>(writer: &mut W, src: &HashSet<K::Src>) -> WriteResult<()> {
         write_list::<BincodeLen<PREALLOCATION_LIMIT>, K, HashSet<K::Src>, W, 24>(writer, src)
+    }
+
+    #[inline(always)]
+    fn write_at_once<W: Writer>(writer: &mut W, items: &[Self::Src]) -> Option<WriteResult<()>> {
+        let _ = &*writer;
+        let _items = items.len();
+        None
+    }
+
+    #[inline(always)]
+    fn known_size() -> Option<usize> {
+        None
+    }
+
+    #[inline(always)]
+    fn encode_front(src: &Self::Src, dst: &mut [u8]) -> Option<usize> {
+        let _ = src;
+        let _len = dst.len();
+        None
+    }
+
+    #[inline(always)]
+    fn encode_items(items: &[Self::Src], dst: &mut [u8]) -> bool {
+        let _items = items.len();
+        let _len = dst.len();
+        false
     }
 
     ghost write_laws = { sounder_laws (λ s. IsDistinct K.Src.eq s.keys) (scattered_write_laws (bincode preallocation_limit) (λ s. s.keys) K.write_laws) };

@@ -1,5 +1,5 @@
 //! The schema of a value that has a byte form.
-ghost use Rattle.std.specs.Prelude.{true, length, map};
+ghost use Rattle.std.specs.Prelude.{IsSome, ◌≡◌, true, length, map, IfSome, IsNone};
 ghost use Rattle.wincode_io.specs.Joins.{Each};
 ghost use Rattle.wincode_base.specs.AsForms.{WrittenAtOnce};
 ghost use Rattle.wincode_base.specs.ViewLaws.{form_write_laws};
@@ -14,6 +14,18 @@ use wincode_base::sizes::meta_of_form;
 use wincode_io as io;
 use wincode_io::bulk::write_forms;
 use wincode_io::{Writer, ZeroCopy};
+
+/// Writes the forms of the values, one after another, all or nothing.
+fn write_pods<T: ZeroCopy, W: Writer>(writer: &mut W, items: &[T]) -> WriteResult<()>
+    ensures { WrittenAtOnce T.size (length items.now) (form_write T.is_valid T.size T.form true (form_prealloc T.size)) (W.state writer.old) (W.state writer.new) (map (λ v. v) items.now)
+        (Each T.is_valid items.now) result }
+{
+    if items.is_empty() {
+        return Ok(());
+    }
+    write_forms(writer, items)?;
+    Ok(())
+}
 
 impl<T: ZeroCopy> SchemaWrite for Pod<T> {
     type Src = T;
@@ -47,20 +59,31 @@ impl<T: ZeroCopy> SchemaWrite for Pod<T> {
     }
 
     /// All at once: refused, nothing is written.
-    fn write_items<W: Writer>(writer: &mut W, items: &[T]) -> WriteResult<()>
-        ensures { WrittenAtOnce T.size (length items.now) (form_write T.is_valid T.size T.form true (form_prealloc T.size)) (W.state writer.old) (W.state writer.new) (map (λ v. v) items.now)
-            (Each T.is_valid items.now) result }
+    #[inline(always)]
+    fn write_at_once<W: Writer>(writer: &mut W, items: &[T]) -> Option<WriteResult<()>>
+        ensures always { IsSome result }
+        ensures done { IfSome result (λ r. WrittenAtOnce T.size (length items.now) (form_write T.is_valid T.size T.form true (form_prealloc T.size)) (W.state writer.old) (W.state writer.new) (map (λ v. v) items.now)
+            (Each T.is_valid items.now) r) }
+        ensures left { IsNone result → W.state writer.new ≡ W.state writer.old }
     {
-        if items.is_empty() {
-            return Ok(());
-        }
-        write_forms(writer, items)?;
-        Ok(())
+        Some(write_pods::<T, W>(writer, items))
     }
 
     #[inline(always)]
-    fn encode(src: &T, dst: &mut [u8]) -> bool {
+    fn encode_front(src: &T, dst: &mut [u8]) -> Option<usize> {
         encode_form::<T>(src, dst)
+    }
+
+    #[inline(always)]
+    fn known_size() -> Option<usize> {
+        None
+    }
+
+    #[inline(always)]
+    fn encode_items(items: &[Self::Src], dst: &mut [u8]) -> bool {
+        let _items = items.len();
+        let _len = dst.len();
+        false
     }
 
     ghost write_laws = { form_write_laws T.byte_form (λ v. v) true (form_prealloc T.size) };

@@ -37,16 +37,10 @@ impl<'a, U: 'a, T: SchemaWrite<Src = U>> SchemaWrite for &'a T {
         T::write::<W>(writer, *src)
     }
 
-    fn write_items<W: Writer>(writer: &mut W, items: &[&'a U]) -> WriteResult<()> {
-        for item in items {
-            T::write::<W>(writer, *item)?;
-        }
-        Ok(())
-    }
-
-    #[inline(always)]
-    fn encode(src: &&'a U, dst: &mut [u8]) -> bool {
-        T::encode(*src, dst)
+    fn write_at_once<W: Writer>(writer: &mut W, items: &[&'a U]) -> Option<WriteResult<()>> {
+        let _ = &*writer;
+        let _items = items.len();
+        None
     }
 
     #[inline(always)]
@@ -58,6 +52,11 @@ impl<'a, U: 'a, T: SchemaWrite<Src = U>> SchemaWrite for &'a T {
         let _items = items.len();
         let _len = dst.len();
         false
+    }
+
+    #[inline(always)]
+    fn known_size() -> Option<usize> {
+        None
     }
 
     ghost write_laws = { reference_write_laws T.is_valid T.model (λ r. r.now) T.writing T.write_laws };

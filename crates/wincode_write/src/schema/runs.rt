@@ -26,8 +26,8 @@ fn encode_first<T: SchemaWrite>(items: &[T::Src], dst: &mut [u8]) -> (usize, usi
     ensures is_valid { Each T.is_valid (take result.0 items.now) }
 {
     let mut filled = 0;
-    for i in 0..items.len() {
-        match T::encode_front(&items[i], &mut dst[filled..]) {
+    for (i, item) in items.iter().enumerate() {
+        match T::encode_front(item, &mut dst[filled..]) {
             Some(size) => filled += size,
             None => return (i, filled),
         }
@@ -43,7 +43,7 @@ pub(crate) fn encode_each<T: SchemaWrite>(items: &[T::Src], dst: &mut [u8]) -> O
 {
     if let TypeMeta::Static { size, .. } = T::type_meta() {
         let total = items.len().checked_mul(size)?;
-        if total <= dst.len() && T::encode_items(items, &mut dst[..total]) {
+        if total <= dst.len() && T::put_items(items, &mut dst[..total]) {
             return Some(total);
         }
         return None;

@@ -34,5 +34,31 @@ impl SchemaWrite for ShortU16 {
         Ok(())
     }
 
+    #[inline(always)]
+    fn write_at_once<W: Writer>(writer: &mut W, items: &[Self::Src]) -> Option<WriteResult<()>> {
+        let _ = &*writer;
+        let _items = items.len();
+        None
+    }
+
+    #[inline(always)]
+    fn known_size() -> Option<usize> {
+        None
+    }
+
+    #[inline(always)]
+    fn encode_front(src: &Self::Src, dst: &mut [u8]) -> Option<usize> {
+        let _ = src;
+        let _len = dst.len();
+        None
+    }
+
+    #[inline(always)]
+    fn encode_items(items: &[Self::Src], dst: &mut [u8]) -> bool {
+        let _items = items.len();
+        let _len = dst.len();
+        false
+    }
+
     ghost write_laws = { short_write_laws (λ v. v.0 < 2 ^ 16) (λ v. v.0) };
 }

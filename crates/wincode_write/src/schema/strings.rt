@@ -8,6 +8,7 @@ ghost use Rattle.wincode_base.specs.StringLaws.{char_write_laws, str_write_laws}
 use crate::schema::SchemaWrite;
 use std::str;
 use wincode_base::error::{WriteResult, write_length_encoding_overflow};
+use wincode_base::front::put_front;
 use wincode_base::len::{BincodeLen, PREALLOCATION_LIMIT, SeqLen};
 use wincode_base::meta::TypeMeta;
 use wincode_io::Writer;
@@ -41,6 +42,32 @@ impl SchemaWrite for char {
         Ok(())
     }
 
+    #[inline(always)]
+    fn write_at_once<W: Writer>(writer: &mut W, items: &[Self::Src]) -> Option<WriteResult<()>> {
+        let _ = &*writer;
+        let _items = items.len();
+        None
+    }
+
+    #[inline(always)]
+    fn known_size() -> Option<usize> {
+        None
+    }
+
+    #[inline(always)]
+    fn encode_front(src: &Self::Src, dst: &mut [u8]) -> Option<usize> {
+        let _ = src;
+        let _len = dst.len();
+        None
+    }
+
+    #[inline(always)]
+    fn encode_items(items: &[Self::Src], dst: &mut [u8]) -> bool {
+        let _items = items.len();
+        let _len = dst.len();
+        false
+    }
+
     ghost write_laws = { char_write_laws };
 }
 
@@ -71,13 +98,9 @@ fn write_text<W: Writer>(writer: &mut W, text: &str) -> WriteResult<()>
 fn encode_text(text: &str, dst: &mut [u8]) -> Option<usize>
     ensures { IfSome result (λ n. (n ≤ length dst.new) × IsEncoded (str_write 24) text.now (take n dst.new)) }
 {
-    let size = text.len().checked_add(8)?;
-    if dst.len() < size {
-        return None;
-    }
-    dst[..8].copy_from_slice(&(text.len() as u64).to_le_bytes());
-    dst[8..size].copy_from_slice(text.as_bytes());
-    Some(size)
+    let length = BincodeLen::<PREALLOCATION_LIMIT>::encode(text.len(), dst)?;
+    let behind = put_front(text.as_bytes(), &mut dst[length..])?;
+    Some(length + behind)
 }
 
 /// A `String` is how many bytes it has, and then its bytes.
@@ -109,6 +132,25 @@ impl SchemaWrite for String {
     #[inline(always)]
     fn encode_front(src: &String, dst: &mut [u8]) -> Option<usize> {
         encode_text(src.as_str(), dst)
+    }
+
+    #[inline(always)]
+    fn write_at_once<W: Writer>(writer: &mut W, items: &[Self::Src]) -> Option<WriteResult<()>> {
+        let _ = &*writer;
+        let _items = items.len();
+        None
+    }
+
+    #[inline(always)]
+    fn known_size() -> Option<usize> {
+        None
+    }
+
+    #[inline(always)]
+    fn encode_items(items: &[Self::Src], dst: &mut [u8]) -> bool {
+        let _items = items.len();
+        let _len = dst.len();
+        false
     }
 
     ghost write_laws = { str_write_laws 24 (λ s. IsUtf8 (string_bytes s)) (λ s. string_bytes s) };

@@ -7,6 +7,7 @@ ghost use Rattle.wincode_base.specs.TagLaws.{option_write_laws, result_write_law
 ghost use Rattle.wincode_base.specs.Tags.{option_write, IfPart, result_write, IfSide};
 
 use crate::schema::SchemaWrite;
+use crate::schema::tuples::encode_front_members_2;
 use crate::tag::write_tag;
 use wincode_base::error::WriteResult;
 use wincode_base::meta::TypeMeta;
@@ -102,12 +103,27 @@ impl<T: SchemaWrite> SchemaWrite for Option<T> {
     fn encode_front(src: &Option<T::Src>, dst: &mut [u8]) -> Option<usize> {
         match src {
             None => u8::encode_front(&0, dst),
-            Some(part) => {
-                let tag = u8::encode_front(&1, dst)?;
-                let size = T::encode_front(part, &mut dst[tag..])?;
-                Some(tag + size)
-            }
+            Some(part) => encode_front_members_2::<u8, T>(&1, part, dst),
         }
+    }
+
+    #[inline(always)]
+    fn write_at_once<W: Writer>(writer: &mut W, items: &[Self::Src]) -> Option<WriteResult<()>> {
+        let _ = &*writer;
+        let _items = items.len();
+        None
+    }
+
+    #[inline(always)]
+    fn known_size() -> Option<usize> {
+        None
+    }
+
+    #[inline(always)]
+    fn encode_items(items: &[Self::Src], dst: &mut [u8]) -> bool {
+        let _items = items.len();
+        let _len = dst.len();
+        false
     }
 
     ghost write_laws = { option_write_laws 1 T.is_valid T.model T.writing T.write_laws };
@@ -138,31 +154,30 @@ impl<T: SchemaWrite, E: SchemaWrite> SchemaWrite for Result<T, E> {
     }
 
     #[inline(always)]
-    fn encode(src: &Result<T::Src, E::Src>, dst: &mut [u8]) -> bool {
-        if dst.len() < 4 {
-            return false;
-        }
-        let (tag, rest) = dst.split_at_mut(4);
+    fn encode_front(src: &Result<T::Src, E::Src>, dst: &mut [u8]) -> Option<usize> {
         match src {
-            Ok(value) => u32::encode(&0, tag) && T::encode(value, rest),
-            Err(error) => u32::encode(&1, tag) && E::encode(error, rest),
+            Ok(value) => encode_front_members_2::<u32, T>(&0, value, dst),
+            Err(error) => encode_front_members_2::<u32, E>(&1, error, dst),
         }
     }
 
     #[inline(always)]
-    fn encode_front(src: &Result<T::Src, E::Src>, dst: &mut [u8]) -> Option<usize> {
-        match src {
-            Ok(value) => {
-                let tag = u32::encode_front(&0, dst)?;
-                let size = T::encode_front(value, &mut dst[tag..])?;
-                Some(tag + size)
-            }
-            Err(error) => {
-                let tag = u32::encode_front(&1, dst)?;
-                let size = E::encode_front(error, &mut dst[tag..])?;
-                Some(tag + size)
-            }
-        }
+    fn write_at_once<W: Writer>(writer: &mut W, items: &[Self::Src]) -> Option<WriteResult<()>> {
+        let _ = &*writer;
+        let _items = items.len();
+        None
+    }
+
+    #[inline(always)]
+    fn known_size() -> Option<usize> {
+        None
+    }
+
+    #[inline(always)]
+    fn encode_items(items: &[Self::Src], dst: &mut [u8]) -> bool {
+        let _items = items.len();
+        let _len = dst.len();
+        false
     }
 
     ghost write_laws = { result_write_laws 4 T.is_valid E.is_valid T.model E.model T.writing E.writing T.write_laws E.write_laws };

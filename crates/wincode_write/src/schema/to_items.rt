@@ -4,25 +4,28 @@ ghost use Rattle.std.specs.BinaryHeap.{heap_items};
 ghost use Rattle.std.specs.HashMap.{IsUnique};
 ghost use Rattle.std.specs.List.{IsDistinct};
 ghost use Rattle.std.specs.List.Sorted.{IsStrictlySortedBy};
-ghost use Rattle.std.specs.Prelude.{◌≡◌, ◌+◌, ◌^◌, ◌≤◌, List, length, map, IfSome, IsTrue, IfOk, IfErr};
+ghost use Rattle.std.specs.Prelude.{◌≡◌, ◌+◌, ◌≤◌, List, length, map, IfSome, IsTrue, IfOk, IfErr};
 ghost use Rattle.wincode_io.specs.Joins.{Each, total};
 ghost use Rattle.wincode_base.specs.Lists.{item_write, items_write, each_write, parts_write, list_write_of, list_write, SizesRefused};
-ghost use Rattle.wincode_base.specs.Outcomes.{IsSized, IsEncoded, SizeRefused, IsOverflow, past_usize, WriteOutcome};
+ghost use Rattle.wincode_base.specs.Outcomes.{IsSized, IsEncoded, SizeRefused, WriteOutcome};
 ghost use Rattle.wincode_base.specs.declared.meta.TypeMeta.TheVariants.{Dynamic};
 ghost use Rattle.wincode_collect.specs.Seen.{sees};
 ghost use Rattle.wincode_base.specs.Pairs.{pair_write};
 ghost use Rattle.wincode_base.specs.ItemSizes.{IsWriteItemSize};
 
 use crate::schema::SchemaWrite;
-use crate::schema::encoded::{BLOCK, short_size, write_item, write_many};
-use crate::schema::tuples::size_of_members_2;
+use crate::schema::encoded::{short_size, write_item, write_many};
+use crate::schema::tuples::{encode_front_members_2, size_of_members_2};
 use std::collections::{BTreeMap, BTreeSet, BinaryHeap, HashMap, HashSet, LinkedList, VecDeque};
 use std::hash::Hash;
-use wincode_base::error::{WriteError, WriteResult, write_length_encoding_overflow};
+use wincode_base::error::{WriteResult, write_length_encoding_overflow};
 use wincode_base::len::SeqLen;
 use wincode_base::parts::{Member, Members2};
-use wincode_base::sizes::ItemSize;
+use wincode_base::sizes::{ItemSize, checked_sum};
 use wincode_io::{WriteWindow, Writer};
+
+/// How many bytes of pairs are put together at a time.
+const BLOCK: usize = 1024;
 
 /// Items that are gone over in order, by reference.
 pub trait ToItems<T: SchemaWrite> {
@@ -47,27 +50,6 @@ pub trait ToItems<T: SchemaWrite> {
         ensures { WriteOutcome (items_write T.writing) (W.state writer.old) (W.state writer.new) (map T.model (listed self.now)) (Each T.is_valid (listed self.now)) result };
 }
 
-/// The refusal of a size past `usize::MAX`. It is made apart, so that nothing is set up for it where there is none.
-#[cold]
-#[inline(never)]
-fn too_large() -> WriteError
-    ensures { IsOverflow past_usize result }
-{
-    write_length_encoding_overflow("usize::MAX")
-}
-
-/// The size of what stands before, and of what stands behind it.
-#[inline(always)]
-fn sum_of(before: usize, behind: usize) -> WriteResult<usize>
-    ensures ok { IfOk result (λ n. n ≡ before + behind) }
-    ensures err { IfErr result (λ e. (2 ^ 64 ≤ before + behind) × IsOverflow past_usize e) }
-{
-    match before.checked_add(behind) {
-        Some(size) => Ok(size),
-        None => Err(too_large()),
-    }
-}
-
 /// The sizes of `n` items, added to the size of what stands before them, where they are known without
 /// looking at the items.
 #[inline(always)]
@@ -78,14 +60,14 @@ fn sizes_alike<T: SchemaWrite>(before: usize, n: usize) -> Option<WriteResult<us
 {
     let size = T::known_size()?;
     match n.checked_mul(size) {
-        Some(total) => Some(sum_of(before, total)),
-        None => Some(Err(too_large())),
+        Some(total) => Some(checked_sum(before, total)),
+        None => Some(Err(write_length_encoding_overflow("usize::MAX"))),
     }
 }
 
 /// The sizes of items, added to the size of what stands before them.
 #[inline]
-pub(crate) fn add_sizes<T: SchemaWrite>(before: usize, items: &[T::Src]) -> WriteResult<usize>
+pub(crate) fn sizes_of_items<T: SchemaWrite>(before: usize, items: &[T::Src]) -> WriteResult<usize>
     ensures ok { IfOk result (λ n. Each T.writing.can (map T.model items.now) × (n ≡ before + total T.writing.size (map T.model items.now))) }
     ensures err { IfErr result (SizesRefused before T.writing (map T.model items.now)) }
 {
@@ -103,8 +85,8 @@ pub(crate) fn add_sizes<T: SchemaWrite>(before: usize, items: &[T::Src]) -> Writ
     Ok(sum)
 }
 
-/// Writes items, each by itself.
-pub(crate) fn write_each<T: SchemaWrite, W: Writer>(
+/// Writes items, each as its schema writes it.
+pub(crate) fn write_apart<T: SchemaWrite, W: Writer>(
     writer: &mut W,
     items: &[T::Src],
 ) -> WriteResult<()>
@@ -127,7 +109,7 @@ impl<'a, U: 'a, T: SchemaWrite<Src = U>> ToItems<T> for &'a [U] {
     }
 
     fn add_sizes(&self, before: usize) -> WriteResult<usize> {
-        add_sizes::<T>(before, *self)
+        sizes_of_items::<T>(before, *self)
     }
 
     fn write_to<W: Writer>(&self, writer: &mut W) -> WriteResult<()> {
@@ -147,8 +129,8 @@ impl<U, T: SchemaWrite<Src = U>> ToItems<T> for VecDeque<U> {
 
     fn add_sizes(&self, before: usize) -> WriteResult<usize> {
         let (front, back) = self.as_slices();
-        let sum = add_sizes::<T>(before, front)?;
-        add_sizes::<T>(sum, back)
+        let sum = sizes_of_items::<T>(before, front)?;
+        sizes_of_items::<T>(sum, back)
     }
 
     fn write_to<W: Writer>(&self, writer: &mut W) -> WriteResult<()> {
@@ -198,7 +180,7 @@ impl<U: Ord, T: SchemaWrite<Src = U>> ToItems<T> for BinaryHeap<U> {
     }
 
     fn add_sizes(&self, before: usize) -> WriteResult<usize> {
-        add_sizes::<T>(before, self.as_slice())
+        sizes_of_items::<T>(before, self.as_slice())
     }
 
     fn write_to<W: Writer>(&self, writer: &mut W) -> WriteResult<()> {
@@ -373,16 +355,10 @@ where
 fn encode_pair<K: SchemaWrite, V: SchemaWrite>(key: &K::Src, value: &V::Src, dst: &mut [u8]) -> bool
     ensures { IsTrue result → IsEncoded (pair_write K.writing V.writing) (K.model key.now, V.model value.now) dst.new × (K.is_valid key.now × V.is_valid value.now) }
 {
-    encode_members::<&Member<K>, &Member<V>>(&(key, value), dst)
-}
-
-/// Puts an encoding of a pair over all of the bytes; or answers `false`.
-#[inline(always)]
-fn encode_members<A: SchemaWrite, B: SchemaWrite>(src: &(A::Src, B::Src), dst: &mut [u8]) -> bool
-    ensures { let members = ⟦<Members2<A, B> as SchemaWrite>⟧ in
-        IsTrue result → IsEncoded members.writing (members.model src.now) dst.new × members.is_valid src.now }
-{
-    <Members2<A, B> as SchemaWrite>::encode(src, dst)
+    match encode_front_members_2::<K, V>(key, value, dst) {
+        Some(size) => size == dst.len(),
+        None => false,
+    }
 }
 
 /// Writes a key, and then its value, through no window of their own.

@@ -43,6 +43,32 @@ impl<B: SharedBytes, T: ZeroCopy> SchemaWrite for View<B, T> {
         Ok(())
     }
 
+    #[inline(always)]
+    fn write_at_once<W: Writer>(writer: &mut W, items: &[Self::Src]) -> Option<WriteResult<()>> {
+        let _ = &*writer;
+        let _items = items.len();
+        None
+    }
+
+    #[inline(always)]
+    fn known_size() -> Option<usize> {
+        None
+    }
+
+    #[inline(always)]
+    fn encode_front(src: &Self::Src, dst: &mut [u8]) -> Option<usize> {
+        let _ = src;
+        let _len = dst.len();
+        None
+    }
+
+    #[inline(always)]
+    fn encode_items(items: &[Self::Src], dst: &mut [u8]) -> bool {
+        let _items = items.len();
+        let _len = dst.len();
+        false
+    }
+
     ghost write_laws = { form_write_laws T.byte_form (λ v. value_seen v) false 8 };
 }
 
@@ -96,6 +122,32 @@ impl<B: SharedBytes, T: ZeroCopy> SchemaWrite for SliceView<B, T> {
 
     fn write<W: Writer>(writer: &mut W, src: &SliceView<B, T>) -> WriteResult<()> {
         write_list::<BincodeLen<NO_LIMIT>, Pod<T>, SliceView<B, T>, W, 16>(writer, src)
+    }
+
+    #[inline(always)]
+    fn write_at_once<W: Writer>(writer: &mut W, items: &[Self::Src]) -> Option<WriteResult<()>> {
+        let _ = &*writer;
+        let _items = items.len();
+        None
+    }
+
+    #[inline(always)]
+    fn known_size() -> Option<usize> {
+        None
+    }
+
+    #[inline(always)]
+    fn encode_front(src: &Self::Src, dst: &mut [u8]) -> Option<usize> {
+        let _ = src;
+        let _len = dst.len();
+        None
+    }
+
+    #[inline(always)]
+    fn encode_items(items: &[Self::Src], dst: &mut [u8]) -> bool {
+        let _items = items.len();
+        let _len = dst.len();
+        false
     }
 
     ghost write_laws = { lent_write_laws (λ v. values_seen v) T.is_valid

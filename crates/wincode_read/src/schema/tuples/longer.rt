@@ -1,10 +1,12 @@
-//! Schemas of tuples of 9 to 12 members.
+//! Written by `tools/templates`: schemas of tuples of 9 to 12 members.
 ghost use Rattle.std.specs.Prelude.{IsTrue};
 ghost use Rattle.wincode_base.specs.InWindow.{windowed_read};
 ghost use Rattle.wincode_base.specs.PairLaws.{pair_read_laws, windowed_read_laws};
+ghost use Rattle.wincode_base.specs.Pairs.{pair_read};
 
 use crate::schema::SchemaRead;
-use crate::schema::tuples::{FromPairs, blank_pairs, decode_8, read_pairs};
+use crate::schema::tuples::shorter::decode_8;
+use crate::schema::tuples::{FromPairs, read_pairs};
 use std::alloc::Global;
 use wincode_base::error::ReadResult;
 use wincode_base::meta::TypeMeta;
@@ -38,7 +40,8 @@ fn decode_9<
     h: &mut H::Dst,
     i: &mut I::Dst,
 ) -> bool
-    ensures { IsTrue result → ⟦<Members9<A, B, C, D, E, F, G, H, I> as SchemaRead<L>>⟧.reading.reads bytes.now
+    ensures { IsTrue result → (pair_read A.reading (pair_read B.reading (pair_read C.reading (pair_read D.reading (pair_read E.reading
+        (pair_read F.reading (pair_read G.reading (pair_read H.reading I.reading)))))))).reads bytes.now
         (A.model a.new, (B.model b.new, (C.model c.new, (D.model d.new, (E.model e.new, (F.model f.new, (G.model g.new, (H.model h.new, I.model i.new)))))))) }
 {
     match A::type_meta() {
@@ -79,7 +82,8 @@ fn decode_10<
     i: &mut I::Dst,
     j: &mut J::Dst,
 ) -> bool
-    ensures { IsTrue result → ⟦<Members10<A, B, C, D, E, F, G, H, I, J> as SchemaRead<L>>⟧.reading.reads bytes.now
+    ensures { IsTrue result → (pair_read A.reading (pair_read B.reading (pair_read C.reading (pair_read D.reading (pair_read E.reading
+        (pair_read F.reading (pair_read G.reading (pair_read H.reading (pair_read I.reading J.reading))))))))).reads bytes.now
         (A.model a.new, (B.model b.new, (C.model c.new, (D.model d.new, (E.model e.new, (F.model f.new, (G.model g.new, (H.model h.new, (I.model i.new, J.model j.new))))))))) }
 {
     match A::type_meta() {
@@ -122,7 +126,8 @@ fn decode_11<
     j: &mut J::Dst,
     k: &mut K::Dst,
 ) -> bool
-    ensures { IsTrue result → ⟦<Members11<A, B, C, D, E, F, G, H, I, J, K> as SchemaRead<L>>⟧.reading.reads bytes.now
+    ensures { IsTrue result → (pair_read A.reading (pair_read B.reading (pair_read C.reading (pair_read D.reading (pair_read E.reading
+        (pair_read F.reading (pair_read G.reading (pair_read H.reading (pair_read I.reading (pair_read J.reading K.reading)))))))))).reads bytes.now
         (A.model a.new, (B.model b.new, (C.model c.new, (D.model d.new, (E.model e.new, (F.model f.new, (G.model g.new, (H.model h.new, (I.model i.new, (J.model j.new, K.model k.new)))))))))) }
 {
     match A::type_meta() {
@@ -167,19 +172,10 @@ fn decode_12<
     k: &mut K::Dst,
     m: &mut M::Dst,
 ) -> bool
-    ensures { IsTrue result → ⟦<Members12<A, B, C, D, E, F, G, H, I, J, K, M> as SchemaRead<L>>⟧.reading.reads bytes.now (
-      A.model a.new,
-      (
-        B.model b.new,
-        (
-          C.model c.new,
-          (
-            D.model d.new,
-            (E.model e.new, (F.model f.new, (G.model g.new, (H.model h.new, (I.model i.new, (J.model j.new, (K.model k.new, M.model m.new))))))),
-          ),
-        ),
-      ),
-    ) }
+    ensures { IsTrue result → (pair_read A.reading (pair_read B.reading (pair_read C.reading (pair_read D.reading (pair_read E.reading
+        (pair_read F.reading (pair_read G.reading (pair_read H.reading (pair_read I.reading (pair_read J.reading
+        (pair_read K.reading M.reading))))))))))).reads bytes.now
+        (A.model a.new, (B.model b.new, (C.model c.new, (D.model d.new, (E.model e.new, (F.model f.new, (G.model g.new, (H.model h.new, (I.model i.new, (J.model j.new, (K.model k.new, M.model m.new))))))))))) }
 {
     match A::type_meta() {
         TypeMeta::Static { size, .. } if size <= bytes.len() => {
@@ -227,13 +223,16 @@ impl<
         I::Dst,
     );
 
-    ghost Value = { ⟦<Members9<A, B, C, D, E, F, G, H, I> as SchemaRead<L>>⟧.Value };
+    ghost Value = { A.Value × (B.Value × (C.Value × (D.Value × (E.Value × (F.Value × (G.Value × (H.Value × I.Value))))))) };
 
-    ghost model = { λ t. ⟦<Members9<A, B, C, D, E, F, G, H, I> as SchemaRead<L>>⟧.model (t.0, (t.1, (t.2, (t.3, (t.4, (t.5, (t.6, (t.7, t.8)))))))) };
+    ghost model = { λ t.
+        (A.model t.0, (B.model t.1, (C.model t.2, (D.model t.3, (E.model t.4, (F.model t.5, (G.model t.6, (H.model t.7, I.model t.8)))))))) };
 
-    ghost is_valid = { ⟦<Members9<A, B, C, D, E, F, G, H, I> as SchemaRead<L>>⟧.is_valid };
+    ghost is_valid = { λ v. A.is_valid v.0 × (B.is_valid v.1.0 × (C.is_valid v.1.1.0 × (D.is_valid v.1.1.1.0 × (E.is_valid v.1.1.1.1.0 ×
+        (F.is_valid v.1.1.1.1.1.0 × (G.is_valid v.1.1.1.1.1.1.0 × (H.is_valid v.1.1.1.1.1.1.1.0 × I.is_valid v.1.1.1.1.1.1.1.1))))))) };
 
-    ghost reading = { windowed_read ⟦<Members9<A, B, C, D, E, F, G, H, I> as SchemaRead<L>>⟧.reading };
+    ghost reading = { windowed_read (pair_read A.reading (pair_read B.reading (pair_read C.reading (pair_read D.reading (pair_read E.reading
+        (pair_read F.reading (pair_read G.reading (pair_read H.reading I.reading)))))))) };
 
     fn type_meta() -> TypeMeta {
         joined_meta(
@@ -259,7 +258,9 @@ impl<
 
     #[inline(always)]
     fn blank() -> Option<Self::Dst> {
-        blank_pairs::<L, Members9<A, B, C, D, E, F, G, H, I>, Self::Dst>()
+        let a = A::blank()?;
+        let (b, c, d, e, f, g, h, i) = <(B, C, D, E, F, G, H, I) as SchemaRead<L>>::blank()?;
+        Some((a, b, c, d, e, f, g, h, i))
     }
 
     #[inline(always)]
@@ -278,9 +279,29 @@ impl<
         )
     }
 
-    ghost read_laws = { windowed_read_laws (pair_read_laws A.read_laws
-        (pair_read_laws B.read_laws (pair_read_laws C.read_laws
-        (pair_read_laws D.read_laws (pair_read_laws E.read_laws (pair_read_laws F.read_laws (pair_read_laws G.read_laws (pair_read_laws H.read_laws I.read_laws)))))))) };
+    #[inline(always)]
+    fn read_at_once<R: Reader<L>>(
+        alloc: Global,
+        reader: &mut R,
+        n: usize,
+        into: &mut Vec<Self::Dst>,
+    ) -> Option<ReadResult<()>> {
+        let _ = (alloc, n);
+        let _ = &*reader;
+        let _ = &*into;
+        None
+    }
+
+    #[inline(always)]
+    fn decode_over(bytes: &[u8], places: &mut [Self::Dst]) -> bool {
+        let _ = bytes.len();
+        let _ = &*places;
+        false
+    }
+
+    ghost read_laws = { windowed_read_laws (pair_read_laws A.read_laws (pair_read_laws B.read_laws (pair_read_laws C.read_laws
+        (pair_read_laws D.read_laws (pair_read_laws E.read_laws (pair_read_laws F.read_laws (pair_read_laws G.read_laws
+        (pair_read_laws H.read_laws I.read_laws)))))))) };
 }
 
 impl<A, B, C, D, E, F, G, H, I, J> FromPairs<(A, (B, (C, (D, (E, (F, (G, (H, (I, J)))))))))>
@@ -321,13 +342,17 @@ impl<
         J::Dst,
     );
 
-    ghost Value = { ⟦<Members10<A, B, C, D, E, F, G, H, I, J> as SchemaRead<L>>⟧.Value };
+    ghost Value = { A.Value × (B.Value × (C.Value × (D.Value × (E.Value × (F.Value × (G.Value × (H.Value × (I.Value × J.Value)))))))) };
 
-    ghost model = { λ t. ⟦<Members10<A, B, C, D, E, F, G, H, I, J> as SchemaRead<L>>⟧.model (t.0, (t.1, (t.2, (t.3, (t.4, (t.5, (t.6, (t.7, (t.8, t.9))))))))) };
+    ghost model = { λ t.
+        (A.model t.0, (B.model t.1, (C.model t.2, (D.model t.3, (E.model t.4, (F.model t.5, (G.model t.6, (H.model t.7, (I.model t.8, J.model t.9))))))))) };
 
-    ghost is_valid = { ⟦<Members10<A, B, C, D, E, F, G, H, I, J> as SchemaRead<L>>⟧.is_valid };
+    ghost is_valid = { λ v. A.is_valid v.0 × (B.is_valid v.1.0 × (C.is_valid v.1.1.0 × (D.is_valid v.1.1.1.0 × (E.is_valid v.1.1.1.1.0 ×
+        (F.is_valid v.1.1.1.1.1.0 × (G.is_valid v.1.1.1.1.1.1.0 × (H.is_valid v.1.1.1.1.1.1.1.0 × (I.is_valid v.1.1.1.1.1.1.1.1.0 ×
+        J.is_valid v.1.1.1.1.1.1.1.1.1)))))))) };
 
-    ghost reading = { windowed_read ⟦<Members10<A, B, C, D, E, F, G, H, I, J> as SchemaRead<L>>⟧.reading };
+    ghost reading = { windowed_read (pair_read A.reading (pair_read B.reading (pair_read C.reading (pair_read D.reading (pair_read E.reading
+        (pair_read F.reading (pair_read G.reading (pair_read H.reading (pair_read I.reading J.reading))))))))) };
 
     fn type_meta() -> TypeMeta {
         joined_meta(
@@ -353,7 +378,9 @@ impl<
 
     #[inline(always)]
     fn blank() -> Option<Self::Dst> {
-        blank_pairs::<L, Members10<A, B, C, D, E, F, G, H, I, J>, Self::Dst>()
+        let a = A::blank()?;
+        let (b, c, d, e, f, g, h, i, j) = <(B, C, D, E, F, G, H, I, J) as SchemaRead<L>>::blank()?;
+        Some((a, b, c, d, e, f, g, h, i, j))
     }
 
     #[inline(always)]
@@ -373,9 +400,29 @@ impl<
         )
     }
 
-    ghost read_laws = { windowed_read_laws (pair_read_laws A.read_laws
-        (pair_read_laws B.read_laws (pair_read_laws C.read_laws
-        (pair_read_laws D.read_laws (pair_read_laws E.read_laws (pair_read_laws F.read_laws (pair_read_laws G.read_laws (pair_read_laws H.read_laws (pair_read_laws I.read_laws J.read_laws))))))))) };
+    #[inline(always)]
+    fn read_at_once<R: Reader<L>>(
+        alloc: Global,
+        reader: &mut R,
+        n: usize,
+        into: &mut Vec<Self::Dst>,
+    ) -> Option<ReadResult<()>> {
+        let _ = (alloc, n);
+        let _ = &*reader;
+        let _ = &*into;
+        None
+    }
+
+    #[inline(always)]
+    fn decode_over(bytes: &[u8], places: &mut [Self::Dst]) -> bool {
+        let _ = bytes.len();
+        let _ = &*places;
+        false
+    }
+
+    ghost read_laws = { windowed_read_laws (pair_read_laws A.read_laws (pair_read_laws B.read_laws (pair_read_laws C.read_laws
+        (pair_read_laws D.read_laws (pair_read_laws E.read_laws (pair_read_laws F.read_laws (pair_read_laws G.read_laws (pair_read_laws H.read_laws
+        (pair_read_laws I.read_laws J.read_laws))))))))) };
 }
 
 impl<A, B, C, D, E, F, G, H, I, J, K> FromPairs<(A, (B, (C, (D, (E, (F, (G, (H, (I, (J, K))))))))))>
@@ -418,13 +465,17 @@ impl<
         K::Dst,
     );
 
-    ghost Value = { ⟦<Members11<A, B, C, D, E, F, G, H, I, J, K> as SchemaRead<L>>⟧.Value };
+    ghost Value = { A.Value × (B.Value × (C.Value × (D.Value × (E.Value × (F.Value × (G.Value × (H.Value × (I.Value × (J.Value × K.Value))))))))) };
 
-    ghost model = { λ t. ⟦<Members11<A, B, C, D, E, F, G, H, I, J, K> as SchemaRead<L>>⟧.model (t.0, (t.1, (t.2, (t.3, (t.4, (t.5, (t.6, (t.7, (t.8, (t.9, t.10)))))))))) };
+    ghost model = { λ t.
+        (A.model t.0, (B.model t.1, (C.model t.2, (D.model t.3, (E.model t.4, (F.model t.5, (G.model t.6, (H.model t.7, (I.model t.8, (J.model t.9, K.model t.10)))))))))) };
 
-    ghost is_valid = { ⟦<Members11<A, B, C, D, E, F, G, H, I, J, K> as SchemaRead<L>>⟧.is_valid };
+    ghost is_valid = { λ v. A.is_valid v.0 × (B.is_valid v.1.0 × (C.is_valid v.1.1.0 × (D.is_valid v.1.1.1.0 × (E.is_valid v.1.1.1.1.0 ×
+        (F.is_valid v.1.1.1.1.1.0 × (G.is_valid v.1.1.1.1.1.1.0 × (H.is_valid v.1.1.1.1.1.1.1.0 × (I.is_valid v.1.1.1.1.1.1.1.1.0 ×
+        (J.is_valid v.1.1.1.1.1.1.1.1.1.0 × K.is_valid v.1.1.1.1.1.1.1.1.1.1))))))))) };
 
-    ghost reading = { windowed_read ⟦<Members11<A, B, C, D, E, F, G, H, I, J, K> as SchemaRead<L>>⟧.reading };
+    ghost reading = { windowed_read (pair_read A.reading (pair_read B.reading (pair_read C.reading (pair_read D.reading (pair_read E.reading
+        (pair_read F.reading (pair_read G.reading (pair_read H.reading (pair_read I.reading (pair_read J.reading K.reading)))))))))) };
 
     fn type_meta() -> TypeMeta {
         joined_meta(
@@ -452,7 +503,11 @@ impl<
 
     #[inline(always)]
     fn blank() -> Option<Self::Dst> {
-        blank_pairs::<L, Members11<A, B, C, D, E, F, G, H, I, J, K>, Self::Dst>()
+        let a = A::blank()?;
+        let (b, c, d, e, f, g, h, i, j, k) = <(B, C, D, E, F, G, H, I, J, K) as SchemaRead<
+            L,
+        >>::blank()?;
+        Some((a, b, c, d, e, f, g, h, i, j, k))
     }
 
     #[inline(always)]
@@ -473,10 +528,29 @@ impl<
         )
     }
 
-    ghost read_laws = { windowed_read_laws (pair_read_laws A.read_laws
-        (pair_read_laws B.read_laws (pair_read_laws C.read_laws
-        (pair_read_laws D.read_laws (pair_read_laws E.read_laws
-        (pair_read_laws F.read_laws (pair_read_laws G.read_laws (pair_read_laws H.read_laws (pair_read_laws I.read_laws (pair_read_laws J.read_laws K.read_laws)))))))))) };
+    #[inline(always)]
+    fn read_at_once<R: Reader<L>>(
+        alloc: Global,
+        reader: &mut R,
+        n: usize,
+        into: &mut Vec<Self::Dst>,
+    ) -> Option<ReadResult<()>> {
+        let _ = (alloc, n);
+        let _ = &*reader;
+        let _ = &*into;
+        None
+    }
+
+    #[inline(always)]
+    fn decode_over(bytes: &[u8], places: &mut [Self::Dst]) -> bool {
+        let _ = bytes.len();
+        let _ = &*places;
+        false
+    }
+
+    ghost read_laws = { windowed_read_laws (pair_read_laws A.read_laws (pair_read_laws B.read_laws (pair_read_laws C.read_laws
+        (pair_read_laws D.read_laws (pair_read_laws E.read_laws (pair_read_laws F.read_laws (pair_read_laws G.read_laws (pair_read_laws H.read_laws
+        (pair_read_laws I.read_laws (pair_read_laws J.read_laws K.read_laws)))))))))) };
 }
 
 impl<A, B, C, D, E, F, G, H, I, J, K, M> FromPairs<
@@ -522,13 +596,19 @@ impl<
         M::Dst,
     );
 
-    ghost Value = { ⟦<Members12<A, B, C, D, E, F, G, H, I, J, K, M> as SchemaRead<L>>⟧.Value };
+    ghost Value = { A.Value × (B.Value × (C.Value × (D.Value × (E.Value × (F.Value × (G.Value × (H.Value × (I.Value × (J.Value × (K.Value ×
+        M.Value)))))))))) };
 
-    ghost model = { λ t. ⟦<Members12<A, B, C, D, E, F, G, H, I, J, K, M> as SchemaRead<L>>⟧.model (t.0, (t.1, (t.2, (t.3, (t.4, (t.5, (t.6, (t.7, (t.8, (t.9, (t.10, t.11))))))))))) };
+    ghost model = { λ t.
+        (A.model t.0, (B.model t.1, (C.model t.2, (D.model t.3, (E.model t.4, (F.model t.5, (G.model t.6, (H.model t.7, (I.model t.8, (J.model t.9, (K.model t.10, M.model t.11))))))))))) };
 
-    ghost is_valid = { ⟦<Members12<A, B, C, D, E, F, G, H, I, J, K, M> as SchemaRead<L>>⟧.is_valid };
+    ghost is_valid = { λ v. A.is_valid v.0 × (B.is_valid v.1.0 × (C.is_valid v.1.1.0 × (D.is_valid v.1.1.1.0 × (E.is_valid v.1.1.1.1.0 ×
+        (F.is_valid v.1.1.1.1.1.0 × (G.is_valid v.1.1.1.1.1.1.0 × (H.is_valid v.1.1.1.1.1.1.1.0 × (I.is_valid v.1.1.1.1.1.1.1.1.0 ×
+        (J.is_valid v.1.1.1.1.1.1.1.1.1.0 × (K.is_valid v.1.1.1.1.1.1.1.1.1.1.0 × M.is_valid v.1.1.1.1.1.1.1.1.1.1.1)))))))))) };
 
-    ghost reading = { windowed_read ⟦<Members12<A, B, C, D, E, F, G, H, I, J, K, M> as SchemaRead<L>>⟧.reading };
+    ghost reading = { windowed_read (pair_read A.reading (pair_read B.reading (pair_read C.reading (pair_read D.reading (pair_read E.reading
+        (pair_read F.reading (pair_read G.reading (pair_read H.reading (pair_read I.reading (pair_read J.reading
+        (pair_read K.reading M.reading))))))))))) };
 
     fn type_meta() -> TypeMeta {
         joined_meta(
@@ -556,7 +636,11 @@ impl<
 
     #[inline(always)]
     fn blank() -> Option<Self::Dst> {
-        blank_pairs::<L, Members12<A, B, C, D, E, F, G, H, I, J, K, M>, Self::Dst>()
+        let a = A::blank()?;
+        let (b, c, d, e, f, g, h, i, j, k, m) = <(B, C, D, E, F, G, H, I, J, K, M) as SchemaRead<
+            L,
+        >>::blank()?;
+        Some((a, b, c, d, e, f, g, h, i, j, k, m))
     }
 
     #[inline(always)]
@@ -578,9 +662,27 @@ impl<
         )
     }
 
-    ghost read_laws = { windowed_read_laws (pair_read_laws A.read_laws
-        (pair_read_laws B.read_laws (pair_read_laws C.read_laws
-        (pair_read_laws D.read_laws (pair_read_laws E.read_laws
-        (pair_read_laws F.read_laws (pair_read_laws G.read_laws
-        (pair_read_laws H.read_laws (pair_read_laws I.read_laws (pair_read_laws J.read_laws (pair_read_laws K.read_laws M.read_laws))))))))))) };
+    #[inline(always)]
+    fn read_at_once<R: Reader<L>>(
+        alloc: Global,
+        reader: &mut R,
+        n: usize,
+        into: &mut Vec<Self::Dst>,
+    ) -> Option<ReadResult<()>> {
+        let _ = (alloc, n);
+        let _ = &*reader;
+        let _ = &*into;
+        None
+    }
+
+    #[inline(always)]
+    fn decode_over(bytes: &[u8], places: &mut [Self::Dst]) -> bool {
+        let _ = bytes.len();
+        let _ = &*places;
+        false
+    }
+
+    ghost read_laws = { windowed_read_laws (pair_read_laws A.read_laws (pair_read_laws B.read_laws (pair_read_laws C.read_laws
+        (pair_read_laws D.read_laws (pair_read_laws E.read_laws (pair_read_laws F.read_laws (pair_read_laws G.read_laws (pair_read_laws H.read_laws
+        (pair_read_laws I.read_laws (pair_read_laws J.read_laws (pair_read_laws K.read_laws M.read_laws))))))))))) };
 }

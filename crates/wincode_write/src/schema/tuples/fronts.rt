@@ -1,24 +1,8 @@
-//! Members put together over the front of bytes, each by a schema of its own, as `encode_front` does of a tuple of them.
+//! Written by `tools/templates`: members put together over the front of bytes, each by a schema of its own, as `encode_front` does of a tuple of them.
 ghost use Rattle.std.specs.Prelude.{◌≤◌, length, take, IfSome};
 ghost use Rattle.wincode_base.specs.Outcomes.{IsEncoded};
 
 use crate::schema::SchemaWrite;
-use wincode_base::parts::{
-    Member, Members2, Members3, Members4, Members5, Members6, Members7, Members8, Members9,
-    Members10, Members11, Members12,
-};
-
-/// Puts an encoding of 2 members over the front of the bytes.
-#[inline(always)]
-fn encode_front_2<A: SchemaWrite, B: SchemaWrite>(
-    src: &(A::Src, B::Src),
-    dst: &mut [u8],
-) -> Option<usize>
-    ensures { let members = ⟦<Members2<A, B> as SchemaWrite>⟧ in
-        IfSome result (λ n. (n ≤ length dst.new) × IsEncoded members.writing (members.model src.now) (take n dst.new) × members.is_valid src.now) }
-{
-    <Members2<A, B> as SchemaWrite>::encode_front(src, dst)
-}
 
 /// Puts an encoding of 2 members over the front of the bytes, and gives how many it has; or answers `None`.
 #[inline(always)]
@@ -31,19 +15,9 @@ pub fn encode_front_members_2<A: SchemaWrite, B: SchemaWrite>(
         IfSome result (λ n. (n ≤ length dst.new) × IsEncoded tuple.writing (tuple.model (a.now, b.now)) (take n dst.new)
         × tuple.is_valid (a.now, b.now)) }
 {
-    encode_front_2::<&Member<A>, &Member<B>>(&(a, b), dst)
-}
-
-/// Puts an encoding of 3 members over the front of the bytes.
-#[inline(always)]
-fn encode_front_3<A: SchemaWrite, B: SchemaWrite, C: SchemaWrite>(
-    src: &(A::Src, (B::Src, C::Src)),
-    dst: &mut [u8],
-) -> Option<usize>
-    ensures { let members = ⟦<Members3<A, B, C> as SchemaWrite>⟧ in
-        IfSome result (λ n. (n ≤ length dst.new) × IsEncoded members.writing (members.model src.now) (take n dst.new) × members.is_valid src.now) }
-{
-    <Members3<A, B, C> as SchemaWrite>::encode_front(src, dst)
+    let first = A::encode_front(a, dst)?;
+    let second = B::encode_front(b, &mut dst[first..])?;
+    Some(first + second)
 }
 
 /// Puts an encoding of 3 members over the front of the bytes, and gives how many it has; or answers `None`.
@@ -58,19 +32,9 @@ pub fn encode_front_members_3<A: SchemaWrite, B: SchemaWrite, C: SchemaWrite>(
         IfSome result (λ n. (n ≤ length dst.new) × IsEncoded tuple.writing (tuple.model (a.now, b.now, c.now)) (take n dst.new)
         × tuple.is_valid (a.now, b.now, c.now)) }
 {
-    encode_front_3::<&Member<A>, &Member<B>, &Member<C>>(&(a, (b, c)), dst)
-}
-
-/// Puts an encoding of 4 members over the front of the bytes.
-#[inline(always)]
-fn encode_front_4<A: SchemaWrite, B: SchemaWrite, C: SchemaWrite, D: SchemaWrite>(
-    src: &(A::Src, (B::Src, (C::Src, D::Src))),
-    dst: &mut [u8],
-) -> Option<usize>
-    ensures { let members = ⟦<Members4<A, B, C, D> as SchemaWrite>⟧ in
-        IfSome result (λ n. (n ≤ length dst.new) × IsEncoded members.writing (members.model src.now) (take n dst.new) × members.is_valid src.now) }
-{
-    <Members4<A, B, C, D> as SchemaWrite>::encode_front(src, dst)
+    let first = A::encode_front(a, dst)?;
+    let second = encode_front_members_2::<B, C>(b, c, &mut dst[first..])?;
+    Some(first + second)
 }
 
 /// Puts an encoding of 4 members over the front of the bytes, and gives how many it has; or answers `None`.
@@ -86,19 +50,9 @@ pub fn encode_front_members_4<A: SchemaWrite, B: SchemaWrite, C: SchemaWrite, D:
         IfSome result (λ n. (n ≤ length dst.new) × IsEncoded tuple.writing (tuple.model (a.now, b.now, c.now, d.now)) (take n dst.new)
         × tuple.is_valid (a.now, b.now, c.now, d.now)) }
 {
-    encode_front_4::<&Member<A>, &Member<B>, &Member<C>, &Member<D>>(&(a, (b, (c, d))), dst)
-}
-
-/// Puts an encoding of 5 members over the front of the bytes.
-#[inline(always)]
-fn encode_front_5<A: SchemaWrite, B: SchemaWrite, C: SchemaWrite, D: SchemaWrite, E: SchemaWrite>(
-    src: &(A::Src, (B::Src, (C::Src, (D::Src, E::Src)))),
-    dst: &mut [u8],
-) -> Option<usize>
-    ensures { let members = ⟦<Members5<A, B, C, D, E> as SchemaWrite>⟧ in
-        IfSome result (λ n. (n ≤ length dst.new) × IsEncoded members.writing (members.model src.now) (take n dst.new) × members.is_valid src.now) }
-{
-    <Members5<A, B, C, D, E> as SchemaWrite>::encode_front(src, dst)
+    let first = A::encode_front(a, dst)?;
+    let second = encode_front_members_3::<B, C, D>(b, c, d, &mut dst[first..])?;
+    Some(first + second)
 }
 
 /// Puts an encoding of 5 members over the front of the bytes, and gives how many it has; or answers `None`.
@@ -114,26 +68,9 @@ pub fn encode_front_members_5<
         IfSome result (λ n. (n ≤ length dst.new) × IsEncoded tuple.writing (tuple.model (a.now, b.now, c.now, d.now, e.now)) (take n dst.new)
         × tuple.is_valid (a.now, b.now, c.now, d.now, e.now)) }
 {
-    encode_front_5::<&Member<A>, &Member<B>, &Member<C>, &Member<D>, &Member<E>>(
-        &(a, (b, (c, (d, e)))),
-        dst,
-    )
-}
-
-/// Puts an encoding of 6 members over the front of the bytes.
-#[inline(always)]
-fn encode_front_6<
-    A: SchemaWrite,
-    B: SchemaWrite,
-    C: SchemaWrite,
-    D: SchemaWrite,
-    E: SchemaWrite,
-    F: SchemaWrite,
->(src: &(A::Src, (B::Src, (C::Src, (D::Src, (E::Src, F::Src))))), dst: &mut [u8]) -> Option<usize>
-    ensures { let members = ⟦<Members6<A, B, C, D, E, F> as SchemaWrite>⟧ in
-        IfSome result (λ n. (n ≤ length dst.new) × IsEncoded members.writing (members.model src.now) (take n dst.new) × members.is_valid src.now) }
-{
-    <Members6<A, B, C, D, E, F> as SchemaWrite>::encode_front(src, dst)
+    let first = A::encode_front(a, dst)?;
+    let second = encode_front_members_4::<B, C, D, E>(b, c, d, e, &mut dst[first..])?;
+    Some(first + second)
 }
 
 /// Puts an encoding of 6 members over the front of the bytes, and gives how many it has; or answers `None`.
@@ -158,33 +95,9 @@ pub fn encode_front_members_6<
         IfSome result (λ n. (n ≤ length dst.new) × IsEncoded tuple.writing (tuple.model (a.now, b.now, c.now, d.now, e.now, f.now)) (take n dst.new)
         × tuple.is_valid (a.now, b.now, c.now, d.now, e.now, f.now)) }
 {
-    encode_front_6::<&Member<A>, &Member<B>, &Member<C>, &Member<D>, &Member<E>, &Member<F>>(
-        &(a, (b, (c, (d, (e, f))))),
-        dst,
-    )
-}
-
-/// Puts an encoding of 7 members over the front of the bytes.
-#[inline(always)]
-fn encode_front_7<
-    A: SchemaWrite,
-    B: SchemaWrite,
-    C: SchemaWrite,
-    D: SchemaWrite,
-    E: SchemaWrite,
-    F: SchemaWrite,
-    G: SchemaWrite,
->(
-    src: &(
-        A::Src,
-        (B::Src, (C::Src, (D::Src, (E::Src, (F::Src, G::Src))))),
-    ),
-    dst: &mut [u8],
-) -> Option<usize>
-    ensures { let members = ⟦<Members7<A, B, C, D, E, F, G> as SchemaWrite>⟧ in
-        IfSome result (λ n. (n ≤ length dst.new) × IsEncoded members.writing (members.model src.now) (take n dst.new) × members.is_valid src.now) }
-{
-    <Members7<A, B, C, D, E, F, G> as SchemaWrite>::encode_front(src, dst)
+    let first = A::encode_front(a, dst)?;
+    let second = encode_front_members_5::<B, C, D, E, F>(b, c, d, e, f, &mut dst[first..])?;
+    Some(first + second)
 }
 
 /// Puts an encoding of 7 members over the front of the bytes, and gives how many it has; or answers `None`.
@@ -208,45 +121,13 @@ pub fn encode_front_members_7<
     dst: &mut [u8],
 ) -> Option<usize>
     ensures { let tuple = ⟦<(A, B, C, D, E, F, G) as SchemaWrite>⟧ in
-        IfSome result (λ n. (n ≤ length dst.new) × IsEncoded tuple.writing (tuple.model (a.now, b.now, c.now, d.now, e.now, f.now, g.now)) (take n dst.new)
+        IfSome result (λ n. (n ≤ length dst.new) × IsEncoded tuple.writing
+        (tuple.model (a.now, b.now, c.now, d.now, e.now, f.now, g.now)) (take n dst.new)
         × tuple.is_valid (a.now, b.now, c.now, d.now, e.now, f.now, g.now)) }
 {
-    encode_front_7::<
-        &Member<A>,
-        &Member<B>,
-        &Member<C>,
-        &Member<D>,
-        &Member<E>,
-        &Member<F>,
-        &Member<G>,
-    >(&(a, (b, (c, (d, (e, (f, g)))))), dst)
-}
-
-/// Puts an encoding of 8 members over the front of the bytes.
-#[inline(always)]
-fn encode_front_8<
-    A: SchemaWrite,
-    B: SchemaWrite,
-    C: SchemaWrite,
-    D: SchemaWrite,
-    E: SchemaWrite,
-    F: SchemaWrite,
-    G: SchemaWrite,
-    H: SchemaWrite,
->(
-    src: &(
-        A::Src,
-        (
-            B::Src,
-            (C::Src, (D::Src, (E::Src, (F::Src, (G::Src, H::Src))))),
-        ),
-    ),
-    dst: &mut [u8],
-) -> Option<usize>
-    ensures { let members = ⟦<Members8<A, B, C, D, E, F, G, H> as SchemaWrite>⟧ in
-        IfSome result (λ n. (n ≤ length dst.new) × IsEncoded members.writing (members.model src.now) (take n dst.new) × members.is_valid src.now) }
-{
-    <Members8<A, B, C, D, E, F, G, H> as SchemaWrite>::encode_front(src, dst)
+    let first = A::encode_front(a, dst)?;
+    let second = encode_front_members_6::<B, C, D, E, F, G>(b, c, d, e, f, g, &mut dst[first..])?;
+    Some(first + second)
 }
 
 /// Puts an encoding of 8 members over the front of the bytes, and gives how many it has; or answers `None`.
@@ -272,50 +153,22 @@ pub fn encode_front_members_8<
     dst: &mut [u8],
 ) -> Option<usize>
     ensures { let tuple = ⟦<(A, B, C, D, E, F, G, H) as SchemaWrite>⟧ in
-        IfSome result (λ n. (n ≤ length dst.new) × IsEncoded tuple.writing (tuple.model (a.now, b.now, c.now, d.now, e.now, f.now, g.now, h.now)) (take n dst.new)
+        IfSome result (λ n. (n ≤ length dst.new) × IsEncoded tuple.writing
+        (tuple.model (a.now, b.now, c.now, d.now, e.now, f.now, g.now, h.now)) (take n dst.new)
         × tuple.is_valid (a.now, b.now, c.now, d.now, e.now, f.now, g.now, h.now)) }
 {
-    encode_front_8::<
-        &Member<A>,
-        &Member<B>,
-        &Member<C>,
-        &Member<D>,
-        &Member<E>,
-        &Member<F>,
-        &Member<G>,
-        &Member<H>,
-    >(&(a, (b, (c, (d, (e, (f, (g, h))))))), dst)
-}
-
-/// Puts an encoding of 9 members over the front of the bytes.
-#[inline(always)]
-fn encode_front_9<
-    A: SchemaWrite,
-    B: SchemaWrite,
-    C: SchemaWrite,
-    D: SchemaWrite,
-    E: SchemaWrite,
-    F: SchemaWrite,
-    G: SchemaWrite,
-    H: SchemaWrite,
-    I: SchemaWrite,
->(
-    src: &(
-        A::Src,
-        (
-            B::Src,
-            (
-                C::Src,
-                (D::Src, (E::Src, (F::Src, (G::Src, (H::Src, I::Src))))),
-            ),
-        ),
-    ),
-    dst: &mut [u8],
-) -> Option<usize>
-    ensures { let members = ⟦<Members9<A, B, C, D, E, F, G, H, I> as SchemaWrite>⟧ in
-        IfSome result (λ n. (n ≤ length dst.new) × IsEncoded members.writing (members.model src.now) (take n dst.new) × members.is_valid src.now) }
-{
-    <Members9<A, B, C, D, E, F, G, H, I> as SchemaWrite>::encode_front(src, dst)
+    let first = A::encode_front(a, dst)?;
+    let second = encode_front_members_7::<B, C, D, E, F, G, H>(
+        b,
+        c,
+        d,
+        e,
+        f,
+        g,
+        h,
+        &mut dst[first..],
+    )?;
+    Some(first + second)
 }
 
 /// Puts an encoding of 9 members over the front of the bytes, and gives how many it has; or answers `None`.
@@ -343,55 +196,23 @@ pub fn encode_front_members_9<
     dst: &mut [u8],
 ) -> Option<usize>
     ensures { let tuple = ⟦<(A, B, C, D, E, F, G, H, I) as SchemaWrite>⟧ in
-        IfSome result (λ n. (n ≤ length dst.new) × IsEncoded tuple.writing (tuple.model (a.now, b.now, c.now, d.now, e.now, f.now, g.now, h.now, i.now)) (take n dst.new)
+        IfSome result (λ n. (n ≤ length dst.new) × IsEncoded tuple.writing
+        (tuple.model (a.now, b.now, c.now, d.now, e.now, f.now, g.now, h.now, i.now)) (take n dst.new)
         × tuple.is_valid (a.now, b.now, c.now, d.now, e.now, f.now, g.now, h.now, i.now)) }
 {
-    encode_front_9::<
-        &Member<A>,
-        &Member<B>,
-        &Member<C>,
-        &Member<D>,
-        &Member<E>,
-        &Member<F>,
-        &Member<G>,
-        &Member<H>,
-        &Member<I>,
-    >(&(a, (b, (c, (d, (e, (f, (g, (h, i)))))))), dst)
-}
-
-/// Puts an encoding of 10 members over the front of the bytes.
-#[inline(always)]
-fn encode_front_10<
-    A: SchemaWrite,
-    B: SchemaWrite,
-    C: SchemaWrite,
-    D: SchemaWrite,
-    E: SchemaWrite,
-    F: SchemaWrite,
-    G: SchemaWrite,
-    H: SchemaWrite,
-    I: SchemaWrite,
-    J: SchemaWrite,
->(
-    src: &(
-        A::Src,
-        (
-            B::Src,
-            (
-                C::Src,
-                (
-                    D::Src,
-                    (E::Src, (F::Src, (G::Src, (H::Src, (I::Src, J::Src))))),
-                ),
-            ),
-        ),
-    ),
-    dst: &mut [u8],
-) -> Option<usize>
-    ensures { let members = ⟦<Members10<A, B, C, D, E, F, G, H, I, J> as SchemaWrite>⟧ in
-        IfSome result (λ n. (n ≤ length dst.new) × IsEncoded members.writing (members.model src.now) (take n dst.new) × members.is_valid src.now) }
-{
-    <Members10<A, B, C, D, E, F, G, H, I, J> as SchemaWrite>::encode_front(src, dst)
+    let first = A::encode_front(a, dst)?;
+    let second = encode_front_members_8::<B, C, D, E, F, G, H, I>(
+        b,
+        c,
+        d,
+        e,
+        f,
+        g,
+        h,
+        i,
+        &mut dst[first..],
+    )?;
+    Some(first + second)
 }
 
 /// Puts an encoding of 10 members over the front of the bytes, and gives how many it has; or answers `None`.
@@ -421,60 +242,24 @@ pub fn encode_front_members_10<
     dst: &mut [u8],
 ) -> Option<usize>
     ensures { let tuple = ⟦<(A, B, C, D, E, F, G, H, I, J) as SchemaWrite>⟧ in
-        IfSome result (λ n. (n ≤ length dst.new) × IsEncoded tuple.writing (tuple.model (a.now, b.now, c.now, d.now, e.now, f.now, g.now, h.now, i.now, j.now)) (take n dst.new)
+        IfSome result (λ n. (n ≤ length dst.new) × IsEncoded tuple.writing
+        (tuple.model (a.now, b.now, c.now, d.now, e.now, f.now, g.now, h.now, i.now, j.now)) (take n dst.new)
         × tuple.is_valid (a.now, b.now, c.now, d.now, e.now, f.now, g.now, h.now, i.now, j.now)) }
 {
-    encode_front_10::<
-        &Member<A>,
-        &Member<B>,
-        &Member<C>,
-        &Member<D>,
-        &Member<E>,
-        &Member<F>,
-        &Member<G>,
-        &Member<H>,
-        &Member<I>,
-        &Member<J>,
-    >(&(a, (b, (c, (d, (e, (f, (g, (h, (i, j))))))))), dst)
-}
-
-/// Puts an encoding of 11 members over the front of the bytes.
-#[inline(always)]
-fn encode_front_11<
-    A: SchemaWrite,
-    B: SchemaWrite,
-    C: SchemaWrite,
-    D: SchemaWrite,
-    E: SchemaWrite,
-    F: SchemaWrite,
-    G: SchemaWrite,
-    H: SchemaWrite,
-    I: SchemaWrite,
-    J: SchemaWrite,
-    K: SchemaWrite,
->(
-    src: &(
-        A::Src,
-        (
-            B::Src,
-            (
-                C::Src,
-                (
-                    D::Src,
-                    (
-                        E::Src,
-                        (F::Src, (G::Src, (H::Src, (I::Src, (J::Src, K::Src))))),
-                    ),
-                ),
-            ),
-        ),
-    ),
-    dst: &mut [u8],
-) -> Option<usize>
-    ensures { let members = ⟦<Members11<A, B, C, D, E, F, G, H, I, J, K> as SchemaWrite>⟧ in
-        IfSome result (λ n. (n ≤ length dst.new) × IsEncoded members.writing (members.model src.now) (take n dst.new) × members.is_valid src.now) }
-{
-    <Members11<A, B, C, D, E, F, G, H, I, J, K> as SchemaWrite>::encode_front(src, dst)
+    let first = A::encode_front(a, dst)?;
+    let second = encode_front_members_9::<B, C, D, E, F, G, H, I, J>(
+        b,
+        c,
+        d,
+        e,
+        f,
+        g,
+        h,
+        i,
+        j,
+        &mut dst[first..],
+    )?;
+    Some(first + second)
 }
 
 /// Puts an encoding of 11 members over the front of the bytes, and gives how many it has; or answers `None`.
@@ -506,65 +291,25 @@ pub fn encode_front_members_11<
     dst: &mut [u8],
 ) -> Option<usize>
     ensures { let tuple = ⟦<(A, B, C, D, E, F, G, H, I, J, K) as SchemaWrite>⟧ in
-        IfSome result (λ n. (n ≤ length dst.new) × IsEncoded tuple.writing (tuple.model (a.now, b.now, c.now, d.now, e.now, f.now, g.now, h.now, i.now, j.now, k.now)) (take n dst.new)
+        IfSome result (λ n. (n ≤ length dst.new) × IsEncoded tuple.writing
+        (tuple.model (a.now, b.now, c.now, d.now, e.now, f.now, g.now, h.now, i.now, j.now, k.now)) (take n dst.new)
         × tuple.is_valid (a.now, b.now, c.now, d.now, e.now, f.now, g.now, h.now, i.now, j.now, k.now)) }
 {
-    encode_front_11::<
-        &Member<A>,
-        &Member<B>,
-        &Member<C>,
-        &Member<D>,
-        &Member<E>,
-        &Member<F>,
-        &Member<G>,
-        &Member<H>,
-        &Member<I>,
-        &Member<J>,
-        &Member<K>,
-    >(&(a, (b, (c, (d, (e, (f, (g, (h, (i, (j, k)))))))))), dst)
-}
-
-/// Puts an encoding of 12 members over the front of the bytes.
-#[inline(always)]
-fn encode_front_12<
-    A: SchemaWrite,
-    B: SchemaWrite,
-    C: SchemaWrite,
-    D: SchemaWrite,
-    E: SchemaWrite,
-    F: SchemaWrite,
-    G: SchemaWrite,
-    H: SchemaWrite,
-    I: SchemaWrite,
-    J: SchemaWrite,
-    K: SchemaWrite,
-    M: SchemaWrite,
->(
-    src: &(
-        A::Src,
-        (
-            B::Src,
-            (
-                C::Src,
-                (
-                    D::Src,
-                    (
-                        E::Src,
-                        (
-                            F::Src,
-                            (G::Src, (H::Src, (I::Src, (J::Src, (K::Src, M::Src))))),
-                        ),
-                    ),
-                ),
-            ),
-        ),
-    ),
-    dst: &mut [u8],
-) -> Option<usize>
-    ensures { let members = ⟦<Members12<A, B, C, D, E, F, G, H, I, J, K, M> as SchemaWrite>⟧ in
-        IfSome result (λ n. (n ≤ length dst.new) × IsEncoded members.writing (members.model src.now) (take n dst.new) × members.is_valid src.now) }
-{
-    <Members12<A, B, C, D, E, F, G, H, I, J, K, M> as SchemaWrite>::encode_front(src, dst)
+    let first = A::encode_front(a, dst)?;
+    let second = encode_front_members_10::<B, C, D, E, F, G, H, I, J, K>(
+        b,
+        c,
+        d,
+        e,
+        f,
+        g,
+        h,
+        i,
+        j,
+        k,
+        &mut dst[first..],
+    )?;
+    Some(first + second)
 }
 
 /// Puts an encoding of 12 members over the front of the bytes, and gives how many it has; or answers `None`.
@@ -598,24 +343,24 @@ pub fn encode_front_members_12<
     dst: &mut [u8],
 ) -> Option<usize>
     ensures { let tuple = ⟦<(A, B, C, D, E, F, G, H, I, J, K, M) as SchemaWrite>⟧ in
-        IfSome result (λ n. (n ≤ length dst.new) × IsEncoded tuple.writing (tuple.model (a.now, b.now, c.now, d.now, e.now, f.now, g.now, h.now, i.now, j.now, k.now, m.now)) (take n dst.new)
+        IfSome result (λ n. (n ≤ length dst.new) × IsEncoded tuple.writing
+        (tuple.model (a.now, b.now, c.now, d.now, e.now, f.now, g.now, h.now, i.now, j.now, k.now, m.now)) (take n dst.new)
         × tuple.is_valid (a.now, b.now, c.now, d.now, e.now, f.now, g.now, h.now, i.now, j.now, k.now, m.now)) }
 {
-    encode_front_12::<
-        &Member<A>,
-        &Member<B>,
-        &Member<C>,
-        &Member<D>,
-        &Member<E>,
-        &Member<F>,
-        &Member<G>,
-        &Member<H>,
-        &Member<I>,
-        &Member<J>,
-        &Member<K>,
-        &Member<M>,
-    >(
-        &(a, (b, (c, (d, (e, (f, (g, (h, (i, (j, (k, m))))))))))),
-        dst,
-    )
+    let first = A::encode_front(a, dst)?;
+    let second = encode_front_members_11::<B, C, D, E, F, G, H, I, J, K, M>(
+        b,
+        c,
+        d,
+        e,
+        f,
+        g,
+        h,
+        i,
+        j,
+        k,
+        m,
+        &mut dst[first..],
+    )?;
+    Some(first + second)
 }

@@ -2,17 +2,19 @@ use Rattle.std.proofs.Common.{ap, rules, length, ◌∙◌, ◌≡◌, ◌+◌, 
 use Rattle.wincode_base.specs.ListLaws.{items_none, items_refused, items_more, no_memory}
 use Rattle.wincode_base.proofs.Items.{cut_back, adds_none, adds_more, put_gives, item_stopped, item_wanted}
 use Rattle.wincode_read.proofs.schema.SchemaRead.read_items.Goals as goal
-use Rattle.wincode_read.proofs.schema.SchemaRead.read_items.Goals.{in-Some+else-decode_items, in_default}
+use Rattle.wincode_read.proofs.schema.SchemaRead.read_items.Goals.{in-Some-front_at_hand+else-take_items, in_default-front_at_hand}
 
 pub loop-i-init : goal.loop-i-init
 loop-i-init g c =
     let T = g.Self.SchemaRead in
+    let still : c.read_at_once.new.into.items ≡ c.args.into.now.items = search rules in
+    let stays : g.R.Reader.state c.read_at_once.new.reader ≡ g.R.Reader.state c.args.reader.now = search rules in
     let size : c.len-before.result ≡ length c.args.into.now.items = search rules in
     let same : c.match-front_at_hand.into.items ≡ c.args.into.now.items = elim c.match-front_at_hand.branch [
-      | in-Some+else-decode_items w ↦ ap (λ v. v.items) w.into-is ∙ cut_back _ _ _ _ _ size (w.decode_items.ensures.1 ∙ ap (λ t. t ++ w.decode_items.ensures.0) c.reserve.ensures.items) w.truncate.ensures.items
-      | in_default w ↦ ap (λ v. v.items) w.into-is ∙ c.reserve.ensures.items
+      | in-Some-front_at_hand+else-take_items w ↦ ap (λ v. v.items) w.into-is ∙ cut_back _ _ _ _ _ size (w.take_items.ensures.1 ∙ ap (λ t. t ++ w.take_items.ensures.0) (c.reserve.ensures.items ∙ still)) w.truncate.ensures.items
+      | in_default-front_at_hand w ↦ ap (λ v. v.items) w.into-is ∙ c.reserve.ensures.items ∙ still
     ] in
-    adds_none T.reading.reads T.model _ _ _ same
+    rw stays (adds_none T.reading.reads T.model _ _ _ same)
 
 pub loop-i-preserved : goal.loop-i-preserved
 loop-i-preserved g c =
@@ -21,12 +23,16 @@ loop-i-preserved g c =
     adds_more T.reading.reads T.model _ _ _ _ _ _ _ _ c.loop-i.invariant (put_gives T.reading.reads T.model _ _ _ _ c.in_default-read.ensures.ok c.in-Some-item.is) pushed
 
 pub returns-then-is_err : goal.returns-then-is_err
-returns-then-is_err g c = let T = g.Self.SchemaRead in record {
-  ok = tt;
-  refused = no_memory _ _ _ _ _ _ (items_none T.reading.reads _);
-  place = λ dynamic. item_wanted c.args.n T.reading 0 _ _ [] (omega arith) (items_none T.reading.reads _);
-  same = c.reserve.ensures.items;
-}
+returns-then-is_err g c =
+    let T = g.Self.SchemaRead in
+    let still : c.read_at_once.new.into.items ≡ c.args.into.now.items = search rules in
+    let stays : g.R.Reader.state c.read_at_once.new.reader ≡ g.R.Reader.state c.args.reader.now = search rules in
+    rw stays (record {
+      ok = tt;
+      refused = no_memory _ _ _ _ _ _ (items_none T.reading.reads _);
+      place = λ dynamic. item_wanted c.args.n T.reading 0 _ _ [] (omega arith) (items_none T.reading.reads _);
+      same = c.reserve.ensures.items ∙ still;
+    })
 
 pub returns-in-Err : goal.returns-in-Err
 returns-in-Err g c =

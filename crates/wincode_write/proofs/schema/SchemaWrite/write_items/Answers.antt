@@ -1,4 +1,4 @@
-use Rattle.std.proofs.Common.{rules, sym, ◌∙◌, refl, arith}
+use Rattle.std.proofs.Common.{rules, ◌≡◌, sym, ◌∙◌, refl, arith}
 use Rattle.wincode_io.specs.JoinLaws.{each_after}
 use Rattle.wincode_base.specs.Lists.{item_write}
 use Rattle.wincode_base.specs.Outcomes.{Wrote, Stopped}
@@ -11,7 +11,9 @@ use Rattle.wincode_write.proofs.schema.SchemaWrite.write_items.Goals.{in-Static,
 use Rattle.wincode_write.proofs.schema.SchemaWrite.write_items.Goals as goal
 
 pub loop-item-init : goal.loop-item-init
-loop-item-init g c = (items_wrote_none g.met.W.Writer.writer_laws g.Self.SchemaWrite.write_laws _, tt)
+loop-item-init g c =
+    let same : g.W.Writer.state c.write_at_once.new.writer ≡ g.W.Writer.state c.args.writer.now = search rules in
+    rw same (items_wrote_none g.met.W.Writer.writer_laws g.Self.SchemaWrite.write_laws _, tt)
 
 -- what was put together was refused
 pub returns-in_err-write : goal.returns-in_err-write

@@ -1,4 +1,4 @@
-use Rattle.std.proofs.Common.{rules, ap, arith, ◌≡◌, ◌∙◌, ℕ, ◌+◌, ◌*◌, ◌<◌, ◌^◌, IfOk, IfErr, Result, Ok, Err}
+use Rattle.std.proofs.Common.{rules, inl, refl, ap, arith, ◌≡◌, ◌∙◌, ℕ, ◌+◌, ◌*◌, ◌<◌, ◌^◌, IfOk, IfErr, Result, Ok, Err}
 use Rattle.wincode_base.specs.declared.error.WriteError.{WriteError}
 use Rattle.wincode_base.specs.PairSizeLaws.{overflow_unfit}
 use Rattle.wincode_base.proofs.Lists.{known_sum, known_over}
@@ -17,11 +17,11 @@ returns-in-Some g c =
     λ items long. both _ _ _ _
     (λ m is. known_sum T.writing T.model size c.in_ok-size.ensures c.args.before n m items long (is ∙ ap (λ k. c.args.before + k) product))
     (λ e d. (known_over T.writing T.model size c.in_ok-size.ensures c.args.before n items long (λ fits. absurd (omega (arith, d.0, product, fits))), overflow_unfit T.writing.builtin e d.1))
-    c.sum_of.result c.sum_of.ensures.ok c.sum_of.ensures.err
+    c.checked_sum.result c.checked_sum.ensures.ok c.checked_sum.ensures.err
 
 pub returns-in-None : goal.returns-in-None
 returns-in-None g c =
     let T = g.T.SchemaWrite in
     let size = c.in_ok-size.size in
     let over : c.args.n * size < 2 ^ 64 → ⊥ = search rules in
-    λ items long. (tt, (known_over T.writing T.model size c.in_ok-size.ensures c.args.before c.args.n items long (λ fits. over (omega (arith, fits))), overflow_unfit T.writing.builtin c.too_large.result c.too_large.ensures))
+    λ items long. (tt, (known_over T.writing T.model size c.in_ok-size.ensures c.args.before c.args.n items long (λ fits. over (omega (arith, fits))), rw c.write_length_encoding_overflow.ensures (tt, λ builtin. inl refl)))

@@ -1,0 +1,91 @@
+//! A writer whose device fails.
+ghost use Rattle.std.specs.Prelude.{◌≡◌, [], false, length, OnOk, IfErr};
+ghost use Rattle.std.specs.Borrow.{GName};
+ghost use Rattle.wincode_io.specs.SliceWriters.{SliceState, slice_put, slice_room};
+ghost use Rattle.wincode_io.specs.SliceWriterLaws.{slice_laws};
+ghost use Rattle.wincode_io.specs.WriterLaws.{same_bound};
+ghost use Rattle.wincode_io.specs.Writers.{HasRoom, BytesWriteRefused};
+ghost use Rattle.example_schemas.specs.Faults.{HasServed, AskedWriteRefused, slice_over};
+
+use super::Device;
+use std::marker::Model;
+use wincode::io::{SliceWriter, WriteError, WriteResult, Writer, ZeroCopy};
+
+/// Overwrites a slice from its front, as a device does that serves so many calls and then fails each
+/// time. `make_room`, which `write` and the other calls make once, asks the device; windows don't.
+#[derive(Drop)]
+pub struct FailingWriter<'a> {
+    slice: SliceWriter<'a>,
+    device: Device,
+}
+
+impl<'a> Model for FailingWriter<'a> {
+    ghost use Rattle.example_schemas.specs.Faults.{WrittenTo};
+
+    ghost Value = { WrittenTo };
+
+    ghost view = { λ w. record { content = (⟦<SliceWriter<'static> as Writer>⟧.state w.slice).content; slice = (⟦<SliceWriter<'static> as Writer>⟧.state w.slice).kept; device = w.device } };
+}
+
+impl<'a> FailingWriter<'a> {
+    /// A writer that has written nothing, whose device serves `sound` calls and has not failed.
+    pub fn new(bytes: &'a mut [u8], sound: usize) -> FailingWriter<'a>
+        ensures { result ≡ record { content = record { done = []; left = bytes.old }; slice = bytes.entry.ghost_name; device = record { sound = sound; failures = 0 } } }
+    {
+        FailingWriter {
+            slice: SliceWriter::new(bytes),
+            device: Device::new(sound),
+        }
+    }
+
+    /// The bytes that were written so far.
+    pub fn written(&self) -> &[u8]
+        ensures { result.now ≡ self.now.content.done }
+    {
+        self.slice.written()
+    }
+
+    /// How often the device failed; the count stays at `usize::MAX`.
+    pub fn failures(&self) -> usize
+        ensures { result ≡ self.now.device.failures }
+    {
+        self.device.failures()
+    }
+}
+
+/// Once the device fails, each call that asks it is `Io` of kind Other and changes nothing else.
+impl<'a> Writer for FailingWriter<'a> {
+    ghost Content = { SliceState };
+
+    ghost put = { slice_put };
+
+    ghost room = { slice_room };
+
+    ghost Kept = { GName };
+
+    ghost state = { slice_over };
+
+    ghost buffers = { false };
+
+    fn make_room(&mut self, n: usize) -> WriteResult<()>
+        ensures ok { OnOk result (HasRoom n (slice_over self.old) (slice_over self.new)) }
+        ensures err { IfErr result (BytesWriteRefused n (slice_over self.old) (slice_over self.new)) }
+        ensures served { OnOk result (HasServed self.old.device self.new.device) }
+        ensures failed { IfErr result (AskedWriteRefused self.old.device self.new.device) }
+    {
+        self.device.ask().map_err(WriteError::Io)?;
+        self.slice.make_room(n)
+    }
+
+    fn write_ready(&mut self, src: &[u8]) {
+        self.slice.write_ready(src);
+    }
+
+    fn write_ready_t<T: ZeroCopy>(&mut self, src: &T) {
+        self.slice.write_ready_t(src);
+    }
+
+    ghost writer_laws = { slice_laws };
+
+    ghost ready_room = { λ w. same_bound (slice_room w.content) };
+}

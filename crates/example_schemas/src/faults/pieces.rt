@@ -1,0 +1,91 @@
+//! A source of pieces that are given.
+ghost use Rattle.std.specs.Prelude.{◌≡◌, ℕ, ◌<◌, true, [], ◌++◌, List, MatchOption, vec_len};
+ghost use Rattle.wincode_io.specs.Sources.{SourceState};
+ghost use Rattle.example_schemas.specs.Pieces.{joined};
+
+use std::alloc::Global;
+use std::collections::VecDeque;
+use std::io::{self, Read};
+use std::marker::Model;
+use wincode::io::Source;
+
+/// Gives its pieces in order, without the empty ones, and cuts one that is longer than the buffer.
+/// After the last it ends, or fails each time. The count of its failures stays at `usize::MAX`.
+#[derive(Drop)]
+pub struct Pieces {
+    piece: Vec<u8>,
+    place: usize,
+    later: VecDeque<Vec<u8>>,
+    fails: bool,
+    failures: usize,
+}
+
+impl Model for Pieces {
+    ghost use Rattle.std.specs.Prelude.{◌≤◌, true, drop, ◌++◌, vec_len};
+    ghost use Rattle.wincode_io.specs.Sources.{SourceState};
+    ghost use Rattle.example_schemas.specs.Pieces.{joined};
+
+    ghost Value = { SourceState };
+
+    ghost view = { λ p. record { coming = drop p.place p.piece.items ++ joined p.later.items; failures = p.failures; is_known = true } };
+
+    ghost invariant = { λ p. p.place ≤ vec_len p.piece };
+}
+
+impl Pieces {
+    /// A source of these pieces, which has not failed.
+    pub fn new(alloc: Global, pieces: Vec<Vec<u8>>, fails: bool) -> Pieces
+        ensures { result ≡ record { coming = joined pieces.items; failures = 0; is_known = true } }
+    {
+        Pieces {
+            piece: Vec::new(alloc),
+            place: 0,
+            later: VecDeque::from_vec(pieces),
+            fails,
+            failures: 0,
+        }
+    }
+}
+
+impl Source for Pieces {
+    ghost state = { λ p. p };
+
+    fn read_some(&mut self, buf: &mut [u8]) -> io::Result<usize> {
+        if buf.is_empty() {
+            return Ok(0);
+        }
+        if self.place == self.piece.len() {
+            match next_piece(&mut self.later) {
+                Some(piece) => {
+                    self.piece = piece;
+                    self.place = 0;
+                }
+                None => {
+                    if self.fails {
+                        self.failures = self.failures.saturating_add(1);
+                        return Err(io::Error::from(io::ErrorKind::Other));
+                    }
+                    return Ok(0);
+                }
+            }
+        }
+        let place = self.place;
+        let piece = self.piece.as_slice();
+        let mut left = &piece[place..];
+        let n = left.read(buf)?;
+        self.place = place + n;
+        Ok(n)
+    }
+}
+
+/// The next piece that isn't empty, with none of those before it left.
+fn next_piece(later: &mut VecDeque<Vec<u8>>) -> Option<Vec<u8>>
+    ensures { MatchOption result ((joined later.old.items ≡ []) × (joined later.new.items ≡ [])) (λ v. (joined later.old.items ≡ v.items ++ joined later.new.items) × (0 < vec_len v)) }
+{
+    while let Some(piece) = later.pop_front() {
+        if !piece.is_empty() {
+            return Some(piece);
+        }
+    }
+    None
+}

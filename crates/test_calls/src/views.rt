@@ -1,0 +1,276 @@
+//! Views, forms and bytes that are lent: what they give, and what edits leave.
+ghost use Rattle.std.specs.Prelude.{◌≡◌, length, IfOk};
+ghost use Rattle.std.proofs.Common.{refl};
+ghost use Rattle.wincode_io.specs.FormLaws.{number_form, array_form, wrapped_form};
+
+use std::alloc::Global;
+use std::test::Fail;
+use testkit_schemas::rows::{bytes_of, digits_of};
+use wincode::containers::Pod;
+use wincode::io::{self, Cursor, Lifetime, Ref, RefMut, SliceRef, SliceRefMut, ZeroCopy};
+use wincode::laws::{edit_in_place, edit_one};
+use wincode::len::ShortU16Len;
+use wincode::{
+    ReadError, ReadResult, SchemaGet, SchemaRead, SchemaWrite, TypeMeta, containers, deserialize,
+    deserialize_mut,
+};
+
+#[test]
+fn views_give_what_was_lent(rt: HostRuntime) -> Result<(), Fail> {
+    let alloc = rt.alloc();
+    let bytes = [2u8, 0, 0, 0, 0, 0, 0, 0, 1, 0, 4, 3];
+    let view: SliceRef<'_, u16> = deserialize(alloc, bytes.as_slice())?;
+    if view.len() != 2 {
+        return Err(Fail::from("two forms"));
+    }
+    assert_eq!(rt; (view.get(0), view.get(1)), (1, 772));
+    let one: Ref<'_, u16> = deserialize(alloc, &bytes[10..])?;
+    assert_eq!(rt; one.get(), 772);
+    Ok(())
+}
+
+#[test]
+fn bytes_that_are_lent(rt: HostRuntime) -> Result<(), Fail> {
+    let alloc = rt.alloc();
+    let lent: &[u8] = deserialize(alloc, &[3u8, 0, 0, 0, 0, 0, 0, 0, 7, 8, 9, 1])?;
+    assert_eq!(rt; lent, [7u8, 8, 9].as_slice());
+    let lists: Vec<&[u8]> = deserialize(
+        alloc,
+        &[1u8, 0, 0, 0, 0, 0, 0, 0, 1, 0, 0, 0, 0, 0, 0, 0, 7],
+    )?;
+    assert!(rt; lists.len() == 1 && lists[0] == [7u8].as_slice());
+    Ok(())
+}
+
+/// What a refusal through a cursor is, and where the cursor then stands.
+fn unlent<'s, T: SchemaRead<Lifetime<'s>>>(alloc: Global, bytes: &'s [u8]) -> Result<String, Fail> {
+    let mut cursor = Cursor::new(bytes);
+    match T::get(alloc, &mut cursor) {
+        Ok(_) => Err(Fail::from("lent")),
+        Err(error) => Ok(format!(in alloc; "{error:?} {}", cursor.position())?),
+    }
+}
+
+#[test]
+fn borrows_that_are_not_lent(rt: HostRuntime) -> Result<(), Fail> {
+    let alloc = rt.alloc();
+    let bytes = [1u8, 0, 0, 0, 0, 0, 0, 0, 1, 0];
+    let behind = "Io(UnsupportedZeroCopy) 8";
+    assert_eq!(rt;
+        unlent::<SliceRef<'_, u16>>(alloc, &bytes)?.as_str(),
+        behind
+    );
+    assert_eq!(rt;
+        unlent::<SliceRefMut<'_, u16>>(alloc, &bytes)?.as_str(),
+        behind
+    );
+    assert_eq!(rt; unlent::<&[u8]>(alloc, &bytes)?.as_str(), behind);
+    assert_eq!(rt; unlent::<&mut [u8]>(alloc, &bytes)?.as_str(), behind);
+    let before = "Io(UnsupportedZeroCopy) 0";
+    assert_eq!(rt; unlent::<Ref<'_, u16>>(alloc, &bytes)?.as_str(), before);
+    assert_eq!(rt; unlent::<RefMut<'_, u16>>(alloc, &bytes)?.as_str(), before);
+    let mut reader = bytes.as_slice();
+    let shared = <&mut [u8] as SchemaGet<Lifetime>>::get(alloc, &mut reader);
+    assert!(rt;
+        matches!(
+            &shared,
+            Err(ReadError::Io(io::ReadError::UnsupportedZeroCopy))
+        )
+    );
+    assert_eq!(rt; reader.len(), 2);
+    Ok(())
+}
+
+/// What a view gives is the value that was set.
+fn set_and_get<T: ZeroCopy>(view: &mut RefMut<'_, T>, value: T) -> T
+    ensures { result ≡ value }
+{
+    view.set(value);
+    view.get()
+}
+
+/// So of a view that was read.
+fn set_first(alloc: Global, bytes: &mut [u8], value: u16) -> ReadResult<u16>
+    ensures { IfOk result (λ v. v ≡ value) }
+{
+    let mut view: RefMut<'_, u16> = deserialize_mut(alloc, &mut *bytes)?;
+    Ok(set_and_get(&mut view, value))
+}
+
+#[test]
+fn sets_stand_in_the_bytes(rt: HostRuntime) -> Result<(), Fail> {
+    let alloc = rt.alloc();
+    let mut forms = [2u8, 0, 0, 0, 0, 0, 0, 0, 1, 0, 2, 0];
+    let mut view: SliceRefMut<'_, u16> = deserialize_mut(alloc, forms.as_mut_slice())?;
+    if view.len() != 2 {
+        return Err(Fail::from("two forms"));
+    }
+    view.set(1, 772);
+    view.set(1, 772);
+    assert_eq!(rt; (view.get(0), view.get(1)), (1, 772));
+    assert_eq!(rt; forms, [2u8, 0, 0, 0, 0, 0, 0, 0, 1, 0, 4, 3]);
+    let mut bytes = [1u8, 0, 2, 0, 0, 0, 0, 0, 0, 0, 5, 6];
+    let (mut form, lent): (RefMut<'_, u16>, &mut [u8]) = deserialize_mut(
+        alloc,
+        bytes.as_mut_slice(),
+    )?;
+    form.set(772);
+    match lent.get_mut(1) {
+        Some(last) => *last = 9,
+        None => return Err(Fail::from("two bytes")),
+    }
+    assert_eq!(rt; bytes, [4u8, 3, 2, 0, 0, 0, 0, 0, 0, 0, 5, 9]);
+    assert_eq!(rt; set_first(alloc, bytes.as_mut_slice(), 515)?, 515);
+    assert_eq!(rt; &bytes[..3], [3u8, 2, 2].as_slice());
+    Ok(())
+}
+
+/// Forms behind their number, edits, and how they end with the bytes that are there then.
+type Edited = (&'static str, &'static [(usize, u16)], &'static str);
+
+const EDITED: [Edited; 5] = [
+    (
+        "030000000000000001000200030063",
+        &[(2, 258), (0, 515), (2, 1)],
+        "Ok(()) 030000000000000003020200010063",
+    ),
+    (
+        "030000000000000003020200010063",
+        &[(0, 9), (3, 1)],
+        "Err(Custom(\"index\")) 030000000000000003020200010063",
+    ),
+    (
+        "030000000000000003020200010063",
+        &[],
+        "Ok(()) 030000000000000003020200010063",
+    ),
+    (
+        "0200000000000000010002",
+        &[(0, 7)],
+        "Err(Io(ReadSizeLimit(4))) 0200000000000000010002",
+    ),
+    (
+        "02000000000000",
+        &[],
+        "Err(Io(ReadSizeLimit(8))) 02000000000000",
+    ),
+];
+
+#[test]
+fn edits_stand_in_the_bytes(rt: HostRuntime) -> Result<(), Fail> {
+    let alloc = rt.alloc();
+    for (digits, edits, wanted) in EDITED {
+        let mut bytes = bytes_of(alloc, digits)?;
+        let answer = edit_in_place::<u16>(bytes.as_mut_slice(), edits);
+        let found = format!(in alloc; "{answer:?} {}", digits_of(alloc, bytes.as_slice())?)?;
+        assert_eq!(rt; found.as_str(), wanted);
+    }
+    Ok(())
+}
+
+#[test]
+fn edits_of_other_forms(rt: HostRuntime) -> Result<(), Fail> {
+    let mut arrays = [2u8, 0, 0, 0, 0, 0, 0, 0, 1, 0, 2, 0, 3, 0, 4, 0];
+    edit_in_place::<[u16; 2]>(&mut arrays, &[(1, [772, 5])])?;
+    assert_eq!(rt; arrays, [2u8, 0, 0, 0, 0, 0, 0, 0, 1, 0, 2, 0, 4, 3, 5, 0]);
+    let mut vast = [0u8, 0, 0, 0, 0, 0, 0, 128];
+    let over = edit_in_place::<u64>(&mut vast, &[]);
+    assert!(rt; matches!(&over, Err(ReadError::LengthEncodingOverflow("usize::MAX"))));
+    let mut one = [1u8, 0, 9];
+    edit_one::<u16>(&mut one, &[258, 515])?;
+    assert_eq!(rt; one, [3u8, 2, 9]);
+    let few = edit_one::<u32>(&mut one, &[1]);
+    assert!(rt; matches!(&few, Err(ReadError::Io(io::ReadError::ReadSizeLimit(4)))));
+    assert_eq!(rt; one, [3u8, 2, 9]);
+    Ok(())
+}
+
+/// Thirty-two bytes under a name.
+#[derive(Clone, Copy)]
+struct Address([u8; 32]);
+
+impl ZeroCopy for Address {
+    ghost is_valid = { λ v. ⟦<[u8; 32] as ZeroCopy>⟧.is_valid v.0 };
+
+    ghost size = { ⟦<[u8; 32] as ZeroCopy>⟧.size };
+
+    ghost form = { λ v. ⟦<[u8; 32] as ZeroCopy>⟧.form v.0 };
+
+    ghost value = { λ b. record { 0 = ⟦<[u8; 32] as ZeroCopy>⟧.value b } };
+
+    fn form_size() -> Option<usize> {
+        <[u8; 32]>::form_size()
+    }
+
+    fn of_form(bytes: &[u8]) -> Address {
+        Address(<[u8; 32]>::of_form(bytes))
+    }
+
+    fn put_form(&self, dst: &mut [u8]) {
+        self.0.put_form(dst);
+    }
+
+    ghost byte_form = { wrapped_form (λ x. record { 0 = x }) (λ y. y.0) (λ x. refl) (λ y. refl) (array_form 32 (number_form 1)) };
+}
+
+#[test]
+fn forms_of_a_caller(rt: HostRuntime) -> Result<(), Fail> {
+    let alloc = rt.alloc();
+    assert!(rt;
+        <Pod<Address> as SchemaWrite>::type_meta()
+            == TypeMeta::Static {
+                size: 32,
+                zero_copy: true,
+            }
+    );
+    type Addresses = containers::Vec<Pod<Address>, ShortU16Len>;
+    let one = vec![in alloc; Address([7; 32])]?;
+    let mut text = Vec::new(alloc);
+    <Addresses as SchemaWrite>::write(&mut text, &one)?;
+    let mut want = [7u8; 33];
+    want[0] = 1;
+    assert_eq!(rt; text.as_slice(), want.as_slice());
+    let mut reader = want.as_slice();
+    let back = <Addresses as SchemaGet<Lifetime>>::get(alloc, &mut reader)?;
+    assert!(rt; back.len() == 1 && back[0].0 == [7; 32]);
+    let mut bytes = [1u8; 33];
+    edit_one::<Address>(&mut bytes, &[Address([2; 32]), Address([7; 32])])?;
+    let mut after = [7u8; 33];
+    after[32] = 1;
+    assert_eq!(rt; bytes, after);
+    Ok(())
+}
+
+/// A list of bytes, and one of arrays, each behind a short length.
+type Forms = (
+    containers::Vec<Pod<u8>, ShortU16Len>,
+    containers::Vec<Pod<[u8; 32]>, ShortU16Len>,
+);
+
+#[test]
+fn lists_of_forms_read_back(rt: HostRuntime) -> Result<(), Fail> {
+    let alloc = rt.alloc();
+    for n in [0usize, 1, 2, 127, 128, 300] {
+        let value = (vec![in alloc; 5u8; n]?, vec![in alloc; [9u8; 32]; n]?);
+        let mut text = Vec::new(alloc);
+        <Forms as SchemaWrite>::write(&mut text, &value)?;
+        let mut reader = text.as_slice();
+        let back = <Forms as SchemaGet<Lifetime>>::get(alloc, &mut reader)?;
+        assert!(rt; reader.is_empty() && back == value, "{n}");
+    }
+    Ok(())
+}
+
+/// What a schema announces, and what it counts.
+fn announced<'s, T: SchemaRead<Lifetime<'s>>>() -> (TypeMeta, usize) {
+    (T::type_meta(), T::prealloc_size())
+}
+
+#[test]
+fn sizes_of_views(rt: HostRuntime) -> Result<(), Fail> {
+    let four = |zero_copy| TypeMeta::Static { size: 4, zero_copy };
+    assert!(rt; announced::<RefMut<'_, u32>>() == (four(false), 8));
+    assert!(rt; announced::<SliceRefMut<'_, u32>>() == (TypeMeta::Dynamic, 16));
+    assert!(rt; announced::<&mut [u8]>() == (TypeMeta::Dynamic, 16));
+    Ok(())
+}

@@ -1,0 +1,86 @@
+//! Collections of many items, read and written again. An item is its place, behind other bytes.
+
+use std::alloc::Global;
+use std::collections::{BTreeMap, BTreeSet, BinaryHeap, HashMap, HashSet, LinkedList, VecDeque};
+use std::test::Fail;
+use wincode::io::Lifetime;
+use wincode::len::{BincodeLen, NO_LIMIT};
+use wincode::{SchemaGet, SchemaRead, SchemaWrite, containers};
+
+type Len = BincodeLen<NO_LIMIT>;
+
+/// A list of `n` items, each of them the head, and its place in four bytes below 128.
+fn numbered(alloc: Global, n: usize, head: &[u8]) -> Result<Vec<u8>, Fail> {
+    let mut bytes = Vec::from_slice(alloc, (n as u64).to_le_bytes().as_slice())?;
+    for place in 0..n {
+        let low = (place % 128) as u8;
+        let middle = (place / 128 % 128) as u8;
+        let high = (place / 16384 % 128) as u8;
+        bytes.extend_from_slice(head)?;
+        bytes.extend_from_slice(&[low, middle, high, 0])?;
+    }
+    Ok(bytes)
+}
+
+/// Whether a collection of these items, no two of which are the same, is written with as many as were read.
+fn keeps_all<'a, U: Drop, T: SchemaWrite<Src = U> + SchemaRead<Lifetime<'a>, Dst = U>>(
+    alloc: Global,
+    bytes: &'a [u8],
+) -> Result<bool, Fail> {
+    let mut reader = bytes;
+    let value = <T as SchemaGet<Lifetime<'a>>>::get(alloc, &mut reader)?;
+    let mut written = Vec::new(alloc);
+    T::write(&mut written, &value)?;
+    Ok(written.len() == bytes.len() && written.get(..8) == bytes.get(..8))
+}
+
+/// So of each kind of list of the item.
+fn lists_keep_all<'a, U: Drop, T: SchemaWrite<Src = U> + SchemaRead<Lifetime<'a>, Dst = U>>(
+    alloc: Global,
+    bytes: &'a [u8],
+) -> Result<bool, Fail> {
+    Ok(
+        keeps_all::<_, Vec<T>>(alloc, bytes)?
+            && keeps_all::<_, VecDeque<T>>(alloc, bytes)?
+            && keeps_all::<_, LinkedList<T>>(alloc, bytes)?
+            && keeps_all::<_, containers::Vec<T, Len>>(alloc, bytes)?
+            && keeps_all::<_, containers::VecDeque<T, Len>>(alloc, bytes)?
+            && keeps_all::<_, containers::BoxedSlice<T, Len>>(alloc, bytes)?
+            && keeps_all::<_, containers::RcSlice<T, Len>>(alloc, bytes)?,
+    )
+}
+
+/// So of each kind of set and map, and of heaps, of numbers.
+fn gathered_keep_all(alloc: Global, bytes: &[u8]) -> Result<bool, Fail> {
+    Ok(
+        keeps_all::<_, BTreeMap<u32, ()>>(alloc, bytes)?
+            && keeps_all::<_, HashMap<u32, ()>>(alloc, bytes)?
+            && keeps_all::<_, BTreeSet<u32>>(alloc, bytes)?
+            && keeps_all::<_, HashSet<u32>>(alloc, bytes)?
+            && keeps_all::<_, BinaryHeap<u32>>(alloc, bytes)?
+            && keeps_all::<_, containers::BinaryHeap<u32, Len>>(alloc, bytes)?,
+    )
+}
+
+#[test]
+fn collections_of_many_numbers(rt: HostRuntime) -> Result<(), Fail> {
+    let alloc = rt.alloc();
+    for n in [2_000, 100_000] {
+        let list = numbered(alloc, n, &[])?;
+        assert!(rt; lists_keep_all::<_, u32>(alloc, list.as_slice())?);
+        assert!(rt; gathered_keep_all(alloc, list.as_slice())?);
+    }
+    Ok(())
+}
+
+#[test]
+fn collections_of_many_texts(rt: HostRuntime) -> Result<(), Fail> {
+    let alloc = rt.alloc();
+    let list = numbered(alloc, 2_000, &4u64.to_le_bytes())?;
+    let bytes = list.as_slice();
+    assert!(rt; lists_keep_all::<_, String>(alloc, bytes)?);
+    assert!(rt; keeps_all::<_, BTreeMap<String, ()>>(alloc, bytes)?);
+    assert!(rt; keeps_all::<_, HashSet<String>>(alloc, bytes)?);
+    assert!(rt; keeps_all::<_, BinaryHeap<String>>(alloc, bytes)?);
+    Ok(())
+}

@@ -1,0 +1,19 @@
+//! Tests of the schemas that `wincode_derive` wrote, and of what it refuses.
+#![tactic(auto)]
+
+#[cfg(test)]
+mod encoded;
+#[cfg(test)]
+mod keys;
+#[cfg(test)]
+mod labels;
+#[cfg(test)]
+mod marks;
+#[cfg(test)]
+mod pages;
+#[cfg(test)]
+mod refusals;
+#[cfg(test)]
+mod reports;
+#[cfg(test)]
+mod signals;

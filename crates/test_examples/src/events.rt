@@ -1,0 +1,137 @@
+//! Events by two tag schemes, and marks: what they are written as, and how they are read and refused.
+use crate::copied::{copied_as, list_copied_as};
+use example_schemas::event::{Event, EventU8, EventU32, Mark, MarkU8};
+use std::alloc::Global;
+use std::test::Fail;
+use testkit_schemas::rows::bytes_of;
+use wincode::io::Lifetime;
+use wincode::serde::Serialize;
+use wincode::{SchemaRead, SchemaWrite, TypeMeta};
+
+/// An event, and its encoding by one byte and by four.
+fn events(alloc: Global) -> Result<[(Event, &'static str, &'static str); 3], Fail> {
+    let named = Event::Named {
+        name: String::from_str(alloc, "a")?,
+        id: 1,
+    };
+    let blob = Event::Blob(String::new(alloc), vec![in alloc; 9u8]?);
+    Ok([
+        (
+            named,
+            "000100000000000000610100000000000000",
+            "050000000100000000000000610100000000000000",
+        ),
+        (
+            blob,
+            "010000000000000000010000000000000009",
+            "080000000000000000000000010000000000000009",
+        ),
+        (Event::Empty, "02", "0d000000"),
+    ])
+}
+
+#[test]
+fn events_written(rt: HostRuntime) -> Result<(), Fail> {
+    let alloc = rt.alloc();
+    for (event, short, long) in events(alloc)? {
+        let text = <EventU8 as Serialize>::serialize(alloc, &event)?;
+        assert!(rt; text == bytes_of(alloc, short)?, "{short}");
+        assert_eq!(rt; <EventU8 as SchemaWrite>::size_of(&event)?, short.len() / 2);
+        let text = <EventU32 as Serialize>::serialize(alloc, &event)?;
+        assert!(rt; text == bytes_of(alloc, long)?, "{long}");
+    }
+    Ok(())
+}
+
+/// A schema, bytes, and how copying a value of it from their front ends, with how many bytes are left.
+const ROWS: [(&str, &str, &str); 16] = [
+    (
+        "EventU8",
+        "000100000000000000610100000000000000ff",
+        "ok 1 000100000000000000610100000000000000",
+    ),
+    (
+        "EventU8",
+        "010000000000000000010000000000000009",
+        "ok 0 010000000000000000010000000000000009",
+    ),
+    ("EventU8", "0202", "ok 1 02"),
+    ("EventU8", "03", "err InvalidTagEncoding(3) 0"),
+    ("EventU8", "", "err Io(ReadSizeLimit(1)) 0"),
+    ("EventU8", "0001", "err Io(ReadSizeLimit(8)) 1"),
+    (
+        "EventU32",
+        "050000000100000000000000610100000000000000",
+        "ok 0 050000000100000000000000610100000000000000",
+    ),
+    ("EventU32", "0d000000", "ok 0 0d000000"),
+    ("EventU32", "06000000", "err InvalidTagEncoding(6) 0"),
+    ("EventU32", "00000000", "err InvalidTagEncoding(0) 0"),
+    ("EventU32", "0d0000", "err Io(ReadSizeLimit(4)) 3"),
+    (
+        "Vec<MarkU8>",
+        "0300000000000000020001",
+        "ok 0 0300000000000000020001",
+    ),
+    (
+        "Vec<MarkU8>",
+        "0200000000000000010709",
+        "err InvalidTagEncoding(7) 1",
+    ),
+    (
+        "Vec<MarkU8>",
+        "020000000000000001",
+        "err Io(ReadSizeLimit(2)) 1",
+    ),
+    (
+        "Vec<EventU8>",
+        "02000000000000000201ff",
+        "err Io(ReadSizeLimit(8)) 1",
+    ),
+    (
+        "Vec<EventU8>",
+        "9324010000000000",
+        "err PreallocationSizeLimit { needed: 4194344, limit: 4194304 } 0",
+    ),
+];
+
+/// What copying the front of the bytes answers.
+fn copied(alloc: Global, name: &str, bytes: &[u8]) -> Result<String, Fail> {
+    match name {
+        "EventU8" => copied_as::<EventU8>(alloc, bytes),
+        "EventU32" => copied_as::<EventU32>(alloc, bytes),
+        "Vec<MarkU8>" => list_copied_as::<MarkU8>(alloc, bytes),
+        _ => list_copied_as::<EventU8>(alloc, bytes),
+    }
+}
+
+#[test]
+fn events_and_marks_copied(rt: HostRuntime) -> Result<(), Fail> {
+    let alloc = rt.alloc();
+    for (name, digits, wanted) in &ROWS {
+        let bytes = bytes_of(alloc, *digits)?;
+        let found = copied(alloc, *name, bytes.as_slice())?;
+        assert_eq!(rt; found.as_str(), *wanted);
+    }
+    Ok(())
+}
+
+#[test]
+fn sizes_of_events_and_marks(rt: HostRuntime) -> Result<(), Fail> {
+    let byte = TypeMeta::Static {
+        size: 1,
+        zero_copy: false,
+    };
+    assert!(rt; <EventU8 as SchemaRead<Lifetime>>::type_meta() == TypeMeta::Dynamic);
+    assert!(rt; <EventU32 as SchemaWrite>::type_meta() == TypeMeta::Dynamic);
+    assert_eq!(rt; <EventU8 as SchemaRead<Lifetime>>::prealloc_size(), 56);
+    assert_eq!(rt; <EventU32 as SchemaRead<Lifetime>>::prealloc_size(), 56);
+    assert!(rt; <MarkU8 as SchemaRead<Lifetime>>::type_meta() == byte);
+    assert!(rt; <MarkU8 as SchemaWrite>::type_meta() == byte);
+    assert_eq!(rt; <MarkU8 as SchemaRead<Lifetime>>::prealloc_size(), 1);
+    for (mark, tag) in [(Mark::A, 0u8), (Mark::B, 1), (Mark::C, 2)] {
+        let text = <MarkU8 as Serialize>::serialize(rt.alloc(), &mark)?;
+        assert_eq!(rt; text.as_slice(), [tag].as_slice());
+    }
+    Ok(())
+}

@@ -1,0 +1,357 @@
+//! Reading and writing through devices that fail at each of their calls in turn.
+
+use example_schemas::faults::{FailingReader, FailingWriter, read_record, write_record};
+use std::alloc::Global;
+use std::collections::BTreeMap;
+use std::io::ErrorKind;
+use std::test::Fail;
+use testkit_schemas::asked::AskedReader;
+use testkit_schemas::rows::{bytes_of, outcome};
+use wincode::io::{self, Cursor, Lifetime, Reader, SliceRef, Writer};
+use wincode::len::ShortU16Len;
+use wincode::{
+    Error, ReadError, RoundTrip, SchemaGet, SchemaWrite, WriteError, containers, rewrite,
+};
+
+/// More calls than any of these values needs.
+const CALLS: usize = 1_000;
+
+/// Whether a reader's device failed.
+fn is_read_fault(error: &io::ReadError) -> bool {
+    match error {
+        io::ReadError::Io(error) => error.kind() == ErrorKind::Other,
+        _ => false,
+    }
+}
+
+/// Whether a writer's device failed.
+fn is_write_fault(error: &io::WriteError) -> bool {
+    match error {
+        io::WriteError::Io(error) => error.kind() == ErrorKind::Other,
+        _ => false,
+    }
+}
+
+/// What rewriting the front of the bytes answers over a cursor.
+fn by_cursor<'a, T: RoundTrip<Lifetime<'a>>>(alloc: Global, bytes: &'a [u8]) -> Result<String, Fail>
+where
+    T::Src: Drop,
+{
+    let mut cursor = Cursor::new(bytes);
+    let calm = rewrite::<Lifetime<'a>, Cursor<&'a [u8]>, T>(alloc, &mut cursor);
+    let left = bytes.len().saturating_sub(cursor.position());
+    outcome(alloc, calm, left)
+}
+
+/// What it answers over a reader that lends nothing and never fails.
+fn unlent<'a, T: RoundTrip<Lifetime<'a>>>(alloc: Global, bytes: &'a [u8]) -> Result<String, Fail>
+where
+    T::Src: Drop,
+{
+    let mut reader = AskedReader::new(bytes);
+    let calm = rewrite::<Lifetime<'a>, AskedReader<'a>, T>(alloc, &mut reader);
+    let left = reader.left();
+    outcome(alloc, calm, left)
+}
+
+/// Reads the bytes over a device that fails at each call in turn, until it is met by none. Each read that
+/// meets a failure is `Io` of kind Other and leaves an end of the bytes; the last one is as it is expected.
+fn read_over_faults<'a, T: RoundTrip<Lifetime<'a>>>(
+    alloc: Global,
+    bytes: &'a [u8],
+    expected: &str,
+) -> Result<(), Fail>
+where
+    T::Src: Drop,
+{
+    for sound in 0..CALLS {
+        let mut reader = FailingReader::new(bytes, sound);
+        let answer = rewrite::<Lifetime<'a>, FailingReader<'a>, T>(alloc, &mut reader);
+        let left = reader.at_hand();
+        if !bytes.ends_with(left) {
+            return Err(Fail::from("no end is left"));
+        }
+        let left = left.len();
+        if reader.failures() == 0 {
+            let found = outcome(alloc, answer, left)?;
+            return if found.as_str() == expected {
+                Ok(())
+            } else {
+                Err(Fail::from("another answer than over memory"))
+            };
+        }
+        match &answer {
+            Err(Error::ReadError(ReadError::Io(error))) if is_read_fault(error) => {}
+            _ => return Err(Fail::from("a failure is not told")),
+        }
+    }
+    Err(Fail::from("too many calls"))
+}
+
+/// Writes the value that these bytes have, if one, to a device that fails at each call in turn, until it is met
+/// by none. Each write that meets a failure is `Io` of kind Other and adds a beginning of the encoding; the last
+/// one adds all.
+fn write_over_faults<'a, T: RoundTrip<Lifetime<'a>>>(
+    alloc: Global,
+    bytes: &'a [u8],
+) -> Result<(), Fail>
+where
+    T::Src: Drop,
+{
+    let mut reader = bytes;
+    let Ok(value) = <T as SchemaGet<Lifetime<'a>>>::get(alloc, &mut reader) else {
+        return Ok(());
+    };
+    let mut text = Vec::new(alloc);
+    T::write(&mut text, &value)?;
+    let mut room = Vec::from_slice(alloc, text.as_slice())?;
+    for sound in 0..CALLS {
+        room.as_mut_slice().fill(0);
+        let mut writer = FailingWriter::new(room.as_mut_slice(), sound);
+        let answer = T::write(&mut writer, &value);
+        if !text.as_slice().starts_with(writer.written()) {
+            return Err(Fail::from("no beginning was added"));
+        }
+        if writer.failures() == 0 {
+            return if answer.is_ok() && writer.written().len() == text.len() {
+                Ok(())
+            } else {
+                Err(Fail::from("not written"))
+            };
+        }
+        match &answer {
+            Err(WriteError::Io(error)) if is_write_fault(error) => {}
+            _ => return Err(Fail::from("a failure is not told")),
+        }
+    }
+    Err(Fail::from("too many calls"))
+}
+
+/// Both.
+fn go_over_faults<'a, T: RoundTrip<Lifetime<'a>>>(
+    alloc: Global,
+    bytes: &'a [u8],
+) -> Result<(), Fail>
+where
+    T::Src: Drop,
+{
+    let expected = by_cursor::<T>(alloc, bytes)?;
+    read_over_faults::<T>(alloc, bytes, expected.as_str())?;
+    write_over_faults::<T>(alloc, bytes)
+}
+
+/// Both, of values that borrow from what they are read from: the device lends nothing.
+fn go_over_faults_unlent<'a, T: RoundTrip<Lifetime<'a>>>(
+    alloc: Global,
+    bytes: &'a [u8],
+) -> Result<(), Fail>
+where
+    T::Src: Drop,
+{
+    let expected = unlent::<T>(alloc, bytes)?;
+    read_over_faults::<T>(alloc, bytes, expected.as_str())?;
+    write_over_faults::<T>(alloc, bytes)
+}
+
+/// So of a list of items by this schema.
+fn list_over_faults<'a, T: RoundTrip<Lifetime<'a>>>(
+    alloc: Global,
+    bytes: &'a [u8],
+) -> Result<(), Fail>
+where
+    T::Src: Drop,
+{
+    go_over_faults::<Vec<T>>(alloc, bytes)
+}
+
+/// So by the type of this name.
+fn go_over_faults_as(alloc: Global, name: &str, bytes: &[u8]) -> Result<(), Fail> {
+    match name {
+        "u16" => go_over_faults::<u16>(alloc, bytes),
+        "&str" => go_over_faults_unlent::<&str>(alloc, bytes),
+        "SliceRef<u16>" => go_over_faults_unlent::<SliceRef<'_, u16>>(alloc, bytes),
+        "Vec<u64>" => list_over_faults::<u64>(alloc, bytes),
+        "Vec<Vec<u64>>" => list_over_faults::<Vec<u64>>(alloc, bytes),
+        "Vec<(u16,bool)>" => list_over_faults::<(u16, bool)>(alloc, bytes),
+        "Vec<Result<u8,u8>>" => list_over_faults::<Result<u8, u8>>(alloc, bytes),
+        "Short<u8>" => go_over_faults::<containers::Vec<u8, ShortU16Len>>(alloc, bytes),
+        "String" => go_over_faults::<String>(alloc, bytes),
+        "char" => go_over_faults::<char>(alloc, bytes),
+        "BTreeMap<u8,u8>" => go_over_faults::<BTreeMap<u8, u8>>(alloc, bytes),
+        "(u64,bool,[u8;4])" => go_over_faults::<(u64, bool, [u8; 4])>(alloc, bytes),
+        _ => Err(Fail::from("a type")),
+    }
+}
+
+/// A type's name, and bytes as digits: inputs of the worked rows, and encodings of their values.
+static INPUTS: &str = "\
+u16|0100ff\n\
+u16|01\n\
+Vec<u64>|020000000000000001000000000000000200000000000000ff\n\
+Vec<u64>|02000000000000000100000000000000020000\n\
+&str|0300000000000000616263\n\
+&str|0200000000000000c328\n\
+SliceRef<u16>|020000000000000001000200\n\
+SliceRef<u16>|0200000000000000010002\n\
+Vec<Vec<u64>>|0200000000000000010000000000000001000000000000000000000000000000\n\
+Vec<Vec<u64>>|02000000000000000100000000000000010000000000000000000000000000\n\
+Vec<(u16,bool)>|02000000000000000100010200\n\
+Vec<(u16,bool)>|0200000000000000010001020000\n\
+Vec<(u16,bool)>|0200000000000000010002020001\n\
+Vec<Result<u8,u8>>|010000000000000002000000094d\n\
+Vec<Result<u8,u8>>|010000000000000001000000094d\n\
+Vec<Result<u8,u8>>|010000000000000000000000074d\n\
+Short<u8>|03010203ff\n\
+Short<u8>|\n\
+Short<u8>|800109\n\
+Short<u8>|ffff03\n\
+String|0300000000000000616263\n\
+String|0100400000000000\n\
+String|0200000000000000c32809\n\
+char|e282ac\n\
+char|e282\n\
+char|c080\n\
+BTreeMap<u8,u8>|020000000000000007010702\n\
+BTreeMap<u8,u8>|0200000000000000070107\n\
+(u64,bool,[u8;4])|01000000000000000101020304\n\
+(u64,bool,[u8;4])|010000000000000001010203\n\
+";
+
+#[test]
+fn each_call_fails_in_turn(rt: HostRuntime) -> Result<(), Fail> {
+    let alloc = rt.alloc();
+    for row in INPUTS.lines() {
+        let (name, digits) = row.split_once('|').ok_or("a name")?;
+        let bytes = bytes_of(alloc, digits)?;
+        go_over_faults_as(alloc, name, bytes.as_slice())?;
+    }
+    Ok(())
+}
+
+/// A list of 65,536 numbers from a device that fails at each call in turn: its length and its items are a call
+/// each.
+#[test]
+fn a_long_list_read_over_a_device(rt: HostRuntime) -> Result<(), Fail> {
+    let alloc = rt.alloc();
+    let mut bytes = vec![in alloc; 0u8; 524_296]?;
+    bytes[2] = 1;
+    for sound in 0..3usize {
+        let mut reader = FailingReader::new(bytes.as_slice(), sound);
+        let answer = <Vec<u64> as SchemaGet<Lifetime>>::get(alloc, &mut reader);
+        match &answer {
+            Ok(list) => assert!(rt; sound == 2 && list.len() == 65_536),
+            Err(ReadError::Io(error)) => assert!(rt; sound < 2 && is_read_fault(error)),
+            Err(_) => return Err(Fail::from("another refusal")),
+        }
+        let left = [524_296usize, 524_288, 0];
+        assert_eq!(rt; reader.at_hand().len(), left[sound]);
+    }
+    Ok(())
+}
+
+/// A list of 65,536 numbers to a device that fails at each call in turn: it goes out in one piece.
+#[test]
+fn a_long_list_written_over_a_device(rt: HostRuntime) -> Result<(), Fail> {
+    let alloc = rt.alloc();
+    let list = vec![in alloc; 0u64; 65_536]?;
+    let mut room = vec![in alloc; 7u8; 524_297]?;
+    for sound in 0..2usize {
+        let mut writer = FailingWriter::new(room.as_mut_slice(), sound);
+        let answer = <Vec<u64> as SchemaWrite>::write(&mut writer, &list);
+        match &answer {
+            Ok(()) => assert!(rt; sound == 1),
+            Err(WriteError::Io(error)) => assert!(rt; sound == 0 && is_write_fault(error)),
+            Err(_) => return Err(Fail::from("another refusal")),
+        }
+        let written = [0usize, 524_296];
+        assert_eq!(rt; writer.written().len(), written[sound]);
+    }
+    assert_eq!(rt; room.last(), Some(&7u8));
+    Ok(())
+}
+
+/// A record from a device that serves so many calls.
+#[test]
+fn a_record_read_over_a_device(rt: HostRuntime) -> Result<(), Fail> {
+    let alloc = rt.alloc();
+    let mut text = [9u8; 42];
+    text[..9].copy_from_slice(&[7, 0, 0, 0, 0, 0, 0, 0, 1]);
+    let mut reader = FailingReader::new(&text, 1);
+    let record = read_record(alloc, &mut reader)?;
+    assert!(rt; record == (7, true, [9; 32]));
+    assert_eq!(rt; reader.at_hand(), [9u8].as_slice());
+    for _ in 0..2 {
+        let failed = read_record(alloc, &mut reader);
+        assert!(rt; matches!(&failed, Err(ReadError::Io(error)) if is_read_fault(error)));
+        assert_eq!(rt; reader.at_hand(), [9u8].as_slice());
+    }
+    let mut reader = FailingReader::new(&text[..40], 1);
+    let short = read_record(alloc, &mut reader);
+    assert!(rt; matches!(&short, Err(ReadError::Io(io::ReadError::ReadSizeLimit(41)))));
+    assert_eq!(rt; reader.at_hand().len(), 40);
+    let mut flag = text;
+    flag[8] = 2;
+    let mut reader = FailingReader::new(&flag, 1);
+    let refused = read_record(alloc, &mut reader);
+    assert!(rt; matches!(&refused, Err(ReadError::InvalidBoolEncoding(2))));
+    assert_eq!(rt; reader.at_hand().len(), 1);
+    Ok(())
+}
+
+/// A record to a device that serves so many calls.
+#[test]
+fn a_record_written_over_a_device(rt: HostRuntime) -> Result<(), Fail> {
+    let record = (7u64, true, [9u8; 32]);
+    let mut room = [0u8; 83];
+    let mut writer = FailingWriter::new(&mut room, 3);
+    for _ in 0..2 {
+        write_record(&mut writer, record)?;
+    }
+    let full = write_record(&mut writer, record);
+    assert!(rt;
+        matches!(
+            &full,
+            Err(WriteError::Io(io::WriteError::WriteSizeLimit(41)))
+        )
+    );
+    for _ in 0..2 {
+        let failed = write_record(&mut writer, record);
+        assert!(rt; matches!(&failed, Err(WriteError::Io(error)) if is_write_fault(error)));
+    }
+    assert_eq!(rt; writer.written().len(), 82);
+    assert_eq!(rt; &room[..9], [7u8, 0, 0, 0, 0, 0, 0, 0, 1].as_slice());
+    assert_eq!(rt; &room[81..], [9u8, 0].as_slice());
+    Ok(())
+}
+
+/// What a device that has failed answers, and how often it says that it failed.
+#[test]
+fn failures_are_counted(rt: HostRuntime) -> Result<(), Fail> {
+    let mut reader = FailingReader::new(&[1, 2, 3], 2);
+    reader.consume(1)?;
+    let mut window = reader.as_trusted_for(1)?;
+    for n in 1..4usize {
+        let refused = reader.fill(1);
+        assert!(rt; matches!(&refused, Err(error) if is_read_fault(error)));
+        assert_eq!(rt; reader.failures(), n);
+        assert_eq!(rt; reader.at_hand(), [3u8].as_slice());
+    }
+    window.consume(1)?;
+    let mut room = [0u8; 4];
+    let mut writer = FailingWriter::new(&mut room, 2);
+    writer.write(&[7])?;
+    assert!(rt;
+        matches!(
+            &writer.write(&[8; 4]),
+            Err(io::WriteError::WriteSizeLimit(4))
+        )
+    );
+    for n in 1..4usize {
+        let refused = writer.write(&[9]);
+        assert!(rt; matches!(&refused, Err(error) if is_write_fault(error)));
+        assert_eq!(rt; writer.failures(), n);
+        assert_eq!(rt; writer.written(), [7u8].as_slice());
+    }
+    assert_eq!(rt; room.as_slice(), [7u8, 0, 0, 0].as_slice());
+    Ok(())
+}

@@ -1,0 +1,19 @@
+//! Tests of the schemas and the devices of `example_schemas`.
+#![tactic(auto)]
+
+#[cfg(test)]
+mod copied;
+#[cfg(test)]
+mod entries;
+#[cfg(test)]
+mod events;
+#[cfg(test)]
+mod faults;
+#[cfg(test)]
+mod labels;
+#[cfg(test)]
+mod messages;
+#[cfg(test)]
+mod own_schemas;
+#[cfg(test)]
+mod recipes;

@@ -1,0 +1,139 @@
+//! Many values of a source, one after another.
+use crate::pieces::in_pieces;
+use example_schemas::faults::Pieces;
+use std::alloc::Global;
+use std::test::Fail;
+use wincode::io::{self, Lifetime, StreamReader};
+use wincode::{Messages, ReadError, deserialize_from};
+
+const SIZES: [usize; 6] = [1, 2, 3, 7, 8192, 65536];
+
+type Flag = (u64, bool);
+
+/// Adds the encoding of the word of this number.
+fn add_word(alloc: Global, i: u64, bytes: &mut Vec<u8>) -> Result<(), Fail> {
+    let word = format!(in alloc; "message {i}")?;
+    bytes.extend_from_slice((word.len() as u64).to_le_bytes().as_slice())?;
+    bytes.extend_from_slice(word.as_bytes())?;
+    Ok(())
+}
+
+/// As many flags, each with a word behind it.
+fn flags_and_words(alloc: Global, n: u64) -> Result<Vec<u8>, Fail> {
+    let mut bytes = Vec::new(alloc);
+    for i in 0..n {
+        bytes.extend_from_slice(i.to_le_bytes().as_slice())?;
+        bytes.push(u8::from(i % 2 == 0))?;
+        add_word(alloc, i, &mut bytes)?;
+    }
+    Ok(bytes)
+}
+
+/// Whether the reader has the flag of this number, and then its word.
+fn has_both(alloc: Global, reader: &mut StreamReader<Pieces>, i: u64) -> Result<bool, Fail> {
+    let flag: Flag = deserialize_from::<Lifetime, _, _>(alloc, reader)?;
+    let word: String = deserialize_from::<Lifetime, _, _>(alloc, reader)?;
+    let due = format!(in alloc; "message {i}")?;
+    Ok(flag == (i, i % 2 == 0) && word == due)
+}
+
+/// Messages of two types, one behind another, without a byte lost between them.
+#[test]
+fn of_two_types(rt: HostRuntime) -> Result<(), Fail> {
+    let alloc = rt.alloc();
+    let bytes = flags_and_words(alloc, 700)?;
+    for size in SIZES {
+        let source = in_pieces(alloc, bytes.as_slice(), size, false)?;
+        let mut reader = StreamReader::new(alloc, source)?;
+        for i in 0..700u64 {
+            assert!(rt; has_both(alloc, &mut reader, i)?);
+        }
+        let end = deserialize_from::<Lifetime, _, u8>(alloc, &mut reader);
+        assert!(rt; matches!(&end, Err(ReadError::Io(io::ReadError::ReadSizeLimit(1)))));
+    }
+    Ok(())
+}
+
+/// The words of a log of so many, in pieces of this size, cut off before its last so many bytes.
+fn log(
+    alloc: Global,
+    words: u64,
+    size: usize,
+    cut: usize,
+    fails: bool,
+) -> Result<Messages<Pieces, String>, Fail> {
+    let mut bytes = Vec::new(alloc);
+    for i in 0..words {
+        add_word(alloc, i, &mut bytes)?;
+    }
+    let kept = bytes.len().saturating_sub(cut);
+    Ok(Messages::new(alloc, in_pieces(alloc, &bytes[..kept], size, fails)?)?)
+}
+
+/// How many values come, and how the last call ends: at the end of the source, or with an error.
+fn count(mut messages: Messages<Pieces, String>) -> (u64, Option<ReadError>) {
+    for count in 0..1_000u64 {
+        match messages.next() {
+            Some(Ok(_)) => {}
+            Some(Err(error)) => return (count, Some(error)),
+            None => return (count, None),
+        }
+    }
+    (1_000, None)
+}
+
+#[test]
+fn to_the_end(rt: HostRuntime) -> Result<(), Fail> {
+    let alloc = rt.alloc();
+    for size in SIZES {
+        let (n, error) = count(log(alloc, 40, size, 0, false)?);
+        assert!(rt; n == 40 && error.is_none());
+        let (n, error) = count(log(alloc, 0, size, 0, false)?);
+        assert!(rt; n == 0 && error.is_none());
+    }
+    Ok(())
+}
+
+/// A log that ends within its last word, by each number of bytes: that is an error, and no end.
+#[test]
+fn cut_off(rt: HostRuntime) -> Result<(), Fail> {
+    let alloc = rt.alloc();
+    for size in [1usize, 7, 8192] {
+        for cut in 1..17usize {
+            let (n, error) = count(log(alloc, 4, size, cut, false)?);
+            let is_short = matches!(&error, Some(ReadError::Io(io::ReadError::ReadSizeLimit(_))));
+            assert!(rt; n == 3 && is_short);
+        }
+        let (n, error) = count(log(alloc, 4, size, 17, false)?);
+        assert!(rt; n == 3 && error.is_none());
+    }
+    Ok(())
+}
+
+/// A source that fails behind its last word gives all words, and then its failure.
+#[test]
+fn failing(rt: HostRuntime) -> Result<(), Fail> {
+    let alloc = rt.alloc();
+    for size in SIZES {
+        let (n, error) = count(log(alloc, 4, size, 0, true)?);
+        let is_failure = matches!(&error, Some(ReadError::Io(io::ReadError::Io(_))));
+        assert!(rt; n == 4 && is_failure);
+    }
+    Ok(())
+}
+
+/// The reader behind some messages gives what follows them.
+#[test]
+fn taken_apart(rt: HostRuntime) -> Result<(), Fail> {
+    let alloc = rt.alloc();
+    for size in SIZES {
+        let mut messages = log(alloc, 4, size, 0, false)?;
+        for _ in 0..3u8 {
+            assert!(rt; matches!(messages.next(), Some(Ok(_))));
+        }
+        let mut reader = messages.into_reader();
+        let word: String = deserialize_from::<Lifetime, _, _>(alloc, &mut reader)?;
+        assert!(rt; word.as_str() == "message 3");
+    }
+    Ok(())
+}

@@ -1,0 +1,8 @@
+//! Uses of the readers and writers of `wincode_io`, with what they leave.
+#![tactic(auto)]
+
+pub mod counted;
+pub mod digits;
+pub mod forms;
+pub mod readers;
+pub mod writers;

@@ -1,0 +1,26 @@
+use Rattle.wincode_base.proofs.WriteAnswers.{write_refused, write_map}
+use Rattle.wincode_derive_support.specs.Sums.{enum_write}
+use Rattle.wincode_derive_support.proofs.Cases.{enum_wrote, enum_tag_unwritten, enum_part_unwritten, enum_tag_halted, enum_part_halted}
+use Rattle.wincode_derive_support.proofs.sums.OneOfSchemaWrite.write.Goals as goal
+
+pub returns-in_err-write_tag : goal.returns-in_err-write_tag
+returns-in_err-write_tag g c =
+    let C = g.C.CasesWrite in
+    let k = g.Tag.TagCode.size in
+    let laws = g.met.W.Writer.writer_laws in
+    let v = C.model c.args.src.now in
+    let t = c.in_ok-tag.ensures.ok in
+    let u = rw t.1 at c.in_err-write_tag.ensures.refused in
+    let h = rw t.1 at c.in_err-write_tag.ensures.place in
+    write_refused _ _ _ _ _ c.from_residual-in_err-write_tag.ensures (enum_tag_unwritten laws k C.tag C.own C.part_laws v u) (enum_tag_halted laws k C.tag C.own C.part_laws v h)
+
+pub returns : goal.returns
+returns g c =
+    let C = g.C.CasesWrite in
+    let k = g.Tag.TagCode.size in
+    let laws = g.met.W.Writer.writer_laws in
+    let v = C.model c.args.src.now in
+    let t = c.in_ok-tag.ensures.ok in
+    let o = rw t.1 at c.in_ok-write_tag.ensures.ok in
+    write_map C.part v _ (enum_write k C.tag C.own C.part) v _ _ (λ r. enum_wrote laws k C.tag C.own C.part_laws v t.0 o r) (λ p. (t.0, p))
+    (λ e u. enum_part_unwritten laws k C.tag C.own C.part_laws v o u) (λ e h. enum_part_halted laws k C.tag C.own C.part_laws v o h) c.write_part.ensures

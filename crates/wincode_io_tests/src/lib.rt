@@ -1,7 +1,0 @@
-//! Uses of the readers and writers of `wincode_io`, with what they leave.
-#![tactic(auto)]
-
-pub mod counted;
-pub mod forms;
-pub mod readers;
-pub mod writers;

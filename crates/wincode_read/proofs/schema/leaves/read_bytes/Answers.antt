@@ -1,0 +1,29 @@
+use Rattle.std.proofs.Common.{rules}
+use Rattle.wincode_base.proofs.Bulk.{bytes_added, bytes_refused, bytes_denied, bytes_wanted, wanted_refuses, went_well}
+use Rattle.wincode_read.proofs.schema.leaves.read_bytes.Goals as goal
+
+pub returns-in_err-bytes : goal.returns-in_err-bytes
+returns-in_err-bytes g c =
+    let follows = rw c.in_err-bytes.was at c.fill_exact.follows.holds-at-none in
+    let h = bytes_refused c.args.n _ _ _ follows.0 follows.2 in
+    let b = bytes_denied c.args.n _ _ _ follows.0 follows.2 in search (rules, h, b)
+
+pub returns-then-is_err : goal.returns-then-is_err
+returns-then-is_err g c =
+    let follows = rw c.in_ok-bytes.was at c.fill_exact.follows.holds-at-none in
+    let shown = c.in_ok-bytes.ensures.shown in
+    record { each = record { ok = tt; refused = wanted_refuses _ _ _ _ follows.0; place = search rules; same = search rules }; at_once = bytes_wanted c.args.n _ _ _ follows.0 shown.0 shown.1 }
+
+pub returns : goal.returns
+returns g c =
+    let follows = rw c.in_ok-bytes.was at c.fill_exact.follows.holds-at-none in
+    let shown = c.in_ok-bytes.ensures.shown in
+    record {
+      each = record {
+        ok = bytes_added c.args.n _ _ _ c.in_ok-bytes.bytes.now _ _ c.add_bytes.ensures.small shown.0 shown.1 follows.0 c.consume_unchecked.ensures (went_well c.add_bytes.result c.if-is_err.ensures.negation c.add_bytes.ensures.ok);
+        refused = tt;
+        place = tt;
+        same = tt;
+      };
+      at_once = tt;
+    }

@@ -1,0 +1,17 @@
+use Rattle.std.proofs.Common.{rules, true}
+use Rattle.std.specs.Int.{w32}
+use Rattle.wincode_base.proofs.Integers.{number_wrote, number_unwritten, number_halted}
+use Rattle.wincode_write.proofs.schema.leaves.numbers.U32SchemaWrite.write.Goals as goal
+
+pub returns-in_err-write : goal.returns-in_err-write
+returns-in_err-write g c =
+    let is = c.to_le_bytes.ensures in
+    let laws = g.met.W.Writer.writer_laws in
+    let d = c.in_err-write.ensures.err in
+    let u = number_unwritten w32 true c.args.src.now is laws _ d in
+    let p = number_halted w32 true c.args.src.now is laws _ d in search (rules, u, p)
+
+pub returns : goal.returns
+returns g c =
+    let is = c.to_le_bytes.ensures in
+    record { ok = number_wrote w32 true c.args.src.now is c.in_ok-write.ensures.ok; value = search rules; refused = tt; place = tt }
