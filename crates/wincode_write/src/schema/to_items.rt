@@ -77,10 +77,7 @@ pub(crate) fn sizes_of_items<T: SchemaWrite>(before: usize, items: &[T::Src]) ->
     let mut sum = before;
     for item in items {
         let size = T::size_of(item)?;
-        sum = match sum.checked_add(size) {
-            Some(more) => more,
-            None => return Err(write_length_encoding_overflow("usize::MAX")),
-        };
+        sum = checked_sum(sum, size)?;
     }
     Ok(sum)
 }
@@ -153,10 +150,7 @@ impl<U, T: SchemaWrite<Src = U>> ToItems<T> for LinkedList<U> {
         let mut sum = before;
         for item in self {
             let size = T::size_of(item)?;
-            sum = match sum.checked_add(size) {
-                Some(more) => more,
-                None => return Err(write_length_encoding_overflow("usize::MAX")),
-            };
+            sum = checked_sum(sum, size)?;
         }
         Ok(sum)
     }
@@ -206,10 +200,7 @@ impl<A: Ord, B, K: SchemaWrite<Src = A>, V: SchemaWrite<Src = B>> ToItems<Member
         let mut sum = before;
         for (key, value) in self {
             let size = size_of_members_2::<K, V>(key, value)?;
-            sum = match sum.checked_add(size) {
-                Some(more) => more,
-                None => return Err(write_length_encoding_overflow("usize::MAX")),
-            };
+            sum = checked_sum(sum, size)?;
         }
         Ok(sum)
     }
@@ -242,10 +233,7 @@ impl<A: Eq + Hash, B, K: SchemaWrite<Src = A>, V: SchemaWrite<Src = B>> ToItems<
         let mut sum = before;
         for (key, value) in self {
             let size = size_of_members_2::<K, V>(key, value)?;
-            sum = match sum.checked_add(size) {
-                Some(more) => more,
-                None => return Err(write_length_encoding_overflow("usize::MAX")),
-            };
+            sum = checked_sum(sum, size)?;
         }
         Ok(sum)
     }
@@ -272,10 +260,7 @@ impl<A: Ord, K: SchemaWrite<Src = A>> ToItems<K> for BTreeSet<A> {
         let mut sum = before;
         for key in self {
             let size = K::size_of(key)?;
-            sum = match sum.checked_add(size) {
-                Some(more) => more,
-                None => return Err(write_length_encoding_overflow("usize::MAX")),
-            };
+            sum = checked_sum(sum, size)?;
         }
         Ok(sum)
     }
@@ -301,10 +286,7 @@ impl<A: Eq + Hash, K: SchemaWrite<Src = A>> ToItems<K> for HashSet<A> {
         let mut sum = before;
         for key in self {
             let size = K::size_of(key)?;
-            sum = match sum.checked_add(size) {
-                Some(more) => more,
-                None => return Err(write_length_encoding_overflow("usize::MAX")),
-            };
+            sum = checked_sum(sum, size)?;
         }
         Ok(sum)
     }
