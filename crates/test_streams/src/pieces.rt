@@ -5,6 +5,7 @@ use example_schemas::front::read_front;
 use std::alloc::Global;
 use std::collections::BTreeMap;
 use std::io::ErrorKind;
+use std::process::Abort;
 use std::test::Fail;
 use testkit_schemas::rows::{outcome, read_as};
 use wincode::io::{self, Lifetime, Reader, StdSource, StreamReader};
@@ -178,20 +179,29 @@ fn large_value(alloc: Global) -> Result<Vec<Vec<u64>>, Fail> {
     Ok(value)
 }
 
-/// Such a list, and what follows it.
-#[test]
-fn large_lists(rt: HostRuntime) -> Result<(), Fail> {
+/// Such a list in pieces of so many bytes, and what follows it.
+fn large_lists_in_pieces(rt: &(impl Abort + AllocGlobal), sizes: &[usize]) -> Result<(), Fail> {
     let alloc = rt.alloc();
     let value = large_value(alloc)?;
     let mut text = serialize(alloc, &value)?;
     text.extend_from_slice(&[7, 8, 9])?;
-    for size in [1usize, 2, 3, 7, 8191, 8192, 8193, 65536] {
-        let source = in_pieces(alloc, text.as_slice(), size, false)?;
+    for size in sizes {
+        let source = in_pieces(alloc, text.as_slice(), *size, false)?;
         let (read, mut reader) = read_front::<Lifetime, Pieces, Vec<Vec<u64>>>(alloc, source)?;
         assert!(rt; read == value);
         assert_eq!(rt; left(&mut reader)?, 3);
     }
     Ok(())
+}
+
+#[test]
+fn large_lists_in_small_pieces(rt: HostRuntime) -> Result<(), Fail> {
+    large_lists_in_pieces(&rt, &[1, 2, 3, 7])
+}
+
+#[test]
+fn large_lists_in_pieces_as_large_as_the_buffer(rt: HostRuntime) -> Result<(), Fail> {
+    large_lists_in_pieces(&rt, &[8191, 8192, 8193, 65536])
 }
 
 /// Reads a list of lists from a source that fails where these bytes end: none where it failed.

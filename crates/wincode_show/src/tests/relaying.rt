@@ -108,11 +108,11 @@ fn relayed(alloc: Global, input: &[u8]) -> Result<Vec<u8>, RelayError> {
     }
 }
 
-#[test]
-fn lists_of_every_size(rt: HostRuntime) -> Result<(), Fail> {
+/// Lists of so many bytes, from the first to the second size.
+fn lists_of_sizes(rt: &(impl Abort + AllocGlobal), first: usize, last: usize) -> Result<(), Fail> {
     let alloc = rt.alloc();
     let body = body(alloc, 10_000)?;
-    for n in 0usize..4_201 {
+    for n in first..last + 1 {
         let list = one_list(alloc, n, body.as_slice())?;
         let text = if n < 16 { None } else { list.get(..n - n % 8) };
         assert!(rt; is_due(&relayed(alloc, list.as_slice()), text), "{n}");
@@ -125,15 +125,40 @@ fn lists_of_every_size(rt: HostRuntime) -> Result<(), Fail> {
 }
 
 #[test]
-fn values_with_bytes_behind(rt: HostRuntime) -> Result<(), Fail> {
+fn lists_of_every_size_below_2100(rt: HostRuntime) -> Result<(), Fail> {
+    lists_of_sizes(&rt, 0, 2_099)
+}
+
+#[test]
+fn lists_of_every_size_from_2100(rt: HostRuntime) -> Result<(), Fail> {
+    lists_of_sizes(&rt, 2_100, 4_200)
+}
+
+/// A value with so many bytes of input in all, from the first to the second number.
+fn values_in_inputs_of(
+    rt: &(impl Abort + AllocGlobal),
+    first: usize,
+    last: usize,
+) -> Result<(), Fail> {
     let alloc = rt.alloc();
-    let mut input = Vec::from_slice(alloc, NESTED.as_slice())?;
     let text = Some(NESTED.as_slice());
-    for n in 32usize..10_001 {
+    let mut input = Vec::from_slice(alloc, NESTED.as_slice())?;
+    input.resize(first, 255)?;
+    for n in first..last + 1 {
         assert!(rt; is_due(&relayed(alloc, input.as_slice()), text), "{n}");
         input.push(255)?;
     }
     Ok(())
+}
+
+#[test]
+fn values_with_few_bytes_behind(rt: HostRuntime) -> Result<(), Fail> {
+    values_in_inputs_of(&rt, 32, 4_999)
+}
+
+#[test]
+fn values_with_many_bytes_behind(rt: HostRuntime) -> Result<(), Fail> {
+    values_in_inputs_of(&rt, 5_000, 10_000)
 }
 
 /// Whether it ended as `Input`, by this failure.
