@@ -74,7 +74,7 @@ impl ItemSize {
 
 /// The size of `n` items, or none.
 #[inline]
-pub fn size_of_items(n: usize, item: TypeMeta) -> TypeMeta
+pub fn times_meta(n: usize, item: TypeMeta) -> TypeMeta
     ensures { result ≡ times_meta n item }
 {
     match item {
@@ -88,7 +88,7 @@ pub fn size_of_items(n: usize, item: TypeMeta) -> TypeMeta
 
 /// The size of what is held in memory of its own, which is no list of bytes.
 #[inline]
-pub fn boxed_meta(meta: TypeMeta) -> TypeMeta
+pub fn reference_meta(meta: TypeMeta) -> TypeMeta
     ensures { result ≡ reference_meta meta }
 {
     match meta {
@@ -102,7 +102,7 @@ pub fn boxed_meta(meta: TypeMeta) -> TypeMeta
 
 /// The size of two parts, one after the other.
 #[inline]
-pub fn joined_meta(first: TypeMeta, second: TypeMeta) -> TypeMeta
+pub fn pair_meta(first: TypeMeta, second: TypeMeta) -> TypeMeta
     ensures { result ≡ pair_meta first second }
 {
     match (first, second) {
@@ -162,7 +162,7 @@ pub fn result_meta(tag_size: usize, one: TypeMeta, other: TypeMeta) -> TypeMeta
 
 /// The size of a form, or none.
 #[inline]
-pub fn meta_of_form<T: ZeroCopy>(zero_copy: bool) -> TypeMeta
+pub fn form_meta<T: ZeroCopy>(zero_copy: bool) -> TypeMeta
     ensures { result ≡ form_meta T.size zero_copy }
 {
     match T::form_size() {

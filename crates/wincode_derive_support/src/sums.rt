@@ -24,7 +24,7 @@ use wincode::{
     OneText, ReadResult, RoundTrip, SchemaGet, SchemaRead, SchemaReadOwned, SchemaWrite, TagCode,
     TypeMeta, WriteResult, read_tag, write_tag,
 };
-use wincode_base::sizes::{checked_sum, joined_meta};
+use wincode_base::sizes::{checked_sum, pair_meta};
 
 /// The case with this tag, before others.
 pub struct Case<const TAG: usize, A, Rest>(PhantomData<(A, Rest)>);
@@ -470,7 +470,7 @@ fn own_tag<Tag: TagCode, C: CasesWrite>(src: &C::Src) -> WriteResult<usize>
 fn tagged_meta<Tag: TagCode>(part: TypeMeta) -> TypeMeta
     ensures { result ≡ pair_meta (TypeMeta.Static Tag.size true) part }
 {
-    joined_meta(
+    pair_meta(
         TypeMeta::Static {
             size: Tag::tag_size(),
             zero_copy: true,

@@ -5,7 +5,7 @@ ghost use Rattle.wincode_describe.specs.Types.{described_read, cases_read, integ
 
 use crate::described::{Cases, Described, Integer, TagSize};
 use wincode_base::meta::TypeMeta;
-use wincode_base::sizes::{boxed_meta, joined_meta, result_meta, size_of_items};
+use wincode_base::sizes::{pair_meta, reference_meta, result_meta, times_meta};
 
 /// How many bytes a tag has.
 pub(crate) fn tag_bytes(size: TagSize) -> usize
@@ -82,12 +82,12 @@ pub fn type_meta(described: &Described) -> TypeMeta
         | Described::Set(_)
         | Described::Map(_) => TypeMeta::Dynamic,
         Described::Result(one, other) => result_meta(4, type_meta(one), type_meta(other)),
-        Described::Boxed(content) => boxed_meta(type_meta(content)),
-        Described::Array(n, item) => size_of_items(*n, type_meta(item)),
+        Described::Boxed(content) => reference_meta(type_meta(content)),
+        Described::Array(n, item) => times_meta(*n, type_meta(item)),
         Described::Tuple(parts) | Described::Struct(parts) => type_meta(parts),
-        Described::Joined(first, second) => joined_meta(type_meta(first), type_meta(second)),
+        Described::Joined(first, second) => pair_meta(type_meta(first), type_meta(second)),
         Described::Field(_, content) => type_meta(content),
-        Described::Enum(tag, cases) => joined_meta(plain(tag_bytes(*tag)), meta_of_cases(cases)),
+        Described::Enum(tag, cases) => pair_meta(plain(tag_bytes(*tag)), meta_of_cases(cases)),
     }
 }
 

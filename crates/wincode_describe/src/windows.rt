@@ -23,7 +23,7 @@ use crate::sizes::{prealloc_size, tag_bytes, type_meta};
 use std::alloc::Global;
 use wincode_base::error::{ReadResult, invalid_tag_encoding, read_length_encoding_overflow};
 use wincode_base::meta::TypeMeta;
-use wincode_base::sizes::{ItemSize, size_of_items};
+use wincode_base::sizes::{ItemSize, times_meta};
 use wincode_base::tag::read_tag;
 use wincode_io::{Lending, ReadWindow, Reader};
 
@@ -144,7 +144,7 @@ fn show_array<L: Lending, S: PartSink>(
 ) -> ReadResult<()>
     ensures { ShowOutcome S.took (shown_read joined (windowed_read (array_read n (described_read item.now)))) (window_state reader.old) (window_state reader.new) shown.old shown.new result }
 {
-    match size_of_items(n, type_meta(item)) {
+    match times_meta(n, type_meta(item)) {
         TypeMeta::Static { size, .. } => {
             let mut window = reader.as_trusted_for(size)?;
             show_items::<L, S>(alloc, n, item, &mut window, shown)

@@ -16,7 +16,7 @@ use std::marker::PhantomData;
 use wincode_base::error::{ReadError, ReadResult};
 use wincode_base::meta::TypeMeta;
 use wincode_base::parts::Items;
-use wincode_base::sizes::size_of_items;
+use wincode_base::sizes::times_meta;
 use wincode_collect::{ItemSource, Sourced};
 use wincode_io::{Lending, Reader};
 
@@ -97,7 +97,7 @@ impl<L: Lending, T: SchemaRead<L>, const N: usize> SchemaRead<L> for Items<T, N>
     ghost reading = { array_read N T.reading };
 
     fn type_meta() -> TypeMeta {
-        size_of_items(N, T::type_meta())
+        times_meta(N, T::type_meta())
     }
 
     fn prealloc_size() -> usize {

@@ -7,7 +7,7 @@ use std::alloc::Global;
 use std::rc::Rc;
 use wincode_base::error::{ReadError, ReadResult};
 use wincode_base::meta::TypeMeta;
-use wincode_base::sizes::boxed_meta;
+use wincode_base::sizes::reference_meta;
 use wincode_io::{Lending, Reader};
 
 impl<L: Lending, T: SchemaRead<L>> SchemaRead<L> for Box<T> {
@@ -22,7 +22,7 @@ impl<L: Lending, T: SchemaRead<L>> SchemaRead<L> for Box<T> {
     ghost reading = { boxed_read T.reading };
 
     fn type_meta() -> TypeMeta {
-        boxed_meta(T::type_meta())
+        reference_meta(T::type_meta())
     }
 
     fn prealloc_size() -> usize {
@@ -93,7 +93,7 @@ impl<L: Lending, T: SchemaRead<L>> SchemaRead<L> for Rc<T> {
     ghost reading = { boxed_read T.reading };
 
     fn type_meta() -> TypeMeta {
-        boxed_meta(T::type_meta())
+        reference_meta(T::type_meta())
     }
 
     fn prealloc_size() -> usize {

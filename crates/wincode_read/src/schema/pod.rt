@@ -11,7 +11,7 @@ use std::alloc::Global;
 use wincode_base::error::{ReadResult, read_length_encoding_overflow};
 use wincode_base::meta::TypeMeta;
 use wincode_base::parts::Pod;
-use wincode_base::sizes::meta_of_form;
+use wincode_base::sizes::form_meta;
 use wincode_io as io;
 use wincode_io::{Lending, Reader, ZeroCopy, see_bytes};
 
@@ -56,7 +56,7 @@ impl<L: Lending, T: ZeroCopy> SchemaRead<L> for Pod<T> {
     ghost reading = { pod_read T.is_valid T.size T.form };
 
     fn type_meta() -> TypeMeta {
-        meta_of_form::<T>(true)
+        form_meta::<T>(true)
     }
 
     fn prealloc_size() -> usize {

@@ -19,7 +19,7 @@ use std::alloc::Global;
 use wincode_base::error::ReadResult;
 use wincode_base::meta::TypeMeta;
 use wincode_base::parts::Members2;
-use wincode_base::sizes::joined_meta;
+use wincode_base::sizes::pair_meta;
 use wincode_io::{Lending, Reader};
 
 /// What is made of its members, given as pairs in pairs.
@@ -57,7 +57,7 @@ impl<L: Lending, A: SchemaRead<L>, B: SchemaRead<L>> SchemaRead<L> for Members2<
     ghost reading = { pair_read A.reading B.reading };
 
     fn type_meta() -> TypeMeta {
-        joined_meta(A::type_meta(), B::type_meta())
+        pair_meta(A::type_meta(), B::type_meta())
     }
 
     fn prealloc_size() -> usize {

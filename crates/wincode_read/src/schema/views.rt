@@ -23,7 +23,7 @@ use std::alloc::Global;
 use wincode_base::error::{ReadResult, read_length_encoding_overflow};
 use wincode_base::meta::TypeMeta;
 use wincode_base::reader::take_number;
-use wincode_base::sizes::meta_of_form;
+use wincode_base::sizes::form_meta;
 use wincode_io as io;
 use wincode_io::{Borrowed, Lending, Reader, SliceView, View, ZeroCopy, total_size};
 
@@ -77,7 +77,7 @@ impl<L: Lending, B: Borrowed<L>, T: ZeroCopy> SchemaRead<L> for View<B, T> {
     ghost reading = { view_read T.is_valid T.size T.form B.borrow };
 
     fn type_meta() -> TypeMeta {
-        meta_of_form::<T>(false)
+        form_meta::<T>(false)
     }
 
     fn prealloc_size() -> usize {

@@ -15,7 +15,7 @@ use crate::schema::to_items::{sizes_of_items, write_apart};
 use wincode_base::error::WriteResult;
 use wincode_base::meta::TypeMeta;
 use wincode_base::parts::Items;
-use wincode_base::sizes::size_of_items;
+use wincode_base::sizes::times_meta;
 use wincode_io::Writer;
 
 impl<T: SchemaWrite, const N: usize> SchemaWrite for Items<T, N> {
@@ -30,7 +30,7 @@ impl<T: SchemaWrite, const N: usize> SchemaWrite for Items<T, N> {
     ghost writing = { array_write N T.writing };
 
     fn type_meta() -> TypeMeta {
-        size_of_items(N, T::type_meta())
+        times_meta(N, T::type_meta())
     }
 
     fn size_of(src: &[T::Src; N]) -> WriteResult<usize> {
@@ -38,7 +38,7 @@ impl<T: SchemaWrite, const N: usize> SchemaWrite for Items<T, N> {
     }
 
     fn write<W: Writer>(writer: &mut W, src: &[T::Src; N]) -> WriteResult<()> {
-        match size_of_items(N, T::type_meta()) {
+        match times_meta(N, T::type_meta()) {
             TypeMeta::Static { .. } => T::write_items::<W>(writer, src.as_slice()),
             TypeMeta::Dynamic => write_apart::<T, W>(writer, src.as_slice()),
         }

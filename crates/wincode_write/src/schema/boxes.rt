@@ -6,7 +6,7 @@ use crate::schema::SchemaWrite;
 use std::rc::Rc;
 use wincode_base::error::WriteResult;
 use wincode_base::meta::TypeMeta;
-use wincode_base::sizes::boxed_meta;
+use wincode_base::sizes::reference_meta;
 use wincode_io::Writer;
 
 /// A `Box` is written and read as what it holds.
@@ -22,7 +22,7 @@ impl<T: SchemaWrite> SchemaWrite for Box<T> {
     ghost writing = { boxed_write T.writing };
 
     fn type_meta() -> TypeMeta {
-        boxed_meta(T::type_meta())
+        reference_meta(T::type_meta())
     }
 
     fn size_of(src: &Box<T::Src>) -> WriteResult<usize> {
@@ -73,7 +73,7 @@ impl<T: SchemaWrite> SchemaWrite for Rc<T> {
     ghost writing = { boxed_write T.writing };
 
     fn type_meta() -> TypeMeta {
-        boxed_meta(T::type_meta())
+        reference_meta(T::type_meta())
     }
 
     fn size_of(src: &Rc<T::Src>) -> WriteResult<usize> {

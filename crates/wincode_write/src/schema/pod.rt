@@ -10,7 +10,7 @@ use crate::schema::as_forms::encode_form;
 use wincode_base::error::{WriteResult, write_length_encoding_overflow};
 use wincode_base::meta::TypeMeta;
 use wincode_base::parts::Pod;
-use wincode_base::sizes::meta_of_form;
+use wincode_base::sizes::form_meta;
 use wincode_io as io;
 use wincode_io::bulk::write_forms;
 use wincode_io::{Writer, ZeroCopy};
@@ -39,7 +39,7 @@ impl<T: ZeroCopy> SchemaWrite for Pod<T> {
     ghost writing = { form_write T.is_valid T.size T.form true (form_prealloc T.size) };
 
     fn type_meta() -> TypeMeta {
-        meta_of_form::<T>(true)
+        form_meta::<T>(true)
     }
 
     fn size_of(_src: &T) -> WriteResult<usize> {

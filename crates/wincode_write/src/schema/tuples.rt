@@ -29,7 +29,7 @@ pub use crate::schema::tuples::shorter::{
 use wincode_base::error::WriteResult;
 use wincode_base::meta::TypeMeta;
 use wincode_base::parts::{Member, Members2};
-use wincode_base::sizes::{joined_meta, joined_size};
+use wincode_base::sizes::{joined_size, pair_meta};
 use wincode_io::Writer;
 
 impl<A: SchemaWrite, B: SchemaWrite> SchemaWrite for Members2<A, B> {
@@ -44,7 +44,7 @@ impl<A: SchemaWrite, B: SchemaWrite> SchemaWrite for Members2<A, B> {
     ghost writing = { pair_write A.writing B.writing };
 
     fn type_meta() -> TypeMeta {
-        joined_meta(A::type_meta(), B::type_meta())
+        pair_meta(A::type_meta(), B::type_meta())
     }
 
     fn size_of(src: &(A::Src, B::Src)) -> WriteResult<usize> {

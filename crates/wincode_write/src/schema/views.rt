@@ -13,7 +13,7 @@ use wincode_base::error::{WriteResult, write_length_encoding_overflow};
 use wincode_base::len::{BincodeLen, NO_LIMIT};
 use wincode_base::meta::TypeMeta;
 use wincode_base::parts::Pod;
-use wincode_base::sizes::meta_of_form;
+use wincode_base::sizes::form_meta;
 use wincode_io::{Held, SharedBytes, SliceView, View, Writer, ZeroCopy, see_bytes};
 
 /// A `Ref` is written as the form that it views.
@@ -29,7 +29,7 @@ impl<B: SharedBytes, T: ZeroCopy> SchemaWrite for View<B, T> {
     ghost writing = { form_write T.is_valid T.size T.form false 8 };
 
     fn type_meta() -> TypeMeta {
-        meta_of_form::<T>(false)
+        form_meta::<T>(false)
     }
 
     fn size_of(src: &View<B, T>) -> WriteResult<usize> {

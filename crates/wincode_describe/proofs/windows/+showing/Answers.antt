@@ -45,14 +45,14 @@ pub show_array-returns-in_err-window-in-Static : goal.show_array-returns-in_err-
 show_array-returns-in_err-window-in-Static g m c =
     let d = c.args.item.now in
     let n = c.args.n in
-    let is = ap (times_meta n) (sym c.type_meta.ensures) ∙ sym c.size_of_items.ensures ∙ c.in-Static.is in
+    let is = ap (times_meta n) (sym c.type_meta.ensures) ∙ sym c.times_meta.ensures ∙ c.in-Static.is in
     show_refused (shown_read joined (windowed_read (array_read n (described_read d)))) _ _ _ _ c.from_residual.ensures (array_unwindowed (described_laws d) n _ _ is _ _ (reading.Io c.in_err-window-in-Static.field-0.0) c.in_err-window-in-Static.ensures.err) (began_none g.S.PartSink.sink_laws _ _)
 
 pub show_array-returns-in_ok-window-in-Static : goal.show_array-returns-in_ok-window-in-Static
 show_array-returns-in_ok-window-in-Static g m c =
     let d = c.args.item.now in
     let n = c.args.n in
-    let is = ap (times_meta n) (sym c.type_meta.ensures) ∙ sym c.size_of_items.ensures ∙ c.in-Static.is in
+    let is = ap (times_meta n) (sym c.type_meta.ensures) ∙ sym c.times_meta.ensures ∙ c.in-Static.is in
     let w = c.in_ok-window-in-Static.ensures.ok in
     show_as g.S.PartSink.sink_laws (shown_read joined (array_read n (described_read d))) (shown_read joined (windowed_read (array_read n (described_read d)))) _ _ c.show_items.result (behind_window _ _ _ _ w)
     (λ v x. array_window_gives (described_laws d) n _ _ is _ _ _ _ v w x) (λ e x. array_window_refused (described_laws d) n _ _ is _ _ _ _ e w x) c.show_items.ensures

@@ -11,7 +11,7 @@ use std::alloc::Global;
 use wincode_base::error::ReadResult;
 use wincode_base::meta::TypeMeta;
 use wincode_base::parts::{Members9, Members10, Members11, Members12};
-use wincode_base::sizes::joined_meta;
+use wincode_base::sizes::pair_meta;
 use wincode_io::{Lending, Reader};
 
 /// Puts the values of 9 members that stand one after another over those in the places, where these bytes are all of
@@ -235,7 +235,7 @@ impl<
         (pair_read F.reading (pair_read G.reading (pair_read H.reading I.reading)))))))) };
 
     fn type_meta() -> TypeMeta {
-        joined_meta(
+        pair_meta(
             A::type_meta(),
             <(B, C, D, E, F, G, H, I) as SchemaRead<L>>::type_meta(),
         )
@@ -355,7 +355,7 @@ impl<
         (pair_read F.reading (pair_read G.reading (pair_read H.reading (pair_read I.reading J.reading))))))))) };
 
     fn type_meta() -> TypeMeta {
-        joined_meta(
+        pair_meta(
             A::type_meta(),
             <(B, C, D, E, F, G, H, I, J) as SchemaRead<L>>::type_meta(),
         )
@@ -478,7 +478,7 @@ impl<
         (pair_read F.reading (pair_read G.reading (pair_read H.reading (pair_read I.reading (pair_read J.reading K.reading)))))))))) };
 
     fn type_meta() -> TypeMeta {
-        joined_meta(
+        pair_meta(
             A::type_meta(),
             <(B, C, D, E, F, G, H, I, J, K) as SchemaRead<L>>::type_meta(),
         )
@@ -611,7 +611,7 @@ impl<
         (pair_read K.reading M.reading))))))))))) };
 
     fn type_meta() -> TypeMeta {
-        joined_meta(
+        pair_meta(
             A::type_meta(),
             <(B, C, D, E, F, G, H, I, J, K, M) as SchemaRead<L>>::type_meta(),
         )

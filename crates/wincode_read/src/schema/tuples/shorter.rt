@@ -11,7 +11,7 @@ use std::alloc::Global;
 use wincode_base::error::ReadResult;
 use wincode_base::meta::TypeMeta;
 use wincode_base::parts::{Members2, Members3, Members4, Members5, Members6, Members7, Members8};
-use wincode_base::sizes::joined_meta;
+use wincode_base::sizes::pair_meta;
 use wincode_io::{Lending, Reader};
 
 /// Puts the values of 2 members that stand one after another over those in the places, where these bytes are all of
@@ -222,7 +222,7 @@ impl<L: Lending, A: SchemaRead<L>, B: SchemaRead<L>> SchemaRead<L> for (A, B) {
     ghost reading = { windowed_read (pair_read A.reading B.reading) };
 
     fn type_meta() -> TypeMeta {
-        joined_meta(A::type_meta(), B::type_meta())
+        pair_meta(A::type_meta(), B::type_meta())
     }
 
     fn prealloc_size() -> usize {
@@ -294,7 +294,7 @@ impl<L: Lending, A: SchemaRead<L>, B: SchemaRead<L>, C: SchemaRead<L>> SchemaRea
     ghost reading = { windowed_read (pair_read A.reading (pair_read B.reading C.reading)) };
 
     fn type_meta() -> TypeMeta {
-        joined_meta(A::type_meta(), <(B, C) as SchemaRead<L>>::type_meta())
+        pair_meta(A::type_meta(), <(B, C) as SchemaRead<L>>::type_meta())
     }
 
     fn prealloc_size() -> usize {
@@ -368,7 +368,7 @@ impl<L: Lending, A: SchemaRead<L>, B: SchemaRead<L>, C: SchemaRead<L>, D: Schema
     ghost reading = { windowed_read (pair_read A.reading (pair_read B.reading (pair_read C.reading D.reading))) };
 
     fn type_meta() -> TypeMeta {
-        joined_meta(A::type_meta(), <(B, C, D) as SchemaRead<L>>::type_meta())
+        pair_meta(A::type_meta(), <(B, C, D) as SchemaRead<L>>::type_meta())
     }
 
     fn prealloc_size() -> usize {
@@ -453,7 +453,7 @@ impl<
     ghost reading = { windowed_read (pair_read A.reading (pair_read B.reading (pair_read C.reading (pair_read D.reading E.reading)))) };
 
     fn type_meta() -> TypeMeta {
-        joined_meta(A::type_meta(), <(B, C, D, E) as SchemaRead<L>>::type_meta())
+        pair_meta(A::type_meta(), <(B, C, D, E) as SchemaRead<L>>::type_meta())
     }
 
     fn prealloc_size() -> usize {
@@ -543,7 +543,7 @@ impl<
         (pair_read E.reading F.reading))))) };
 
     fn type_meta() -> TypeMeta {
-        joined_meta(
+        pair_meta(
             A::type_meta(),
             <(B, C, D, E, F) as SchemaRead<L>>::type_meta(),
         )
@@ -638,7 +638,7 @@ impl<
         (pair_read F.reading G.reading)))))) };
 
     fn type_meta() -> TypeMeta {
-        joined_meta(
+        pair_meta(
             A::type_meta(),
             <(B, C, D, E, F, G) as SchemaRead<L>>::type_meta(),
         )
@@ -745,7 +745,7 @@ impl<
         (pair_read F.reading (pair_read G.reading H.reading))))))) };
 
     fn type_meta() -> TypeMeta {
-        joined_meta(
+        pair_meta(
             A::type_meta(),
             <(B, C, D, E, F, G, H) as SchemaRead<L>>::type_meta(),
         )

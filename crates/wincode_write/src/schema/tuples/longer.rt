@@ -15,7 +15,7 @@ use crate::schema::tuples::shorter::size_of_members_8;
 use wincode_base::error::WriteResult;
 use wincode_base::meta::TypeMeta;
 use wincode_base::parts::{Member, Members9, Members10, Members11, Members12};
-use wincode_base::sizes::{joined_meta, joined_size};
+use wincode_base::sizes::{joined_size, pair_meta};
 use wincode_io::Writer;
 
 /// The size of 9 members, each seen by a schema of its own: that of a tuple of them.
@@ -168,7 +168,7 @@ impl<
         (pair_write F.writing (pair_write G.writing (pair_write H.writing I.writing)))))))) };
 
     fn type_meta() -> TypeMeta {
-        joined_meta(
+        pair_meta(
             A::type_meta(),
             <(B, C, D, E, F, G, H, I) as SchemaWrite>::type_meta(),
         )
@@ -381,7 +381,7 @@ impl<
         (pair_write F.writing (pair_write G.writing (pair_write H.writing (pair_write I.writing J.writing))))))))) };
 
     fn type_meta() -> TypeMeta {
-        joined_meta(
+        pair_meta(
             A::type_meta(),
             <(B, C, D, E, F, G, H, I, J) as SchemaWrite>::type_meta(),
         )
@@ -605,7 +605,7 @@ impl<
         (pair_write F.writing (pair_write G.writing (pair_write H.writing (pair_write I.writing (pair_write J.writing K.writing)))))))))) };
 
     fn type_meta() -> TypeMeta {
-        joined_meta(
+        pair_meta(
             A::type_meta(),
             <(B, C, D, E, F, G, H, I, J, K) as SchemaWrite>::type_meta(),
         )
@@ -847,7 +847,7 @@ impl<
         (pair_write K.writing M.writing))))))))))) };
 
     fn type_meta() -> TypeMeta {
-        joined_meta(
+        pair_meta(
             A::type_meta(),
             <(B, C, D, E, F, G, H, I, J, K, M) as SchemaWrite>::type_meta(),
         )

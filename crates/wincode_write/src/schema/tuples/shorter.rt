@@ -16,7 +16,7 @@ use wincode_base::meta::TypeMeta;
 use wincode_base::parts::{
     Member, Members2, Members3, Members4, Members5, Members6, Members7, Members8,
 };
-use wincode_base::sizes::{joined_meta, joined_size};
+use wincode_base::sizes::{joined_size, pair_meta};
 use wincode_io::Writer;
 
 /// The size of 2 members, each seen by a schema of its own: that of a tuple of them.
@@ -71,7 +71,7 @@ impl<A: SchemaWrite, B: SchemaWrite> SchemaWrite for (A, B) {
     ghost writing = { windowed_write (pair_write A.writing B.writing) };
 
     fn type_meta() -> TypeMeta {
-        joined_meta(A::type_meta(), B::type_meta())
+        pair_meta(A::type_meta(), B::type_meta())
     }
 
     fn size_of(src: &Self::Src) -> WriteResult<usize> {
@@ -166,7 +166,7 @@ impl<A: SchemaWrite, B: SchemaWrite, C: SchemaWrite> SchemaWrite for (A, B, C) {
     ghost writing = { windowed_write (pair_write A.writing (pair_write B.writing C.writing)) };
 
     fn type_meta() -> TypeMeta {
-        joined_meta(A::type_meta(), <(B, C) as SchemaWrite>::type_meta())
+        pair_meta(A::type_meta(), <(B, C) as SchemaWrite>::type_meta())
     }
 
     fn size_of(src: &Self::Src) -> WriteResult<usize> {
@@ -264,7 +264,7 @@ impl<A: SchemaWrite, B: SchemaWrite, C: SchemaWrite, D: SchemaWrite> SchemaWrite
     ghost writing = { windowed_write (pair_write A.writing (pair_write B.writing (pair_write C.writing D.writing))) };
 
     fn type_meta() -> TypeMeta {
-        joined_meta(A::type_meta(), <(B, C, D) as SchemaWrite>::type_meta())
+        pair_meta(A::type_meta(), <(B, C, D) as SchemaWrite>::type_meta())
     }
 
     fn size_of(src: &Self::Src) -> WriteResult<usize> {
@@ -372,7 +372,7 @@ impl<A: SchemaWrite, B: SchemaWrite, C: SchemaWrite, D: SchemaWrite, E: SchemaWr
     ghost writing = { windowed_write (pair_write A.writing (pair_write B.writing (pair_write C.writing (pair_write D.writing E.writing)))) };
 
     fn type_meta() -> TypeMeta {
-        joined_meta(A::type_meta(), <(B, C, D, E) as SchemaWrite>::type_meta())
+        pair_meta(A::type_meta(), <(B, C, D, E) as SchemaWrite>::type_meta())
     }
 
     fn size_of(src: &Self::Src) -> WriteResult<usize> {
@@ -503,7 +503,7 @@ impl<
         (pair_write E.writing F.writing))))) };
 
     fn type_meta() -> TypeMeta {
-        joined_meta(
+        pair_meta(
             A::type_meta(),
             <(B, C, D, E, F) as SchemaWrite>::type_meta(),
         )
@@ -667,7 +667,7 @@ impl<
         (pair_write F.writing G.writing)))))) };
 
     fn type_meta() -> TypeMeta {
-        joined_meta(
+        pair_meta(
             A::type_meta(),
             <(B, C, D, E, F, G) as SchemaWrite>::type_meta(),
         )
@@ -853,7 +853,7 @@ impl<
         (pair_write F.writing (pair_write G.writing H.writing))))))) };
 
     fn type_meta() -> TypeMeta {
-        joined_meta(
+        pair_meta(
             A::type_meta(),
             <(B, C, D, E, F, G, H) as SchemaWrite>::type_meta(),
         )
