@@ -1,8 +1,9 @@
 -- What a source is to contracts.
-use Rattle.std.specs.Prelude.{◌≡◌, ℕ, ◌<◌, Bool, List, [], ◌++◌, length, IsTrue}
+use Rattle.std.specs.Prelude.{◌≡◌, ℕ, ◌<◌, Bool, true, List, [], ◌++◌, length, IsTrue}
 use Rattle.std.specs.IoError.{error_kind}
 use Rattle.std.specs.declared.io.Error.{Error}
 use Rattle.std.specs.declared.io.ErrorKind.{ErrorKind}
+use Rattle.std.specs.declared.io.ErrorKind.TheVariants.{Other}
 
 -- the bytes that will come, how often the source failed and of what kind the last failure was, and whether what is said
 -- of its bytes holds
@@ -11,6 +12,10 @@ pub record SourceState : Type 0 where
   pub failures : ℕ
   pub last : ErrorKind
   pub is_known : Bool
+
+-- a source of these bytes of memory, which hasn't failed
+abbrev pub of_memory : List ℕ → SourceState
+of_memory bytes = record { coming = bytes; failures = 0; last = Other; is_known = true }
 
 -- It gave these bytes, of which there was room for so many: none, where there was room, only at the end. That is no
 -- failure.

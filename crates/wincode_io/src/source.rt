@@ -1,8 +1,8 @@
 //! Sources of bytes.
 ghost use Rattle.std.specs.Prelude.{◌≤◌, length, take, IfOk, IfErr};
-ghost use Rattle.wincode_io.specs.Sources.{SourceState, Gave, Failed};
+ghost use Rattle.wincode_io.specs.Sources.{SourceState, of_memory, Gave, Failed};
 
-use std::io;
+use std::io::{self, Read};
 
 /// Gives bytes in pieces, of whatever lengths, until it ends or fails.
 pub trait Source {
@@ -16,4 +16,13 @@ pub trait Source {
         ensures within { IfOk result (λ n. n ≤ length buf.new) }
         ensures ok { IfOk result (λ n. Gave (length buf.old) (take n buf.new) (state self.old) (state self.new)) }
         ensures err { IfErr result (Failed (state self.old) (state self.new)) };
+}
+
+/// Bytes of memory, in one piece or as many as they are asked for in. It never fails.
+impl<'a> Source for &'a [u8] {
+    ghost state = { λ s. of_memory s.now };
+
+    fn read_some(&mut self, buf: &mut [u8]) -> io::Result<usize> {
+        self.read(buf)
+    }
 }

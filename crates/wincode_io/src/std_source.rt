@@ -1,5 +1,6 @@
 //! std's readers as sources.
 ghost use Rattle.std.specs.Prelude.{◌≡◌};
+ghost use Rattle.std.specs.declared.io.ErrorKind.TheVariants.{Other};
 ghost use Rattle.wincode_io.specs.StdSources.{std_state};
 
 use super::source::Source;
@@ -34,7 +35,7 @@ impl<R: Read> Model for StdSource<R> {
 impl<R: Read> StdSource<R> {
     /// The bytes that this reader will give.
     pub fn new(inner: R) -> Self
-        ensures { result ≡ record { inner = inner; first = inner; failures = 0; last = io::ErrorKind.Other } }
+        ensures { result ≡ record { inner = inner; first = inner; failures = 0; last = Other } }
     {
         let first = Snapshot::of(&inner);
         StdSource {

@@ -231,7 +231,7 @@ impl<L: Lending, S: Source> Reader<L> for StreamReader<S> {
         ensures shown { IfOk result (λ s. IsShown n (stream_state S.state self.old) s.now) }
         ensures* fills { sem 𝓛 (Rests (stream-row S.row S.Source) self.entry
             (λ new. Fills ⊥ n (λ s. length s.now) (stream_state S.state self.old) (stream_state S.state new) result
-                × Asks n 0 self.old new × OnOk result (IsFetched n new) × IfErr result (StreamRefused S.state n self.old new))) }
+            × Asks n 0 self.old new × OnOk result (IsFetched n new) × IfErr result (StreamRefused S.state n self.old new))) }
     {
         self.fetch(n)?;
         let bytes = self.buffer.as_slice();
@@ -243,7 +243,7 @@ impl<L: Lending, S: Source> Reader<L> for StreamReader<S> {
         ensures shown { IfOk result (λ s. (length s.now ≡ n) × IsShown n (stream_state S.state self.old) s.now) }
         ensures* fills { sem 𝓛 (Rests (stream-row S.row S.Source) self.entry
             (λ new. Fills (IsShort n (stream_state S.state self.old)) n (λ s. length s.now) (stream_state S.state self.old) (stream_state S.state new) result
-                × Asks n 0 self.old new × IfErr result (StreamRefused S.state n self.old new))) }
+            × Asks n 0 self.old new × IfErr result (StreamRefused S.state n self.old new))) }
     {
         self.fetch(n)?;
         let ready = self.buffer.as_slice();
@@ -257,7 +257,7 @@ impl<L: Lending, S: Source> Reader<L> for StreamReader<S> {
         ensures shown { IfOk result (λ b. IsPeeked (stream_state S.state self.old) b.now) }
         ensures* fills { sem 𝓛 (Rests (stream-row S.row S.Source) self.entry
             (λ new. Fills (IsShort 1 (stream_state S.state self.old)) 1 (λ s. 1) (stream_state S.state self.old) (stream_state S.state new) result
-                × Asks 1 0 self.old new × IfErr result (StreamRefused S.state 1 self.old new))) }
+            × Asks 1 0 self.old new × IfErr result (StreamRefused S.state 1 self.old new))) }
     {
         let bytes = <Self as Reader<L>>::fill_exact(self, 1)?;
         Ok(&bytes[0])

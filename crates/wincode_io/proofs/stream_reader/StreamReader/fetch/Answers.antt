@@ -1,4 +1,4 @@
-use Rattle.std.proofs.Common.{rules, arith}
+use Rattle.std.proofs.Common.{rules}
 use Rattle.std.proofs.lemmas.Result.{err_from_is_err_and}
 use Rattle.wincode_io.proofs.Refusals.{refused_on, stream_refused_on}
 use Rattle.wincode_io.proofs.stream_reader.StreamReader.fetch.Goals as goal
