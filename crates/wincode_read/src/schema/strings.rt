@@ -172,12 +172,14 @@ fn front_text(alloc: Global, bytes: &[u8]) -> Option<Option<(String, usize)>>
     Some(Some((copy, 8 + n)))
 }
 
-/// Refuses a text of `n` bytes, for which there was no memory.
-fn refuse_bytes<L: Lending, R: Reader<L>>(reader: &mut R, n: usize) -> ReadResult<String>
-    ensures { GetOutcome (body_read n 0 false) (λ s. string_bytes s) (R.state reader.old) (R.state reader.new) result }
+/// Why the next `n` bytes are refused, for which there was no memory.
+fn refused_bytes<L: Lending, R: Reader<L>>(reader: &mut R, n: usize) -> ReadError
+    ensures { StrBytesReadRefused ⊥ ⊤ n (R.state reader.old) (R.state reader.new) result }
 {
-    reader.fill_exact(n)?;
-    Err(ReadError::OutOfMemory)
+    match reader.fill_exact(n) {
+        Ok(_) => ReadError::OutOfMemory,
+        Err(error) => ReadError::Io(error),
+    }
 }
 
 /// Refuses the text in front, for which there was no memory, behind its length.
@@ -186,7 +188,7 @@ fn refuse_text<L: Lending, R: Reader<L>>(reader: &mut R) -> ReadResult<String>
     ensures { GetOutcome (str_read 24 0 false) (λ s. string_bytes s) (R.state reader.old) (R.state reader.new) result }
 {
     let n = BincodeLen::<PREALLOCATION_LIMIT>::read::<L, R>(reader, 1)?;
-    refuse_bytes::<L, R>(reader, n)
+    Err(refused_bytes::<L, R>(reader, n))
 }
 
 /// The text at the front, behind its length, where all of it is at hand; it is refused where memory for it is. Else
