@@ -135,7 +135,7 @@ fn is_failure(error: &ReadError) -> bool
 
 /// Why nothing is read behind a refusal.
 fn refused_again(has_failed: bool) -> ReadError
-    ensures { IsRefusedAgain has_failed (Some (Err result)) }
+    ensures again { IsRefusedAgain has_failed (Some (Err result)) }
     ensures failure { is_failure result ≡ has_failed }
 {
     if has_failed {
