@@ -1,5 +1,5 @@
 -- What the next value of a source is.
-use Rattle.std.specs.Prelude.{◌≡◌, ◌<◌, ◌⊎◌, ℕ, Bool, true, false, length, IsTrue, Option, Some, Result, Err, OnOk, IfOk, IfErr}
+use Rattle.std.specs.Prelude.{◌≡◌, ◌<◌, ◌⊎◌, Bool, true, false, length, IsTrue, Result, OnOk, IfOk, IfErr}
 use Rattle.std.specs.IoError.{error_kind}
 use Rattle.std.specs.declared.io.ErrorKind.TheVariants.{Other}
 use Rattle.wincode_io.specs.Readers.{ReaderState, Stays, BytesReadRefused}
@@ -45,7 +45,7 @@ Remembers new r = OnOk r (new.is_refused ≡ false) × IfErr r (λ e. IsTrue new
 
 -- The answer behind a refusal: a failure of kind Other behind one of the source, and else that the place of the next value
 -- isn't known.
-abbrev pub IsRefusedAgain : {D : Type 0} → Bool → Option (Result D ReadError) → Type 0
-IsRefusedAgain true (Some (Err (reading.Io (reader.Io e)))) = error_kind e ≡ Other
-IsRefusedAgain false (Some (Err (reading.Custom text))) = Unit {0}
-IsRefusedAgain _ _ = ⊥
+abbrev pub RefusedAgain : Bool → ReadError → Type 0
+RefusedAgain true (reading.Io (reader.Io e)) = error_kind e ≡ Other
+RefusedAgain false (reading.Custom text) = Unit {0}
+RefusedAgain _ _ = ⊥

@@ -1,10 +1,10 @@
 //! The values of a source, one after another.
-ghost use Rattle.std.specs.Prelude.{◌≡◌, [], false, Some, Err, IfOk, IfErr, IfSome, IsNone, IsTrue};
+ghost use Rattle.std.specs.Prelude.{◌≡◌, [], false, IsErrAnd, IfOk, IfErr, IfSome, IsSomeAnd, IsNone, IsTrue};
 ghost use Rattle.wincode_base.specs.declared.error.ReadError.TheVariants as reading;
 ghost use Rattle.wincode_io.specs.Readers.{Stays};
 ghost use Rattle.wincode_io.specs.Streams.{stream_state};
 ghost use Rattle.wincode_io.specs.declared.error.ReadError.TheVariants as reader;
-ghost use Rattle.wincode.specs.Messages.{NextOutcome, Remembers, IsRefusedAgain, is_failure};
+ghost use Rattle.wincode.specs.Messages.{NextOutcome, Remembers, RefusedAgain, is_failure};
 
 use crate::io::{self, Lifetime, Reader, Source, StreamReader};
 use crate::markers::SchemaReadOwned;
@@ -86,7 +86,7 @@ impl<S: Source, T: SchemaReadOwned<Lifetime<'static>>> Messages<S, T> {
     /// Behind an error nothing more is read, since the next value begins at no known place: each call is
     /// `Io(Io(e))` of kind Other behind a failure of the source, and else `Custom`. `into_reader` goes on.
     pub fn next(&mut self) -> Option<ReadResult<T::Dst>>
-        ensures again { IsTrue self.old.is_refused → (self.new ≡ self.old) × IsRefusedAgain self.old.has_failed result }
+        ensures again { IsTrue self.old.is_refused → (self.new ≡ self.old) × IsSomeAnd result (λ r. IsErrAnd r (RefusedAgain self.old.has_failed)) }
         ensures none { IsNone result → (self.new.is_refused ≡ false) × Stays (stream_state S.state self.old.reader) (stream_state S.state self.new.reader)
             × (IsTrue (stream_state S.state self.old.reader).is_known → (stream_state S.state self.old.reader).rest ≡ []) }
         ensures some { self.old.is_refused ≡ false → IfSome result (NextOutcome T.SchemaRead.reading T.SchemaRead.model (stream_state S.state self.old.reader) (stream_state S.state self.new.reader)) }
@@ -135,7 +135,7 @@ fn is_failure(error: &ReadError) -> bool
 
 /// Why nothing is read behind a refusal.
 fn refused_again(has_failed: bool) -> ReadError
-    ensures again { IsRefusedAgain has_failed (Some (Err result)) }
+    ensures again { RefusedAgain has_failed result }
     ensures failure { is_failure result ≡ has_failed }
 {
     if has_failed {
