@@ -1,5 +1,6 @@
 //! The value in front of what comes of a source.
-ghost use Rattle.std.specs.Prelude.{[], IfOk, IfErr, IsTrue};
+ghost use Rattle.std.specs.Prelude.{◌≡◌, false, [], IfOk, IfErr, IsTrue};
+ghost use Rattle.wincode.specs.Messages.{is_failure};
 ghost use Rattle.wincode_base.specs.Outcomes.{Found};
 ghost use Rattle.wincode_io.specs.Streams.{stream_state, streaming};
 ghost use Rattle.example_schemas.specs.Fronts.{IsNotRead};
@@ -23,4 +24,18 @@ pub fn read_front<L: Lending, S: Source + Drop, T: SchemaReadOwned<L, Dst = T>>(
     };
     let value = deserialize_from::<L, StreamReader<S>, T>(alloc, &mut reader)?;
     Ok((value, reader))
+}
+
+/// The value at the front of bytes of memory, read through a buffer. No failure is answered, since memory never fails.
+pub fn read_memory<'a, L: Lending, T: SchemaReadOwned<L, Dst = T>>(
+    alloc: Global,
+    bytes: &'a [u8],
+) -> ReadResult<T>
+    ensures { IfErr result (λ e. is_failure e ≡ false) }
+{
+    let mut reader = match StreamReader::new(alloc, bytes) {
+        Ok(reader) => reader,
+        Err(e) => return Err(ReadError::Io(e)),
+    };
+    deserialize_from::<L, StreamReader<&'a [u8]>, T>(alloc, &mut reader)
 }

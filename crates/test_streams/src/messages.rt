@@ -2,6 +2,7 @@
 use crate::pieces::in_pieces;
 use example_schemas::faults::Pieces;
 use std::alloc::Global;
+use std::io::ErrorKind;
 use std::test::Fail;
 use wincode::io::{self, Lifetime, StreamReader};
 use wincode::{Messages, ReadError, deserialize_from};
@@ -119,6 +120,47 @@ fn failing(rt: HostRuntime) -> Result<(), Fail> {
         let is_failure = matches!(&error, Some(ReadError::Io(io::ReadError::Io(_))));
         assert!(rt; n == 4 && is_failure);
     }
+    Ok(())
+}
+
+/// A body of 16 bytes of which a byte comes before the source fails, or ends.
+fn cut_body(alloc: Global, fails: bool) -> Result<Messages<Pieces, Vec<u8>>, Fail> {
+    let bytes = [16u8, 0, 0, 0, 0, 0, 0, 0, 1, 0, 0, 0, 0, 0, 0, 0, 77];
+    Ok(Messages::new(alloc, in_pieces(alloc, &bytes, 17, fails)?)?)
+}
+
+/// Behind a failure of the source nothing is read of what came of half a message.
+#[test]
+fn behind_a_failure(rt: HostRuntime) -> Result<(), Fail> {
+    let mut messages = cut_body(rt.alloc(), true)?;
+    for _ in 0..3u8 {
+        let Some(Err(ReadError::Io(io::ReadError::Io(e)))) = messages.next() else {
+            panic!(rt; "no failure");
+        };
+        assert!(rt; e.kind() == ErrorKind::Other);
+    }
+    assert_eq!(rt; messages.into_reader().unread().len(), 9);
+    Ok(())
+}
+
+/// Nor behind any other refusal, unless the caller says where to go on.
+#[test]
+fn behind_a_refusal(rt: HostRuntime) -> Result<(), Fail> {
+    let alloc = rt.alloc();
+    let mut messages = cut_body(alloc, false)?;
+    let first = messages.next();
+    assert!(rt; matches!(&first, Some(Err(ReadError::Io(io::ReadError::ReadSizeLimit(16))))));
+    for _ in 0..3u8 {
+        assert!(rt; matches!(&messages.next(), Some(Err(ReadError::Custom(_)))));
+    }
+    let reader = messages.into_reader();
+    assert_eq!(rt; reader.unread().len(), 9);
+    let mut more = Messages::<Pieces, Vec<u8>>::of_reader(alloc, reader);
+    let Some(Ok(body)) = more.next() else {
+        panic!(rt; "no message");
+    };
+    assert_eq!(rt; body.as_slice(), [77u8].as_slice());
+    assert!(rt; more.next().is_none());
     Ok(())
 }
 

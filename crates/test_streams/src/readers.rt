@@ -321,3 +321,119 @@ fn each_growth_refused(rt: HostRuntime) -> Result<(), Fail> {
     assert!(rt; r.into_source().into_inner().largest <= 8192);
     Ok(())
 }
+
+/// As many bytes as a mebibyte has, a hundred at a time, some of them by windows that stay: never more than 8191 are at
+/// hand beyond those, and memory is asked for as many and 8192.
+#[test]
+fn a_mebibyte_in_small_reads(rt: HostRuntime) -> Result<(), Fail> {
+    let alloc = rt.alloc();
+    let source = StdSource::new(Numbers {
+        given: 0,
+        size: 1_048_600,
+        largest: 0,
+    });
+    let mut r = StreamReader::new(alloc, source)?;
+    let mut windows = Vec::new(alloc);
+    let mut bytes = [0u8; 100];
+    for i in 0..10_486usize {
+        if i % 500 == 499 {
+            windows.push(window_of::<Any, NumberReader>(&mut r, 100)?)?;
+        } else {
+            <NumberReader as Reader<Any>>::copy_into_slice(&mut r, &mut bytes)?;
+            assert!(rt; counts_from(&bytes, i.wrapping_mul(100)));
+        }
+        assert!(rt; r.unread().len() <= 8191);
+        assert!(rt; r.capacity() <= 8291);
+    }
+    assert_eq!(rt; windows.len(), 20);
+    assert_eq!(rt; fill_buf::<Any, NumberReader>(&mut r, 1)?.len(), 0);
+    Ok(())
+}
+
+/// What is brought to hand, and the memory for it, of a call that needs more than the buffer has.
+#[test]
+fn a_long_call_takes_what_it_needs(rt: HostRuntime) -> Result<(), Fail> {
+    let mut r = number_reader(rt.alloc())?;
+    for n in [10usize, 9_000, 9_001, 20_000, 30_000] {
+        <NumberReader as Reader<Any>>::fill(&mut r, n)?;
+        assert!(rt; n <= r.unread().len() && r.unread().len() <= n.wrapping_add(8191));
+        assert!(rt; r.capacity() <= n.wrapping_add(8192));
+    }
+    <NumberReader as Reader<Any>>::consume(&mut r, 30_000)?;
+    assert!(rt; r.unread().len() <= 8191);
+    Ok(())
+}
+
+/// The kind of the failure that the call of this number answers, which needs three bytes; none where it succeeds.
+fn failure_of<R: Reader<Any>>(reader: &mut R, call: usize) -> ReadResult<Option<ErrorKind>> {
+    let mut bytes = [0u8; 3];
+    let mut form: Option<[u8; 3]> = None;
+    let answer = match call {
+        0 => reader.fill(3),
+        1 => reader.consume(3),
+        2 => reader.fill_buf(3).map(|_| ()),
+        3 => reader.fill_exact(3).map(|_| ()),
+        4 => reader.copy_into_slice(&mut bytes),
+        5 => reader.copy_into_t(&mut form),
+        6 => reader.copy_into_slice_t(&mut bytes),
+        7 => reader.as_trusted_for(3).map(|_| ()),
+        _ => reader.peek().map(|_| ()),
+    };
+    match answer {
+        Ok(()) => Ok(None),
+        Err(ReadError::Io(e)) => Ok(Some(e.kind())),
+        Err(e) => Err(e),
+    }
+}
+
+/// Where the source fails each call answers its error, and any call behind that `Io` of kind Other.
+#[test]
+fn each_call_at_a_failure(rt: HostRuntime) -> Result<(), Fail> {
+    for first in 0..9usize {
+        let mut r = StreamReader::new(rt.alloc(), StdSource::new(Broken { asked: 0 }))?;
+        assert!(rt; failure_of(&mut r, first)? == Some(ErrorKind::TimedOut));
+        for again in 0..9usize {
+            assert!(rt; failure_of(&mut r, again)? == Some(ErrorKind::Other));
+        }
+        assert_eq!(rt; r.into_source().into_inner().asked, 1);
+    }
+    Ok(())
+}
+
+/// Gives two bytes, then none, and counts.
+#[derive(Drop)]
+struct Two {
+    asked: usize,
+}
+
+impl Read for Two {
+    fn read(&mut self, buf: &mut [u8]) -> io::Result<usize> {
+        self.asked = self.asked.saturating_add(1);
+        if self.asked == 1 && 2 <= buf.len() {
+            buf[0] = 1;
+            buf[1] = 2;
+            return Ok(2);
+        }
+        Ok(0)
+    }
+}
+
+/// A source that has ended isn't asked again while bytes are at hand, whatever call comes.
+#[test]
+fn each_call_behind_the_end(rt: HostRuntime) -> Result<(), Fail> {
+    for first in 0..8usize {
+        let mut r = StreamReader::new(rt.alloc(), StdSource::new(Two { asked: 0 }))?;
+        for again in 0..8usize {
+            for call in [first, again] {
+                match failure_of(&mut r, call) {
+                    Ok(None) => {}
+                    Err(ReadError::ReadSizeLimit(n)) => assert_eq!(rt; n, 3),
+                    _ => panic!(rt; "another answer"),
+                }
+            }
+        }
+        assert_eq!(rt; r.unread(), [1u8, 2].as_slice());
+        assert_eq!(rt; r.into_source().into_inner().asked, 2);
+    }
+    Ok(())
+}

@@ -1,18 +1,33 @@
 -- What the next value of a source is.
-use Rattle.std.specs.Prelude.{◌<◌, ◌⊎◌, length, IsTrue, Result, IfOk, IfErr}
+use Rattle.std.specs.Prelude.{◌≡◌, ◌<◌, ◌⊎◌, Bool, true, false, length, IsTrue, Result, OnOk, IfOk, IfErr}
+use Rattle.std.specs.IoError.{error_kind}
+use Rattle.std.specs.declared.io.ErrorKind.TheVariants.{Other}
 use Rattle.wincode_io.specs.Readers.{ReaderState, Stays, BytesReadRefused}
+use Rattle.wincode_io.specs.Streams.{Streamed}
+use Rattle.wincode_io.specs.declared.error.ReadError.TheVariants as reader
 use Rattle.wincode_base.specs.Grammar.{ReadGrammar}
 use Rattle.wincode_base.specs.Outcomes.{Gives, SchemaReadRefused}
 use Rattle.wincode_base.specs.declared.error.ReadError.{ReadError}
 use Rattle.wincode_base.specs.declared.error.ReadError.TheVariants as reading
 
+-- the reader, whether a value was refused, and whether it was by a failure of the source
+pub record Progress (S : Type 0) : Type 0 where
+  pub reader : Streamed S
+  pub is_refused : Bool
+  pub has_failed : Bool
+
+-- the source failed
+abbrev pub is_failure : ReadError → Bool
+is_failure (reading.Io (reader.Io e)) = true
+is_failure _ = false
+
 -- a byte is left, where the bytes are known
 abbrev pub HasMore : ReaderState → Type 0
 HasMore s = IsTrue s.is_known → 0 < length s.rest
 
--- the reader couldn't bring a byte to hand, for memory or by its device
+-- none was at hand, and the reader couldn't bring a byte to hand, for memory or by its device
 abbrev pub NotBegun : ReaderState → ReaderState → ReadError → Type 0
-NotBegun old new (reading.Io e) = BytesReadRefused ⊥ ⊥ 1 old new e
+NotBegun old new (reading.Io e) = (old.ready ≡ 0) × BytesReadRefused ⊥ ⊥ 1 old new e
 NotBegun old new _ = ⊥
 
 -- a byte was brought to hand, and reading was refused as the schema says
@@ -23,3 +38,14 @@ Begun g old new e = (mid : ReaderState) × Stays old mid × SchemaReadRefused g 
 pub record NextOutcome {D V : Type 0} (g : ReadGrammar V) (model : D → V) (old new : ReaderState) (r : Result D ReadError) : Type 0 where
   pub ok : IfOk r (λ d. HasMore old × Gives g.reads old new (model d))
   pub refused : IfErr r (λ e. NotBegun old new e ⊎ (HasMore old × Begun g old new e))
+
+-- that a value was refused is remembered, and whether by a failure of the source
+abbrev pub Remembers : {S D : Type 0} → Progress S → Result D ReadError → Type 0
+Remembers new r = OnOk r (new.is_refused ≡ false) × IfErr r (λ e. IsTrue new.is_refused × (new.has_failed ≡ is_failure e))
+
+-- The answer behind a refusal: a failure of kind Other behind one of the source, and else that the place of the next value
+-- isn't known.
+abbrev pub RefusedAgain : Bool → ReadError → Type 0
+RefusedAgain true (reading.Io (reader.Io e)) = error_kind e ≡ Other
+RefusedAgain false (reading.Custom text) = Unit {0}
+RefusedAgain _ _ = ⊥

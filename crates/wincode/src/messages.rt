@@ -1,34 +1,38 @@
 //! The values of a source, one after another.
-ghost use Rattle.std.specs.Prelude.{◌≡◌, [], IfOk, IfErr, IfSome, IsNone, IsTrue};
+ghost use Rattle.std.specs.Prelude.{◌≡◌, [], false, IsErrAnd, IfOk, IfErr, IfSome, IsSomeAnd, IsNone, IsTrue};
 ghost use Rattle.wincode_base.specs.declared.error.ReadError.TheVariants as reading;
 ghost use Rattle.wincode_io.specs.Readers.{Stays};
 ghost use Rattle.wincode_io.specs.Streams.{stream_state};
 ghost use Rattle.wincode_io.specs.declared.error.ReadError.TheVariants as reader;
-ghost use Rattle.wincode.specs.Messages.{NextOutcome};
+ghost use Rattle.wincode.specs.Messages.{NextOutcome, Remembers, RefusedAgain, is_failure};
 
-use crate::io::{Lifetime, Reader, Source, StreamReader};
+use crate::io::{self, Lifetime, Reader, Source, StreamReader};
 use crate::markers::SchemaReadOwned;
 use crate::schema::{SchemaGet, SchemaRead};
 use std::alloc::Global;
+use std::io::ErrorKind;
 use std::marker::{Model, PhantomData};
 use wincode_base::error::{ReadError, ReadResult};
 
 /// The values of a source, one after another, to its end: those of a log or a snapshot file.
 ///
-/// `T` is their schema. To contracts it is the reader of the source.
+/// `T` is their schema. To contracts it is the reader of the source, whether a value was refused, and whether by a
+/// failure of the source.
 #[derive(Drop)]
 pub struct Messages<S: Source, T> {
     alloc: Global,
     reader: StreamReader<S>,
+    is_refused: bool,
+    has_failed: bool,
     values: PhantomData<T>,
 }
 
 impl<S: Source, T> Model for Messages<S, T> {
-    ghost use Rattle.wincode_io.specs.Streams.{Streamed};
+    ghost use Rattle.wincode.specs.Messages.{Progress};
 
-    ghost Value = { Streamed S };
+    ghost Value = { Progress S };
 
-    ghost view = { λ m. m.reader };
+    ghost view = { λ m. record { reader = m.reader; is_refused = m.is_refused; has_failed = m.has_failed } };
 }
 
 impl<S: Source, T> Messages<S, T> {
@@ -37,7 +41,7 @@ impl<S: Source, T> Messages<S, T> {
     pub fn new(alloc: Global, source: S) -> ReadResult<Self>
     where
         S: Drop,
-        ensures ok { IfOk result (λ m. (m.at_hand ≡ []) × (m.source ≡ source)) }
+        ensures ok { IfOk result (λ m. (m.reader.at_hand ≡ []) × (m.reader.source ≡ source) × (m.is_refused ≡ false)) }
         ensures err { IfErr result (λ e. e ≡ reading.Io reader.OutOfMemory) }
     {
         match StreamReader::new(alloc, source) {
@@ -48,22 +52,27 @@ impl<S: Source, T> Messages<S, T> {
 
     /// The values of what the reader has.
     pub fn of_reader(alloc: Global, reader: StreamReader<S>) -> Self
-        ensures { result ≡ reader }
+        ensures { result ≡ record { reader = reader; is_refused = false; has_failed = false } }
     {
         Messages {
             alloc,
             reader,
+            is_refused: false,
+            has_failed: false,
             values: PhantomData,
         }
     }
 
-    /// The reader, which stands behind the last value that was read.
+    /// The reader, which stands behind the last value that was read, or where reading was refused. What the next value
+    /// begins with only the caller can tell then: who does takes bytes from it, and goes on by `of_reader`.
     pub fn into_reader(self) -> StreamReader<S>
-        ensures { result ≡ self }
+        ensures { result ≡ self.reader }
     {
         let Messages {
             alloc: _,
             reader,
+            is_refused: _,
+            has_failed: _,
             values: _,
         } = self;
         reader
@@ -72,20 +81,65 @@ impl<S: Source, T> Messages<S, T> {
 
 impl<S: Source, T: SchemaReadOwned<Lifetime<'static>>> Messages<S, T> {
     /// The next value; none exactly where no byte is left where it would begin. A value that is cut off is
-    /// an error, as `get` of its schema says, and so is a source that fails. After an error the next call
-    /// begins where the reader then stands; after a failure of the source it fails again.
+    /// an error, as `get` of its schema says, and so is a source that fails.
+    ///
+    /// Behind an error nothing more is read, since the next value begins at no known place: each call is
+    /// `Io(Io(e))` of kind Other behind a failure of the source, and else `Custom`. `into_reader` goes on.
     pub fn next(&mut self) -> Option<ReadResult<T::Dst>>
-        ensures none { IsNone result → Stays (stream_state S.state self.old) (stream_state S.state self.new)
-            × (IsTrue (stream_state S.state self.old).is_known → (stream_state S.state self.old).rest ≡ []) }
-        ensures some { IfSome result (NextOutcome T.SchemaRead.reading T.SchemaRead.model (stream_state S.state self.old) (stream_state S.state self.new)) }
+        ensures again { IsTrue self.old.is_refused → (self.new ≡ self.old) × IsSomeAnd result (λ r. IsErrAnd r (RefusedAgain self.old.has_failed)) }
+        ensures none { IsNone result → (self.new.is_refused ≡ false) × Stays (stream_state S.state self.old.reader) (stream_state S.state self.new.reader)
+            × (IsTrue (stream_state S.state self.old.reader).is_known → (stream_state S.state self.old.reader).rest ≡ []) }
+        ensures some { self.old.is_refused ≡ false → IfSome result (NextOutcome T.SchemaRead.reading T.SchemaRead.model (stream_state S.state self.old.reader) (stream_state S.state self.new.reader)) }
+        ensures remembered { IfSome result (Remembers self.new) }
     {
-        let filled = <StreamReader<S> as Reader<Lifetime<'static>>>::fill(&mut self.reader, 1);
-        if let Err(error) = filled {
-            return Some(Err(ReadError::Io(error)));
+        if self.is_refused {
+            return Some(Err(refused_again(self.has_failed)));
         }
-        if self.reader.unread().is_empty() {
-            return None;
+        let next = next_of::<S, T>(self.alloc, &mut self.reader);
+        if let Some(Err(error)) = &next {
+            self.is_refused = true;
+            self.has_failed = is_failure(error);
         }
-        Some(T::get(self.alloc, &mut self.reader))
+        next
     }
+}
+
+/// The next value that the reader has; none where no byte is left.
+fn next_of<S: Source, T: SchemaReadOwned<Lifetime<'static>>>(
+    alloc: Global,
+    reader: &mut StreamReader<S>,
+) -> Option<ReadResult<T::Dst>>
+    ensures none { IsNone result → Stays (stream_state S.state reader.old) (stream_state S.state reader.new)
+        × (IsTrue (stream_state S.state reader.old).is_known → (stream_state S.state reader.old).rest ≡ []) }
+    ensures some { IfSome result (NextOutcome T.SchemaRead.reading T.SchemaRead.model (stream_state S.state reader.old) (stream_state S.state reader.new)) }
+{
+    let filled = <StreamReader<S> as Reader<Lifetime<'static>>>::fill(reader, 1);
+    if let Err(error) = filled {
+        return Some(Err(ReadError::Io(error)));
+    }
+    if reader.unread().is_empty() {
+        return None;
+    }
+    Some(T::get(alloc, reader))
+}
+
+/// Whether a source failed.
+fn is_failure(error: &ReadError) -> bool
+    ensures { result ≡ is_failure error.now }
+{
+    match error {
+        ReadError::Io(io::ReadError::Io(_)) => true,
+        _ => false,
+    }
+}
+
+/// Why nothing is read behind a refusal.
+fn refused_again(has_failed: bool) -> ReadError
+    ensures again { RefusedAgain has_failed result }
+    ensures failure { is_failure result ≡ has_failed }
+{
+    if has_failed {
+        return ReadError::Io(io::ReadError::Io(std::io::Error::from(ErrorKind::Other)));
+    }
+    ReadError::Custom("a value was refused, and where the next one begins is not known")
 }

@@ -6,4 +6,5 @@ pub mod Chunks
 pub mod Blocks
 pub mod Ranges
 pub mod Refusals
+pub mod Resting
 pub mod Took

@@ -17,4 +17,4 @@ abbrev pub IsUnread : SourceState → SourceState → ReadError → Type 0
 IsUnread old new (ReadSizeLimit n) = ⊥
 IsUnread old new UnsupportedZeroCopy = ⊥
 IsUnread old new OutOfMemory = new ≡ old
-IsUnread old new (Io e) = Failed old new
+IsUnread old new (Io e) = Failed old new e

@@ -1,16 +1,18 @@
 -- What a buffered reader is to contracts.
-use Rattle.std.specs.Prelude.{⊤, ◌≡◌, ℕ, ◌+◌, ◌≤◌, Bool, true, false, List, [], ◌++◌, length, IsTrue, None}
+use Rattle.std.specs.Prelude.{◌≡◌, ℕ, ◌+◌, ◌≤◌, ◌<◌, Bool, true, false, List, [], ◌++◌, length, drop, IsTrue, Result, Ok, Err, None}
 use Rattle.std.specs.IoError.{error_kind}
 use Rattle.std.specs.declared.io.ErrorKind.TheVariants.{Other}
+use Rattle.wincode_io.specs.Writers.{byte_limit}
 use Rattle.wincode_io.specs.declared.error.ReadError.{ReadError}
 use Rattle.wincode_io.specs.declared.error.ReadError.TheVariants.{ReadSizeLimit, UnsupportedZeroCopy, Io, OutOfMemory}
 use Rattle.wincode_io.specs.Readers.{ReaderState, nothing}
 use Rattle.wincode_io.specs.Sources.{SourceState}
 
--- bytes at hand, the source of those that follow them, and whether it has failed
+-- bytes at hand, the source of those that follow them, whether it has ended, and whether it has failed
 pub record Streamed (S : Type 0) : Type 0 where
   pub at_hand : List ℕ
   pub source : S
+  pub has_ended : Bool
   pub has_failed : Bool
 
 -- The bytes at hand, followed by those that will come.
@@ -24,26 +26,42 @@ stream_state state r = streaming r.at_hand (state r.source)
 abbrev pub IsOver : SourceState → Type 0
 IsOver s = IsTrue s.is_known → s.coming ≡ []
 
--- where 8192 bytes more than were asked for are at hand, they were before
-abbrev pub IsStepped : {S : Type 0} → ℕ → Streamed S → Streamed S → Type 0
-IsStepped n old new = n + 8192 ≤ length new.at_hand → length new.at_hand ≤ length old.at_hand
+-- the source was not asked, and the first k bytes at hand are gone
+pub record IsUnasked {S : Type 0} (k : ℕ) (old new : Streamed S) : Type 0 where
+  pub at_hand : new.at_hand ≡ drop k old.at_hand
+  pub source : new.source ≡ old.source
+  pub has_ended : new.has_ended ≡ old.has_ended
+  pub has_failed : new.has_failed ≡ old.has_failed
 
--- a source that has failed is not asked, so that all stays as it is
-abbrev pub IsUnasked : {S : Type 0} → Streamed S → Streamed S → Type 0
-IsUnasked old new = IsTrue old.has_failed → new ≡ old
+-- The source is asked neither where n bytes are at hand, nor after its end, nor after a failure. Where it is asked, at
+-- most 8191 bytes beyond these n come to hand, unless as many were there; k of all are then gone.
+pub record Asks {S : Type 0} (n k : ℕ) (old new : Streamed S) : Type 0 where
+  pub served : n ≤ length old.at_hand → IsUnasked k old new
+  pub ended : IsTrue old.has_ended → IsUnasked k old new
+  pub failed : IsTrue old.has_failed → IsUnasked k old new
+  pub step : n + 8192 ≤ length new.at_hand + k → length new.at_hand + k ≤ length old.at_hand
 
--- a source that has failed is not asked by a call that takes bytes either, and its failure is not forgotten
-abbrev pub StaysFailed : {S : Type 0} → Streamed S → Streamed S → Type 0
-StaysFailed old new = IsTrue old.has_failed → (new.source ≡ old.source) × IsTrue new.has_failed
+-- how many bytes are gone by a call that takes n where it succeeds
+abbrev pub gone : {T E : Type 0} → ℕ → Result T E → ℕ
+gone n (Ok _) = n
+gone n (Err _) = 0
 
--- a failure of the source is remembered
-abbrev pub Remembers : {S : Type 0} → Streamed S → ReadError → Type 0
-Remembers new (Io e) = IsTrue new.has_failed
-Remembers new _ = ⊤
+-- all of n bytes are at hand, or the source has ended
+abbrev pub IsFetched : {S : Type 0} → ℕ → Streamed S → Type 0
+IsFetched n new = length new.at_hand < n → IsTrue new.has_ended
 
--- once the source has failed, a refusal is `Io` of kind Other
-abbrev pub FailsAgain : {S : Type 0} → Streamed S → ReadError → Type 0
-FailsAgain old (ReadSizeLimit n) = IsTrue old.has_failed → ⊥
-FailsAgain old UnsupportedZeroCopy = IsTrue old.has_failed → ⊥
-FailsAgain old (Io e) = IsTrue old.has_failed → error_kind e ≡ Other
-FailsAgain old OutOfMemory = IsTrue old.has_failed → ⊥
+-- Why a call for n bytes is refused, of which fewer are at hand: the source has ended; it failed, as is remembered, with
+-- an error of this kind, or of kind Other where it had failed before; or memory to ask it again was refused. More than a
+-- `usize` counts are refused at once.
+abbrev pub StreamRefused : {S : Type 0} → (S → SourceState) → ℕ → Streamed S → Streamed S → ReadError → Type 0
+StreamRefused state n old new (ReadSizeLimit m) = (length new.at_hand < n) × (n ≤ byte_limit → IsTrue new.has_ended × (IsTrue old.has_failed → ⊥))
+StreamRefused state n old new UnsupportedZeroCopy = ⊥
+StreamRefused state n old new (Io e) = (length new.at_hand < n) × IsTrue new.has_failed × (IsTrue old.has_failed → error_kind e ≡ Other) × (old.has_failed ≡ false → (state new.source).last ≡ error_kind e)
+StreamRefused state n old new OutOfMemory = (length new.at_hand < n) × (new.has_ended ≡ false) × (new.has_failed ≡ false)
+
+-- Why a window of n bytes is refused: so too, or, where they are at hand, since it can't be counted.
+abbrev pub StreamWindowRefused : {S : Type 0} → (S → SourceState) → ℕ → Streamed S → Streamed S → ReadError → Type 0
+StreamWindowRefused state n old new (ReadSizeLimit m) = StreamRefused state n old new (ReadSizeLimit m)
+StreamWindowRefused state n old new UnsupportedZeroCopy = ⊥
+StreamWindowRefused state n old new (Io e) = StreamRefused state n old new (Io e)
+StreamWindowRefused state n old new OutOfMemory = length new.at_hand < n → StreamRefused state n old new OutOfMemory

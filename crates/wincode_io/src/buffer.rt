@@ -1,5 +1,5 @@
 //! Bytes that have come and were not read yet.
-ghost use Rattle.std.specs.Prelude.{◌≡◌, ◌+◌, ◌-◌, ◌<◌, ◌≤◌, [], length, take, drop, slice_range, IfOk, IfErr, OnErr, OnOk, vec_len};
+ghost use Rattle.std.specs.Prelude.{◌≡◌, ◌+◌, ◌-◌, ◌<◌, ◌≤◌, [], length, take, drop, slice_range, IfOk, IfErr, OnErr, OnOk, vec_len, vec_capacity};
 ghost use Rattle.std.specs.Arc.{arc_value};
 ghost use Rattle.wincode_io.specs.Sources.{Gave, Failed};
 ghost use Rattle.wincode_io.specs.SourceReads.{Came, IsUnread};
@@ -55,6 +55,14 @@ impl Buffer {
         let (place, end) = (self.place, self.end);
         let bytes = self.bytes.as_slice();
         &bytes[place..end]
+    }
+
+    /// How many bytes it has memory for, those that are gone among them.
+    pub(crate) fn capacity(&self) -> usize
+        ensures { length self.now ≤ result }
+    {
+        let (_place, _end) = (self.place, self.end);
+        self.bytes.capacity()
     }
 
     /// Drops the first `n` bytes.
@@ -129,6 +137,7 @@ fn make_room(bytes: &mut Arc<Vec<u8>>, place: usize, end: usize) -> ReadResult<u
     requires within { end ≤ vec_len (arc_value bytes.old) }
     ensures same { IfOk result (λ p. slice_range (arc_value bytes.new).items p (p + (end - place)) ≡ slice_range (arc_value bytes.old).items place end) }
     ensures room { IfOk result (λ p. p + (end - place) < vec_len (arc_value bytes.new)) }
+    ensures memory { vec_len (arc_value bytes.old) < vec_len (arc_value bytes.new) → vec_len (arc_value bytes.new) ≤ (end - place) + 8192 }
     ensures kept { OnErr result ((arc_value bytes.new).items ≡ (arc_value bytes.old).items) }
     ensures err { IfErr result (λ e. e ≡ ReadError.OutOfMemory) }
 {
@@ -147,7 +156,7 @@ fn make_room(bytes: &mut Arc<Vec<u8>>, place: usize, end: usize) -> ReadResult<u
 /// A copy of these bytes, with room for `STEP` further ones.
 fn copied(bytes: &[u8], alloc: Global) -> Result<Arc<Vec<u8>>, AllocError>
     ensures front { IfOk result (λ v. slice_range (arc_value v).items 0 (length bytes.now) ≡ bytes.now) }
-    ensures within { IfOk result (λ v. length bytes.now < vec_len (arc_value v)) }
+    ensures memory { IfOk result (λ v. vec_len (arc_value v) ≡ length bytes.now + 8192) }
 {
     let size = bytes.len() + STEP;
     let mut copy = Vec::with_capacity(alloc, size)?;
@@ -162,6 +171,7 @@ fn make_room_alone(bytes: &mut Vec<u8>, place: usize, end: usize) -> ReadResult<
     requires within { end ≤ vec_len bytes.old }
     ensures same { IfOk result (λ p. slice_range bytes.new.items p (p + (end - place)) ≡ slice_range bytes.old.items place end) }
     ensures room { IfOk result (λ p. p + (end - place) < vec_len bytes.new) }
+    ensures memory { vec_len bytes.old < vec_len bytes.new → vec_len bytes.new ≤ (end - place) + 8192 }
     ensures kept { OnErr result (bytes.new.items ≡ bytes.old.items) }
     ensures err { IfErr result (λ e. e ≡ ReadError.OutOfMemory) }
 {
@@ -174,15 +184,30 @@ fn make_room_alone(bytes: &mut Vec<u8>, place: usize, end: usize) -> ReadResult<
     if 0 < place {
         bytes.drain(..place);
     }
+    reserve_step(bytes)?;
     let filled = bytes.len();
-    if bytes.capacity() == filled && bytes.reserve_exact(STEP).is_err() {
-        return Err(ReadError::OutOfMemory);
-    }
     let room = STEP.min(bytes.capacity() - filled);
     if bytes.resize(filled + room, 0).is_err() {
         return Err(ReadError::OutOfMemory);
     }
     Ok(0)
+}
+
+/// Asks for memory for `STEP` bytes behind these, if there is none for one.
+fn reserve_step(bytes: &mut Vec<u8>) -> ReadResult<()>
+    ensures items { bytes.new.items ≡ bytes.old.items }
+    ensures room { OnOk result (vec_len bytes.new < vec_capacity bytes.new) }
+    ensures full { OnErr result (vec_capacity bytes.old ≤ vec_len bytes.old) }
+    ensures memory { vec_capacity bytes.old < vec_capacity bytes.new → vec_capacity bytes.new ≤ vec_len bytes.old + 8192 }
+    ensures err { IfErr result (λ e. e ≡ ReadError.OutOfMemory) }
+{
+    if bytes.len() < bytes.capacity() {
+        return Ok(());
+    }
+    if bytes.reserve_exact(STEP).is_err() {
+        return Err(ReadError::OutOfMemory);
+    }
+    Ok(())
 }
 
 /// Asks the source once, for at most `STEP` bytes from the place `at` on. Bytes that a window shares are
@@ -211,7 +236,7 @@ fn read_alone<S: Source>(source: &mut S, bytes: &mut Vec<u8>, at: usize) -> io::
     ensures size { vec_len bytes.new ≡ vec_len bytes.old }
     ensures within { IfOk result (λ n. (at + n ≤ length bytes.new.items) × (n ≤ 8192)) }
     ensures ok { IfOk result (λ n. Gave 1 (slice_range bytes.new.items at (at + n)) (S.state source.old) (S.state source.new)) }
-    ensures err { OnErr result (Failed (S.state source.old) (S.state source.new)) }
+    ensures err { IfErr result (Failed (S.state source.old) (S.state source.new)) }
 {
     read_at(source, bytes.as_mut_slice(), at)
 }
@@ -223,7 +248,7 @@ fn read_at<S: Source>(source: &mut S, bytes: &mut [u8], at: usize) -> io::Result
     ensures size { length bytes.new ≡ length bytes.old }
     ensures within { IfOk result (λ n. (at + n ≤ length bytes.new) × (n ≤ 8192)) }
     ensures ok { IfOk result (λ n. Gave 1 (slice_range bytes.new at (at + n)) (S.state source.old) (S.state source.new)) }
-    ensures err { OnErr result (Failed (S.state source.old) (S.state source.new)) }
+    ensures err { IfErr result (Failed (S.state source.old) (S.state source.new)) }
 {
     let end = at + STEP.min(bytes.len() - at);
     source.read_some(&mut bytes[at..end])

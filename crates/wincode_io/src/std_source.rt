@@ -1,5 +1,6 @@
 //! std's readers as sources.
 ghost use Rattle.std.specs.Prelude.{◌≡◌};
+ghost use Rattle.std.specs.declared.io.ErrorKind.TheVariants.{Other};
 ghost use Rattle.wincode_io.specs.StdSources.{std_state};
 
 use super::source::Source;
@@ -10,12 +11,14 @@ use std::snapshot::Snapshot;
 /// The bytes of one of std's readers. Every error of the reader is a failure; the count stays at
 /// `usize::MAX` once there.
 ///
-/// To contracts it is the reader, the reader as it was when the source was made, and the count.
+/// To contracts it is the reader, the reader as it was when the source was made, the count, and the kind of the last
+/// failure.
 #[derive(Drop)]
 pub struct StdSource<R: Read> {
     inner: R,
     first: Snapshot<R>,
     failures: usize,
+    last: Snapshot<io::ErrorKind>,
 }
 
 impl<R: Read> Model for StdSource<R> {
@@ -24,7 +27,7 @@ impl<R: Read> Model for StdSource<R> {
 
     ghost Value = { Wrapped R };
 
-    ghost view = { λ s. record { inner = s.inner; first = s.first.value; failures = s.failures } };
+    ghost view = { λ s. record { inner = s.inner; first = s.first.value; failures = s.failures; last = s.last.value } };
 
     ghost invariant = { λ s. IsTrue (are_known (R.remaining s.first.value)) → IsSome (R.remaining s.inner) };
 }
@@ -32,13 +35,14 @@ impl<R: Read> Model for StdSource<R> {
 impl<R: Read> StdSource<R> {
     /// The bytes that this reader will give.
     pub fn new(inner: R) -> Self
-        ensures { result ≡ record { inner = inner; first = inner; failures = 0 } }
+        ensures { result ≡ record { inner = inner; first = inner; failures = 0; last = Other } }
     {
         let first = Snapshot::of(&inner);
         StdSource {
             inner,
             first,
             failures: 0,
+            last: Snapshot::of(&io::ErrorKind::Other),
         }
     }
 
@@ -50,6 +54,7 @@ impl<R: Read> StdSource<R> {
             inner,
             first: _,
             failures: _,
+            last: _,
         } = self;
         inner
     }
@@ -63,6 +68,7 @@ impl<R: Read> Source for StdSource<R> {
             Ok(n) => Ok(n),
             Err(e) => {
                 self.failures = self.failures.saturating_add(1);
+                self.last = Snapshot::of(&e.kind());
                 Err(e)
             }
         }

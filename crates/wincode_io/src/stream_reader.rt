@@ -1,5 +1,6 @@
 //! A buffered reader over any source.
-ghost use Rattle.std.specs.Prelude.{◌≡◌, ℕ, ◌+◌, ◌*◌, ◌<◌, ◌≤◌, false, [], length, take, IfOk, IfErr, OnOk, OnErr, IsTrue, Err};
+ghost use Rattle.std.specs.Prelude.{◌≡◌, ℕ, ◌+◌, ◌*◌, ◌<◌, ◌≤◌, false, [], length, take, drop, IfOk, IfErr, OnOk, OnErr, IsTrue, Err};
+ghost use Rattle.std.specs.IoError.{error_kind};
 ghost use Rattle.wincode_io.specs.Readers.{Stays, Readies, Loses, Takes, IsShort, IsShown, IsPeeked, BytesReadRefused, Fills, Windowed, WindowRefused, counted};
 ghost use Rattle.wincode_io.specs.FormCalls.{TakesForm, TakesForms, FormReadRefused};
 ghost use Rattle.wincode_io.specs.Writers.{byte_limit};
@@ -7,7 +8,7 @@ ghost use Rattle.wincode_io.specs.Windows.{window_state};
 ghost use Rattle.std.specs.Io.BufRead.{Rests};
 ghost use types.Logic.{sem};
 ghost use Rattle.wincode_io.specs.contracts.stream_reader.StreamReader.{the_row as stream-row};
-ghost use Rattle.wincode_io.specs.Streams.{Streamed, stream_state, IsOver, IsStepped, IsUnasked, StaysFailed, Remembers, FailsAgain};
+ghost use Rattle.wincode_io.specs.Streams.{Streamed, stream_state, IsOver, IsUnasked, Asks, gone, IsFetched, StreamRefused, StreamWindowRefused};
 
 use super::buffer::Buffer;
 use super::error::{ReadError, ReadResult};
@@ -24,9 +25,9 @@ use std::marker::Model;
 
 /// Reads from a source through a buffer, and lends nothing.
 ///
-/// To contracts it is the bytes at hand, and the source. What it reads are the bytes at hand,
-/// followed by those that will come of the source. A call for `n` bytes doesn't ask the source where `n`
-/// are at hand, and never has more than 8191 further ones at hand because it asked.
+/// To contracts it is the bytes at hand, the source, and whether that has ended or failed. What it reads are the bytes
+/// at hand, followed by those that will come of the source. A call for `n` bytes doesn't ask the source where `n` are at
+/// hand, nor after its end or its first failure, and leaves at most 8191 further ones at hand because it asked.
 #[derive(Drop)]
 pub struct StreamReader<S: Source> {
     source: S,
@@ -41,7 +42,7 @@ impl<S: Source> Model for StreamReader<S> {
 
     ghost Value = { Streamed S };
 
-    ghost view = { λ r. record { at_hand = r.buffer; source = r.source; has_failed = r.has_failed } };
+    ghost view = { λ r. record { at_hand = r.buffer; source = r.source; has_ended = r.has_ended; has_failed = r.has_failed } };
 
     ghost invariant = { λ r. (IsTrue r.has_ended → IsOver (S.state r.source)) × (IsTrue r.has_failed → 0 < (S.state r.source).failures) };
 }
@@ -52,7 +53,7 @@ impl<S: Source> StreamReader<S> {
     pub fn new(alloc: Global, source: S) -> ReadResult<Self>
     where
         S: Drop,
-        ensures ok { IfOk result (λ r. (r.at_hand ≡ []) × (r.source ≡ source) × (r.has_failed ≡ false)) }
+        ensures ok { IfOk result (λ r. (r.at_hand ≡ []) × (r.source ≡ source) × (r.has_ended ≡ false) × (r.has_failed ≡ false)) }
         ensures err { IfErr result (λ e. e ≡ ReadError.OutOfMemory) }
     {
         let Ok(buffer) = Buffer::new(alloc) else {
@@ -86,6 +87,13 @@ impl<S: Source> StreamReader<S> {
         self.buffer.as_slice()
     }
 
+    /// How many bytes its buffer has memory for, those that were read among them.
+    pub fn capacity(&self) -> usize
+        ensures { length self.now.at_hand ≤ result }
+    {
+        self.buffer.capacity()
+    }
+
     /// How many bytes are at hand.
     fn ready(&self) -> usize
         ensures { result ≡ length self.now.at_hand }
@@ -99,11 +107,11 @@ impl<S: Source> StreamReader<S> {
         ensures step { length self.new.at_hand ≤ length self.old.at_hand + 8192 }
         ensures ok { OnOk result (Stays (stream_state S.state self.old) (stream_state S.state self.new)) }
         ensures came { IfOk result (λ came. IsTrue came → length self.old.at_hand < length self.new.at_hand) }
-        ensures ended { IfOk result (λ came. came ≡ false → IsOver (S.state self.new.source)) }
+        ensures ended { IfOk result (λ came. came ≡ false → IsOver (S.state self.new.source) × IsTrue self.new.has_ended) }
         ensures err { IfErr result (λ e. (n : ℕ) → BytesReadRefused ⊥ ⊥ n (stream_state S.state self.old) (stream_state S.state self.new) e) }
-        ensures unasked { IsUnasked self.old self.new }
-        ensures remembered { IfErr result (Remembers self.new) }
-        ensures again { IfErr result (FailsAgain self.old) }
+        ensures unasked { (IsTrue self.old.has_ended → self.new ≡ self.old) × (IsTrue self.old.has_failed → self.new ≡ self.old) }
+        ensures refused { IfErr result (λ e. (n : ℕ) → length self.old.at_hand < n → StreamRefused S.state n self.old self.new e) }
+        ensures same { OnErr result (self.new.at_hand ≡ self.old.at_hand) }
         ensures sound { OnOk result ((self.old.has_failed ≡ false) × (self.new.has_failed ≡ false)) }
     {
         if self.has_failed {
@@ -130,12 +138,10 @@ impl<S: Source> StreamReader<S> {
     fn fetch(&mut self, n: usize) -> ReadResult<()>
         ensures ok { OnOk result (Readies n (stream_state S.state self.old) (stream_state S.state self.new)) }
         ensures err { IfErr result (BytesReadRefused ⊥ ⊥ n (stream_state S.state self.old) (stream_state S.state self.new)) }
-        ensures asked { OnErr result (length self.old.at_hand < n) }
-        ensures step { IsStepped n self.old self.new }
+        ensures asks { Asks n 0 self.old self.new }
+        ensures fetched { OnOk result (IsFetched n self.new) }
         ensures served { OnOk result (IsTrue self.old.has_failed → n ≤ length self.old.at_hand) }
-        ensures unasked { IsUnasked self.old self.new }
-        ensures remembered { IfErr result (Remembers self.new) }
-        ensures again { IfErr result (FailsAgain self.old) }
+        ensures refused { IfErr result (StreamRefused S.state n self.old self.new) }
     {
         while self.ready() < n {
             if !self.more()? {
@@ -161,8 +167,7 @@ impl<S: Source> StreamReader<S> {
     fn skip(&mut self, n: usize)
         requires { n ≤ length self.old.at_hand }
         ensures loses { Loses n (stream_state S.state self.old) (stream_state S.state self.new) }
-        ensures failed { self.new.has_failed ≡ self.old.has_failed }
-        ensures source { self.new.source ≡ self.old.source }
+        ensures unasked { IsUnasked n self.old self.new }
     {
         self.buffer.consume(n);
     }
@@ -173,8 +178,7 @@ impl<S: Source> StreamReader<S> {
         ensures ok { IfOk result (λ w. Windowed n (stream_state S.state self.old) (stream_state S.state self.new) (counted w)) }
         ensures err { OnErr result (Stays (stream_state S.state self.old) (stream_state S.state self.new)) }
         ensures count { IfErr result (λ e. e ≡ ReadError.OutOfMemory) }
-        ensures failed { self.new.has_failed ≡ self.old.has_failed }
-        ensures source { self.new.source ≡ self.old.source }
+        ensures unasked { IsUnasked (gone n result) self.old self.new }
     {
         let Ok(window) = self.buffer.window(n) else {
             return Err(ReadError::OutOfMemory);
@@ -192,19 +196,18 @@ impl<R: Read> StreamReader<StdSource<R>> {
     }
 }
 
-/// Each call is refused as the trait says; and, where it needs no more bytes than are at hand, never by the
-/// source.
+/// Each call is refused as the trait says, and, but for a borrow, never where the bytes that it needs are at hand; a
+/// window may then be `OutOfMemory`, where so many share the bytes that they can't be counted. Where the source fails it
+/// is `Io` with the source's error; a call that needs more after that is `Io` of kind Other.
 impl<L: Lending, S: Source> Reader<L> for StreamReader<S> {
     ghost state = { stream_state S.state };
 
     fn fill(&mut self, n: usize) -> ReadResult<()>
         ensures ok { OnOk result (Readies n (stream_state S.state self.old) (stream_state S.state self.new)) }
         ensures err { IfErr result (BytesReadRefused ⊥ ⊥ n (stream_state S.state self.old) (stream_state S.state self.new)) }
-        ensures asked { OnErr result (length self.old.at_hand < n) }
-        ensures step { IsStepped n self.old self.new }
-        ensures unasked { IsUnasked self.old self.new }
-        ensures remembered { IfErr result (Remembers self.new) }
-        ensures again { IfErr result (FailsAgain self.old) }
+        ensures asks { Asks n 0 self.old self.new }
+        ensures fetched { OnOk result (IsFetched n self.new) }
+        ensures refused { IfErr result (StreamRefused S.state n self.old self.new) }
     {
         self.fetch(n)
     }
@@ -212,24 +215,23 @@ impl<L: Lending, S: Source> Reader<L> for StreamReader<S> {
     fn consume(&mut self, n: usize) -> ReadResult<()>
         ensures ok { OnOk result (Loses n (stream_state S.state self.old) (stream_state S.state self.new)) }
         ensures err { IfErr result (BytesReadRefused (IsShort n (stream_state S.state self.old)) ⊥ n (stream_state S.state self.old) (stream_state S.state self.new)) }
-        ensures asked { OnErr result (length self.old.at_hand < n) }
-        ensures again { IfErr result (FailsAgain self.old) }
-        ensures unasked { StaysFailed self.old self.new }
-        ensures remembered { IfErr result (Remembers self.new) }
+        ensures asks { Asks n (gone n result) self.old self.new }
+        ensures refused { IfErr result (StreamRefused S.state n self.old self.new) }
     {
         self.fetch(n)?;
-        if self.ready() < n {
-            return Err(ReadError::ReadSizeLimit(n));
+        if n <= self.ready() {
+            self.skip(n);
+            Ok(())
+        } else {
+            Err(ReadError::ReadSizeLimit(n))
         }
-        self.skip(n);
-        Ok(())
     }
 
     fn fill_buf(&mut self, n: usize) -> ReadResult<&[u8]>
         ensures shown { IfOk result (λ s. IsShown n (stream_state S.state self.old) s.now) }
-        ensures asked { OnErr result (length self.old.at_hand < n) }
-        ensures again { IfErr result (FailsAgain self.old) }
-        ensures* fills { sem 𝓛 (Rests (stream-row S.row S.Source) self.entry (λ new. Fills ⊥ n (λ s. length s.now) (stream_state S.state self.old) (stream_state S.state new) result)) }
+        ensures* fills { sem 𝓛 (Rests (stream-row S.row S.Source) self.entry
+            (λ new. Fills ⊥ n (λ s. length s.now) (stream_state S.state self.old) (stream_state S.state new) result
+            × Asks n 0 self.old new × OnOk result (IsFetched n new) × IfErr result (StreamRefused S.state n self.old new))) }
     {
         self.fetch(n)?;
         let bytes = self.buffer.as_slice();
@@ -239,25 +241,23 @@ impl<L: Lending, S: Source> Reader<L> for StreamReader<S> {
 
     fn fill_exact(&mut self, n: usize) -> ReadResult<&[u8]>
         ensures shown { IfOk result (λ s. (length s.now ≡ n) × IsShown n (stream_state S.state self.old) s.now) }
-        ensures asked { OnErr result (length self.old.at_hand < n) }
-        ensures again { IfErr result (FailsAgain self.old) }
         ensures* fills { sem 𝓛 (Rests (stream-row S.row S.Source) self.entry
-            (λ new. Fills (IsShort n (stream_state S.state self.old)) n (λ s. length s.now) (stream_state S.state self.old) (stream_state S.state new) result)) }
+            (λ new. Fills (IsShort n (stream_state S.state self.old)) n (λ s. length s.now) (stream_state S.state self.old) (stream_state S.state new) result
+            × Asks n 0 self.old new × IfErr result (StreamRefused S.state n self.old new))) }
     {
         self.fetch(n)?;
-        let bytes = self.buffer.as_slice();
-        if bytes.len() < n {
+        let ready = self.buffer.as_slice();
+        if ready.len() < n {
             return Err(ReadError::ReadSizeLimit(n));
         }
-        Ok(&bytes[..n])
+        Ok(&ready[..n])
     }
 
     fn peek(&mut self) -> ReadResult<&u8>
         ensures shown { IfOk result (λ b. IsPeeked (stream_state S.state self.old) b.now) }
-        ensures asked { OnErr result (length self.old.at_hand < 1) }
-        ensures again { IfErr result (FailsAgain self.old) }
         ensures* fills { sem 𝓛 (Rests (stream-row S.row S.Source) self.entry
-            (λ new. Fills (IsShort 1 (stream_state S.state self.old)) 1 (λ s. 1) (stream_state S.state self.old) (stream_state S.state new) result)) }
+            (λ new. Fills (IsShort 1 (stream_state S.state self.old)) 1 (λ s. 1) (stream_state S.state self.old) (stream_state S.state new) result
+            × Asks 1 0 self.old new × IfErr result (StreamRefused S.state 1 self.old new))) }
     {
         let bytes = <Self as Reader<L>>::fill_exact(self, 1)?;
         Ok(&bytes[0])
@@ -267,10 +267,8 @@ impl<L: Lending, S: Source> Reader<L> for StreamReader<S> {
         ensures ok { OnOk result (Takes (length dst.old) (stream_state S.state self.old) (stream_state S.state self.new) dst.new) }
         ensures unchanged { IfErr result (λ e. dst.new ≡ dst.old) }
         ensures err { IfErr result (BytesReadRefused (IsShort (length dst.old) (stream_state S.state self.old)) ⊥ (length dst.old) (stream_state S.state self.old) (stream_state S.state self.new)) }
-        ensures asked { OnErr result (length self.old.at_hand < length dst.old) }
-        ensures again { IfErr result (FailsAgain self.old) }
-        ensures unasked { StaysFailed self.old self.new }
-        ensures remembered { IfErr result (Remembers self.new) }
+        ensures asks { Asks (length dst.old) (gone (length dst.old) result) self.old self.new }
+        ensures refused { IfErr result (StreamRefused S.state (length dst.old) self.old self.new) }
     {
         let n = dst.len();
         self.fetch(n)?;
@@ -284,9 +282,8 @@ impl<L: Lending, S: Source> Reader<L> for StreamReader<S> {
         ensures unchanged { IfErr result (λ e. dst.new ≡ dst.old) }
         ensures vast { byte_limit < T.size → result ≡ Err (ReadError.ReadSizeLimit byte_limit) }
         ensures err { IfErr result (FormReadRefused T.size (stream_state S.state self.old) (stream_state S.state self.new)) }
-        ensures asked { OnErr result (length self.old.at_hand < T.size) }
-        ensures unasked { StaysFailed self.old self.new }
-        ensures remembered { IfErr result (Remembers self.new) }
+        ensures asks { Asks T.size (gone T.size result) self.old self.new }
+        ensures refused { IfErr result (StreamRefused S.state T.size self.old self.new) }
     {
         let Some(size) = T::form_size() else {
             // Fewer bytes are at hand, since their number fits.
@@ -304,9 +301,8 @@ impl<L: Lending, S: Source> Reader<L> for StreamReader<S> {
         ensures unchanged { IfErr result (λ e. dst.new ≡ dst.old) }
         ensures vast { byte_limit < length dst.old * T.size → result ≡ Err (ReadError.ReadSizeLimit byte_limit) }
         ensures err { IfErr result (FormReadRefused (length dst.old * T.size) (stream_state S.state self.old) (stream_state S.state self.new)) }
-        ensures asked { OnErr result (length self.old.at_hand < length dst.old * T.size) }
-        ensures unasked { StaysFailed self.old self.new }
-        ensures remembered { IfErr result (Remembers self.new) }
+        ensures asks { Asks (length dst.old * T.size) (gone (length dst.old * T.size) result) self.old self.new }
+        ensures refused { IfErr result (StreamRefused S.state (length dst.old * T.size) self.old self.new) }
     {
         let Some(total) = total_size::<T>(dst.len()) else {
             // Fewer bytes are at hand, since their number fits.
@@ -326,7 +322,7 @@ impl<L: Lending, S: Source> Reader<L> for StreamReader<S> {
     fn consume_unchecked(&mut self, n: usize)
         requires { n ≤ length self.old.at_hand }
         ensures loses { Loses n (stream_state S.state self.old) (stream_state S.state self.new) }
-        ensures unasked { StaysFailed self.old self.new }
+        ensures unasked { IsUnasked n self.old self.new }
     {
         self.skip(n);
     }
@@ -344,9 +340,8 @@ impl<L: Lending, S: Source> Reader<L> for StreamReader<S> {
     fn as_trusted_for(&mut self, n: usize) -> ReadResult<ReadWindow<L>>
         ensures ok { IfOk result (λ w. Windowed n (stream_state S.state self.old) (stream_state S.state self.new) (window_state w)) }
         ensures err { IfErr result (WindowRefused n (stream_state S.state self.old) (stream_state S.state self.new)) }
-        ensures asked { IfErr result (λ e. n ≤ length self.old.at_hand → e ≡ ReadError.OutOfMemory) }
-        ensures unasked { StaysFailed self.old self.new }
-        ensures remembered { IfErr result (Remembers self.new) }
+        ensures asks { Asks n (gone n result) self.old self.new }
+        ensures refused { IfErr result (StreamWindowRefused S.state n self.old self.new) }
     {
         self.fetch(n)?;
         if self.ready() < n {

@@ -1,5 +1,6 @@
 //! A source of pieces that are given.
 ghost use Rattle.std.specs.Prelude.{◌≡◌, ℕ, ◌<◌, true, [], ◌++◌, List, MatchOption, vec_len};
+ghost use Rattle.std.specs.declared.io.ErrorKind.TheVariants.{Other};
 ghost use Rattle.wincode_io.specs.Sources.{SourceState};
 ghost use Rattle.example_schemas.specs.Pieces.{joined};
 
@@ -22,12 +23,13 @@ pub struct Pieces {
 
 impl Model for Pieces {
     ghost use Rattle.std.specs.Prelude.{◌≤◌, true, drop, ◌++◌, vec_len};
+    ghost use Rattle.std.specs.declared.io.ErrorKind.TheVariants.{Other};
     ghost use Rattle.wincode_io.specs.Sources.{SourceState};
     ghost use Rattle.example_schemas.specs.Pieces.{joined};
 
     ghost Value = { SourceState };
 
-    ghost view = { λ p. record { coming = drop p.place p.piece.items ++ joined p.later.items; failures = p.failures; is_known = true } };
+    ghost view = { λ p. record { coming = drop p.place p.piece.items ++ joined p.later.items; failures = p.failures; last = Other; is_known = true } };
 
     ghost invariant = { λ p. p.place ≤ vec_len p.piece };
 }
@@ -35,7 +37,7 @@ impl Model for Pieces {
 impl Pieces {
     /// A source of these pieces, which has not failed.
     pub fn new(alloc: Global, pieces: Vec<Vec<u8>>, fails: bool) -> Pieces
-        ensures { result ≡ record { coming = joined pieces.items; failures = 0; is_known = true } }
+        ensures { result ≡ record { coming = joined pieces.items; failures = 0; last = Other; is_known = true } }
     {
         Pieces {
             piece: Vec::new(alloc),

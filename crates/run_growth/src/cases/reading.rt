@@ -37,6 +37,13 @@ fn one_growth(alloc: Global) -> Result<Ending, Unlike> {
     Ok(string.and(list).and(boxed).and(shared))
 }
 
+/// One growth of a text of 70,000 bytes, behind its length.
+fn long_text(alloc: Global) -> Result<Ending, Unlike> {
+    let mut text = [97u8; 70_009];
+    text[..8].copy_from_slice(&70_000u64.to_le_bytes());
+    read::<String>(alloc, text.as_slice(), 1, &[70_001])
+}
+
 /// Growths of lists of items of one size, all behind the window.
 fn lists(alloc: Global) -> Result<Ending, Unlike> {
     let two = [2u8, 0, 0, 0, 0, 0, 0, 0, 5, 0, 6, 0, 9];
@@ -127,7 +134,7 @@ fn deserialized(alloc: Global) -> Result<Ending, Unlike> {
 }
 
 pub fn all(alloc: Global) -> Result<Ending, Unlike> {
-    let one = one_growth(alloc)?;
+    let one = one_growth(alloc)?.and(long_text(alloc)?);
     let parts = inside(alloc)?;
     let gathered = inserted(alloc)?;
     let listed = one.and(lists(alloc)?).and(parts);

@@ -112,21 +112,17 @@ impl<L: Lending> SchemaRead<L> for char {
 }
 
 /// A copy of the next `n` bytes, which stay and are at hand. Too few are refused before memory is
-/// asked for, which isn't where it was refused before.
+/// asked for.
 #[inline(always)]
 fn copy_bytes<L: Lending, R: Reader<L>>(
     alloc: Global,
     reader: &mut R,
     n: usize,
-    is_refused: bool,
 ) -> ReadResult<Vec<u8>>
     ensures ok { IfOk result (λ v. Arrays n (R.state reader.old) (R.state reader.new) v.items) }
     ensures err { IfErr result (StrBytesReadRefused ⊥ ⊤ n (R.state reader.old) (R.state reader.new)) }
 {
     let bytes = reader.fill_exact(n)?;
-    if is_refused {
-        return Err(ReadError::OutOfMemory);
-    }
     match Vec::from_slice(alloc, bytes) {
         Ok(copy) => Ok(copy),
         Err(_) => Err(ReadError::OutOfMemory),
@@ -139,11 +135,10 @@ fn take_text<L: Lending, R: Reader<L>>(
     alloc: Global,
     reader: &mut R,
     n: usize,
-    is_refused: bool,
 ) -> ReadResult<String>
     ensures { GetOutcome (body_read n 0 false) (λ s. string_bytes s) (R.state reader.old) (R.state reader.new) result }
 {
-    let bytes = copy_bytes::<L, R>(alloc, reader, n, is_refused)?;
+    let bytes = copy_bytes::<L, R>(alloc, reader, n)?;
     reader.consume_unchecked(n);
     match String::from_utf8(bytes) {
         Ok(text) => Ok(text),
@@ -151,11 +146,12 @@ fn take_text<L: Lending, R: Reader<L>>(
     }
 }
 
-/// The text at the front of the bytes, behind its length, and how many bytes both have. There is none where not all of
-/// them are there, they are over the limit or no text, which `get_text` tells, or memory is refused, as is then said.
+/// The text at the front of the bytes, behind its length, and how many bytes both have; or none of it, where memory for
+/// it is refused. Where not all of its bytes are there, they are over the limit or no text, which `get_text` tells, there
+/// is no answer.
 #[inline(always)]
-fn front_text(alloc: Global, bytes: &[u8], is_refused: &mut bool) -> Option<(String, usize)>
-    ensures { IfSome result (λ t. (t.1 ≤ length bytes.now) × (str_read 24 0 false).reads (take t.1 bytes.now) (string_bytes t.0)) }
+fn front_text(alloc: Global, bytes: &[u8]) -> Option<Option<(String, usize)>>
+    ensures { IfSome result (λ found. IfSome found (λ t. (t.1 ≤ length bytes.now) × (str_read 24 0 false).reads (take t.1 bytes.now) (string_bytes t.0))) }
 {
     if bytes.len() < 8 {
         return None;
@@ -171,39 +167,56 @@ fn front_text(alloc: Global, bytes: &[u8], is_refused: &mut bool) -> Option<(Str
     }
     let text = str::from_utf8(&rest[..n]).ok()?;
     let Ok(copy) = String::from_str(alloc, text) else {
-        *is_refused = true;
-        return None;
+        return Some(None);
     };
-    Some((copy, 8 + n))
+    Some(Some((copy, 8 + n)))
 }
 
-/// The text at the front, behind its length, where all of it is at hand. Else the reader is as it was; where memory
-/// was refused, that is said.
+/// Why the next `n` bytes are refused, for which there was no memory.
+fn refused_bytes<L: Lending, R: Reader<L>>(reader: &mut R, n: usize) -> ReadError
+    ensures { StrBytesReadRefused ⊥ ⊤ n (R.state reader.old) (R.state reader.new) result }
+{
+    match reader.fill_exact(n) {
+        Ok(_) => ReadError::OutOfMemory,
+        Err(error) => ReadError::Io(error),
+    }
+}
+
+/// Refuses the text in front, for which there was no memory, behind its length.
+#[inline(never)]
+fn refuse_text<L: Lending, R: Reader<L>>(reader: &mut R) -> ReadResult<String>
+    ensures { GetOutcome (str_read 24 0 false) (λ s. string_bytes s) (R.state reader.old) (R.state reader.new) result }
+{
+    let n = BincodeLen::<PREALLOCATION_LIMIT>::read::<L, R>(reader, 1)?;
+    Err(refused_bytes::<L, R>(reader, n))
+}
+
+/// The text at the front, behind its length, where all of it is at hand; it is refused where memory for it is. Else
+/// the reader is as it was.
 #[inline(always)]
 fn text_at_hand<L: Lending, R: Reader<L>>(
     alloc: Global,
     reader: &mut R,
-    is_refused: &mut bool,
-) -> Option<String>
-    ensures some { IfSome result (λ s. Gives (str_read 24 0 false).reads (R.state reader.old) (R.state reader.new) (string_bytes s)) }
+) -> Option<ReadResult<String>>
+    ensures some { IfSome result (GetOutcome (str_read 24 0 false) (λ s. string_bytes s) (R.state reader.old) (R.state reader.new)) }
     ensures none { IfNone result (R.state reader.new ≡ R.state reader.old) }
 {
-    let (text, size) = front_text(alloc, reader.at_hand(), is_refused)?;
-    reader.consume_unchecked(size);
-    Some(text)
+    match front_text(alloc, reader.at_hand())? {
+        Some((text, size)) => {
+            reader.consume_unchecked(size);
+            Some(Ok(text))
+        }
+        None => Some(refuse_text::<L, R>(reader)),
+    }
 }
 
-/// A text behind its length. Memory isn't asked for where it was refused before.
+/// A text behind its length.
 #[inline(never)]
-fn get_text<L: Lending, R: Reader<L>>(
-    alloc: Global,
-    reader: &mut R,
-    is_refused: bool,
-) -> ReadResult<String>
+fn get_text<L: Lending, R: Reader<L>>(alloc: Global, reader: &mut R) -> ReadResult<String>
     ensures { GetOutcome (str_read 24 0 false) (λ s. string_bytes s) (R.state reader.old) (R.state reader.new) result }
 {
     let n = BincodeLen::<PREALLOCATION_LIMIT>::read::<L, R>(reader, 1)?;
-    take_text::<L, R>(alloc, reader, n, is_refused)
+    take_text::<L, R>(alloc, reader, n)
 }
 
 impl<L: Lending> SchemaRead<L> for String {
@@ -234,12 +247,11 @@ impl<L: Lending> SchemaRead<L> for String {
         reader: &mut R,
         dst: &mut Option<String>,
     ) -> ReadResult<()> {
-        let mut is_refused = false;
-        if let Some(text) = text_at_hand::<L, R>(alloc, reader, &mut is_refused) {
-            *dst = Some(text);
-            return Ok(());
-        }
-        *dst = Some(get_text::<L, R>(alloc, reader, is_refused)?);
+        let text = match text_at_hand::<L, R>(alloc, reader) {
+            Some(answer) => answer?,
+            None => get_text::<L, R>(alloc, reader)?,
+        };
+        *dst = Some(text);
         Ok(())
     }
 

@@ -1,4 +1,4 @@
-use Rattle.std.proofs.Common.{◌≡◌, take, length, ◌++◌, sym, ap, ◌∙◌, arith, get_or}
+use Rattle.std.proofs.Common.{◌≡◌, take, length, ◌++◌, ap, ◌∙◌, arith, get_or}
 use Rattle.std.specs.List.{flat_map}
 use Rattle.std.proofs.lemmas.List.Elements.{All-more}
 use Rattle.wincode_io.proofs.FormSteps.{place_fits, form_more, joined_more}

@@ -2,7 +2,6 @@ use Rattle.std.proofs.Common.{rules, ◌≡◌, ◌∙◌, sym, ap, ◌+◌, ◌
 use Rattle.std.specs.List.{All, flat_map}
 use Rattle.std.proofs.lemmas.List.Elements.{All-append}
 use Rattle.wincode_io.specs.Writers.{Took}
-use Rattle.wincode_io.specs.JoinedForms.{length-joined}
 use Rattle.wincode_io.proofs.Blocks.{done_more, left_more, took_more}
 use Rattle.wincode_io.proofs.bulk.writing.write_few.Goals as goal
 

@@ -1,0 +1,16 @@
+use Rattle.std.proofs.Common.{rules, refl, false, inr}
+use Rattle.wincode_base.proofs.Strings.{body_refuses, text_first, text_second}
+use Rattle.wincode_read.proofs.schema.strings.refuse_text.Goals as goal
+
+pub returns-in_err-n : goal.returns-in_err-n
+returns-in_err-n g c =
+    let o = c.in_err-n.ensures in
+    let h = text_first 24 0 false _ _ _ o.refused in
+    let p = o.place in search (rules, h, p)
+
+pub returns : goal.returns
+returns g c =
+    let n = c.in_ok-n.ensures.ok in
+    let d = c.refused_bytes.ensures in
+    let h = body_refuses ⊥ (Unit {0}) c.in_ok-n.n 0 false _ _ c.refused_bytes.result (λ x. absurd x) (λ x. refl) d in
+    record { ok = tt; refused = text_second 24 0 false _ _ _ _ _ n h; place = inr (_, _, n, d) }
