@@ -1,7 +1,5 @@
 //! Views, forms and bytes that are lent: what they give, and what edits leave.
 ghost use Rattle.std.specs.Prelude.{◌≡◌, length, IfOk};
-ghost use Rattle.std.proofs.Common.{refl};
-ghost use Rattle.wincode_io.specs.FormLaws.{number_form, array_form, wrapped_form};
 
 use std::alloc::Global;
 use std::test::Fail;
@@ -182,62 +180,6 @@ fn edits_of_other_forms(rt: HostRuntime) -> Result<(), Fail> {
     let few = edit_one::<u32>(&mut one, &[1]);
     assert!(rt; matches!(&few, Err(ReadError::Io(io::ReadError::ReadSizeLimit(4)))));
     assert_eq!(rt; one, [3u8, 2, 9]);
-    Ok(())
-}
-
-/// Thirty-two bytes under a name.
-#[derive(Clone, Copy)]
-struct Address([u8; 32]);
-
-impl ZeroCopy for Address {
-    ghost is_valid = { λ v. ⟦<[u8; 32] as ZeroCopy>⟧.is_valid v.0 };
-
-    ghost size = { ⟦<[u8; 32] as ZeroCopy>⟧.size };
-
-    ghost form = { λ v. ⟦<[u8; 32] as ZeroCopy>⟧.form v.0 };
-
-    ghost value = { λ b. record { 0 = ⟦<[u8; 32] as ZeroCopy>⟧.value b } };
-
-    fn form_size() -> Option<usize> {
-        <[u8; 32]>::form_size()
-    }
-
-    fn of_form(bytes: &[u8]) -> Address {
-        Address(<[u8; 32]>::of_form(bytes))
-    }
-
-    fn put_form(&self, dst: &mut [u8]) {
-        self.0.put_form(dst);
-    }
-
-    ghost byte_form = { wrapped_form (λ x. record { 0 = x }) (λ y. y.0) (λ x. refl) (λ y. refl) (array_form 32 (number_form 1)) };
-}
-
-#[test]
-fn forms_of_a_caller(rt: HostRuntime) -> Result<(), Fail> {
-    let alloc = rt.alloc();
-    assert!(rt;
-        <Pod<Address> as SchemaWrite>::type_meta()
-            == TypeMeta::Static {
-                size: 32,
-                zero_copy: true,
-            }
-    );
-    type Addresses = containers::Vec<Pod<Address>, ShortU16Len>;
-    let one = vec![in alloc; Address([7; 32])]?;
-    let mut text = Vec::new(alloc);
-    <Addresses as SchemaWrite>::write(&mut text, &one)?;
-    let mut want = [7u8; 33];
-    want[0] = 1;
-    assert_eq!(rt; text.as_slice(), want.as_slice());
-    let mut reader = want.as_slice();
-    let back = <Addresses as SchemaGet<Lifetime>>::get(alloc, &mut reader)?;
-    assert!(rt; back.len() == 1 && back[0].0 == [7; 32]);
-    let mut bytes = [1u8; 33];
-    edit_one::<Address>(&mut bytes, &[Address([2; 32]), Address([7; 32])])?;
-    let mut after = [7u8; 33];
-    after[32] = 1;
-    assert_eq!(rt; bytes, after);
     Ok(())
 }
 

@@ -50,25 +50,61 @@ fn lists_keep_all<'a, U: Drop, T: SchemaWrite<Src = U> + SchemaRead<Lifetime<'a>
     )
 }
 
-/// So of each kind of set and map, and of heaps, of numbers.
-fn gathered_keep_all(alloc: Global, bytes: &[u8]) -> Result<bool, Fail> {
-    Ok(
-        keeps_all::<_, BTreeMap<u32, ()>>(alloc, bytes)?
-            && keeps_all::<_, HashMap<u32, ()>>(alloc, bytes)?
-            && keeps_all::<_, BTreeSet<u32>>(alloc, bytes)?
-            && keeps_all::<_, HashSet<u32>>(alloc, bytes)?
-            && keeps_all::<_, BinaryHeap<u32>>(alloc, bytes)?
-            && keeps_all::<_, containers::BinaryHeap<u32, Len>>(alloc, bytes)?,
-    )
+/// How many numbers a collection of each kind has.
+const MANY: [usize; 2] = [2_000, 100_000];
+
+#[test]
+fn lists_of_many_numbers(rt: HostRuntime) -> Result<(), Fail> {
+    let alloc = rt.alloc();
+    for n in MANY {
+        assert!(rt; lists_keep_all::<_, u32>(alloc, numbered(alloc, n, &[])?.as_slice())?);
+    }
+    Ok(())
 }
 
 #[test]
-fn collections_of_many_numbers(rt: HostRuntime) -> Result<(), Fail> {
+fn ordered_maps_of_many_numbers(rt: HostRuntime) -> Result<(), Fail> {
     let alloc = rt.alloc();
-    for n in [2_000, 100_000] {
+    for n in MANY {
+        assert!(rt; keeps_all::<_, BTreeMap<u32, ()>>(alloc, numbered(alloc, n, &[])?.as_slice())?);
+    }
+    Ok(())
+}
+
+#[test]
+fn hashed_maps_of_many_numbers(rt: HostRuntime) -> Result<(), Fail> {
+    let alloc = rt.alloc();
+    for n in MANY {
+        assert!(rt; keeps_all::<_, HashMap<u32, ()>>(alloc, numbered(alloc, n, &[])?.as_slice())?);
+    }
+    Ok(())
+}
+
+#[test]
+fn ordered_sets_of_many_numbers(rt: HostRuntime) -> Result<(), Fail> {
+    let alloc = rt.alloc();
+    for n in MANY {
+        assert!(rt; keeps_all::<_, BTreeSet<u32>>(alloc, numbered(alloc, n, &[])?.as_slice())?);
+    }
+    Ok(())
+}
+
+#[test]
+fn hashed_sets_of_many_numbers(rt: HostRuntime) -> Result<(), Fail> {
+    let alloc = rt.alloc();
+    for n in MANY {
+        assert!(rt; keeps_all::<_, HashSet<u32>>(alloc, numbered(alloc, n, &[])?.as_slice())?);
+    }
+    Ok(())
+}
+
+#[test]
+fn heaps_of_many_numbers(rt: HostRuntime) -> Result<(), Fail> {
+    let alloc = rt.alloc();
+    for n in MANY {
         let list = numbered(alloc, n, &[])?;
-        assert!(rt; lists_keep_all::<_, u32>(alloc, list.as_slice())?);
-        assert!(rt; gathered_keep_all(alloc, list.as_slice())?);
+        assert!(rt; keeps_all::<_, BinaryHeap<u32>>(alloc, list.as_slice())?);
+        assert!(rt; keeps_all::<_, containers::BinaryHeap<u32, Len>>(alloc, list.as_slice())?);
     }
     Ok(())
 }

@@ -1,4 +1,4 @@
-//! Tests of the schemas and the devices of `example_schemas`.
+//! Tests of the schemas, forms and devices of `example_schemas`.
 #![tactic(auto)]
 
 #[cfg(test)]
@@ -9,6 +9,8 @@ mod entries;
 mod events;
 #[cfg(test)]
 mod faults;
+#[cfg(test)]
+mod forms;
 #[cfg(test)]
 mod labels;
 #[cfg(test)]

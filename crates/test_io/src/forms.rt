@@ -2,7 +2,6 @@
 use std::alloc::Global;
 use std::test::Fail;
 use testkit_io::counted::{Counted, Finishing};
-use testkit_io::forms::{Address, replace_at, replace_first, replace_whole};
 use wincode_io::{
     Lifetime, ReadError, Reader, SliceRef, SliceRefMut, SliceWriter, WriteError, WriteResult,
     WriteWindow, Writer, ZeroCopy,
@@ -56,8 +55,6 @@ fn numbers_and_arrays_have_forms(rt: HostRuntime) -> Result<(), Fail> {
         Some([[1, 2], [3, 4], [5, 6]])
     );
     assert_eq!(rt; back(alloc, [0u64; 0], &[])?, Some([]));
-    let address = back(alloc, Address([7; 32]), &[7; 32])?;
-    assert_eq!(rt; address.map(|it| it.0), Some([7; 32]));
     Ok(())
 }
 
@@ -133,7 +130,7 @@ fn views_leave_what_is_behind(rt: HostRuntime) -> Result<(), Fail> {
     let mut behind = [1u8, 0, 5, 6, 7, 8, 9];
     u16::from_bytes_mut(&mut behind)?.set(772);
     assert_eq!(rt; behind, [4u8, 3, 5, 6, 7, 8, 9]);
-    assert!(rt; Address::from_bytes_mut(&mut behind).is_err());
+    assert!(rt; <[u8; 32]>::from_bytes_mut(&mut behind).is_err());
     assert_eq!(rt; behind, [4u8, 3, 5, 6, 7, 8, 9]);
     Ok(())
 }
@@ -148,29 +145,4 @@ fn views_of_many_forms(rt: HostRuntime) {
     assert_eq!(rt; forms, [1u8, 0, 4, 3, 3, 0]);
     let view = SliceRef::<'_, [u8; 2]>::new(&forms, 3);
     assert_eq!(rt; (view.len(), view.get(1)), (3, [4u8, 3]));
-}
-
-#[test]
-fn forms_are_replaced(rt: HostRuntime) -> Result<(), Fail> {
-    let mut bytes = [1u8; 34];
-    replace_first(&mut bytes, Address([7; 32]))?;
-    let mut want = [7u8; 34];
-    want[32] = 1;
-    want[33] = 1;
-    assert_eq!(rt; bytes, want);
-    let mut short = [1u8; 31];
-    assert!(rt;
-        matches!(
-            &replace_first(&mut short, Address([9; 32])),
-            Err(ReadError::ReadSizeLimit(32))
-        )
-    );
-    assert_eq!(rt; short, [1u8; 31]);
-    let mut forms = [1u8, 0, 2, 0, 3, 0];
-    replace_at(&mut forms, 3, 2, 515u16);
-    assert_eq!(rt; forms, [1u8, 0, 2, 0, 3, 2]);
-    let mut form = [1u8, 0];
-    replace_whole(&mut form, 772u16);
-    assert_eq!(rt; form, [4u8, 3]);
-    Ok(())
 }

@@ -1,7 +1,7 @@
 //! Values in pieces of many sizes, beside the same values in a slice.
-use crate::both::read_both;
-use crate::front::read_front;
+use example_schemas::both::read_both;
 use example_schemas::faults::Pieces;
+use example_schemas::front::read_front;
 use std::alloc::Global;
 use std::collections::BTreeMap;
 use std::io::ErrorKind;

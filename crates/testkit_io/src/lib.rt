@@ -3,6 +3,5 @@
 
 pub mod counted;
 pub mod digits;
-pub mod forms;
 pub mod readers;
 pub mod writers;

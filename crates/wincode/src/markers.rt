@@ -3,9 +3,11 @@ ghost use Rattle.std.specs.Prelude.{◌≡◌};
 ghost use Rattle.wincode_base.specs.Grammar.{ReadsBack};
 ghost use Rattle.wincode.specs.OneText.{IsOneText};
 
+mod numbers;
 mod one_text;
 mod owned;
 mod round_trip;
+mod tuples;
 
 use crate::io::Lending;
 use crate::schema::{SchemaRead, SchemaWrite};

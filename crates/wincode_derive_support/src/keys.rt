@@ -3,11 +3,11 @@ ghost use Rattle.std.proofs.Common.{ap};
 ghost use Rattle.std.specs.BinaryHeap.{heap_items};
 ghost use Rattle.std.specs.Bool.{beq};
 ghost use Rattle.std.specs.Cmp.{IsEquivalence, IsTotalOrder, on_equiv, on_total, and_equiv, then_total, both_tied};
-ghost use Rattle.std.specs.Cmp.{nat_eq_equiv, nat_cmp_total, unsigned_ties, int_eq_equiv, int_cmp_total, bool_eq_equiv, bool_cmp_total};
+ghost use Rattle.std.specs.Cmp.{nat_eq_equiv, nat_cmp_total, unsigned_ties, bool_eq_equiv, bool_cmp_total};
 ghost use Rattle.std.specs.Cmp.Lexicographic.{pointwise, slice_cmp, lists_equiv, lists_total, lists_ties, nat_list_eq_equiv, nat_list_cmp_total, texts_ties};
 ghost use Rattle.std.specs.List.Sorted.{IsPermutation};
-ghost use Rattle.std.specs.Ordering.{nat_cmp, int_cmp, bool_cmp, int_eq, is_eq, ordering_then};
-ghost use Rattle.std.specs.Prelude.{◌≡◌, ◌&&◌, ℕ, Bool, List, map, nat_eq, refl, string_bytes};
+ghost use Rattle.std.specs.Ordering.{nat_cmp, bool_cmp, is_eq, ordering_then};
+ghost use Rattle.std.specs.Prelude.{◌≡◌, ◌&&◌, ℕ, Bool, List, map, nat_eq, string_bytes};
 ghost use Rattle.std.specs.declared.cmp.Ordering.{Ordering};
 ghost use Rattle.wincode_collect.specs.Collections.{IsSetOf, IsMapOf, IsHashSetOf, IsHashMapOf};
 ghost use Rattle.wincode_collect.specs.Seen.{sees, HashSetSeen, HashMapSeen, hash_set_sees, hash_map_sees, heap_sees, Made};
@@ -19,13 +19,15 @@ ghost use Rattle.wincode_base.specs.Gathered.{gathered_read};
 ghost use Rattle.wincode_base.specs.GatheredLaws.{map_read_laws, set_read_laws, hash_map_read_laws, hash_set_read_laws, bag_read_laws};
 ghost use Rattle.wincode_base.specs.Grammar.{ReadGrammar, ReadLaws};
 ghost use Rattle.wincode_base.specs.ItemSizes.{item_size, pair_size};
-ghost use Rattle.wincode_base.specs.KeyLaws.{nat_alike, int_alike, bool_alike, str_alike, pair_alike, items_alike, both_true};
+ghost use Rattle.wincode_base.specs.KeyLaws.{nat_alike, bool_alike, str_alike, pair_alike, items_alike, both_true};
 ghost use Rattle.wincode_base.specs.Keys.{IsAlike};
 ghost use Rattle.wincode_base.specs.LengthLaws.{bincode_laws};
 ghost use Rattle.wincode_base.specs.Lengths.{bincode, preallocation_limit};
 ghost use Rattle.wincode_base.specs.InWindow.{windowed_read};
 ghost use Rattle.wincode_base.specs.PairLaws.{pair_read_laws, windowed_read_laws};
 ghost use Rattle.wincode_base.specs.Pairs.{pair_read};
+
+mod numbers;
 
 use crate::laws::Lawful;
 use std::collections::{BTreeMap, BTreeSet, BinaryHeap, HashMap, HashSet};
@@ -65,162 +67,6 @@ pub trait LawfulKey<L: Lending> {
     ghost order_ties: { (x y : Self.Dst) → equal x y ≡ is_eq (order x y) };
 }
 
-impl<L: Lending> LawfulKey<L> for u8 {
-    type Dst = u8;
-
-    ghost Value = { ⟦<u8 as Lawful<L>>⟧.Value };
-
-    ghost model = { ⟦<u8 as Lawful<L>>⟧.model };
-
-    ghost is_valid = { ⟦<u8 as Lawful<L>>⟧.is_valid };
-
-    ghost reading = { ⟦<u8 as Lawful<L>>⟧.reading };
-
-    ghost read_laws = { ⟦<u8 as Lawful<L>>⟧.read_laws };
-
-    ghost equal = { nat_eq };
-
-    ghost equivalence = { nat_eq_equiv };
-
-    ghost alike = { nat_alike };
-
-    ghost order = { nat_cmp };
-
-    ghost order_total = { nat_cmp_total };
-
-    ghost order_ties = { unsigned_ties };
-}
-
-impl<L: Lending> LawfulKey<L> for u16 {
-    type Dst = u16;
-
-    ghost Value = { ⟦<u16 as Lawful<L>>⟧.Value };
-
-    ghost model = { ⟦<u16 as Lawful<L>>⟧.model };
-
-    ghost is_valid = { ⟦<u16 as Lawful<L>>⟧.is_valid };
-
-    ghost reading = { ⟦<u16 as Lawful<L>>⟧.reading };
-
-    ghost read_laws = { ⟦<u16 as Lawful<L>>⟧.read_laws };
-
-    ghost equal = { nat_eq };
-
-    ghost equivalence = { nat_eq_equiv };
-
-    ghost alike = { nat_alike };
-
-    ghost order = { nat_cmp };
-
-    ghost order_total = { nat_cmp_total };
-
-    ghost order_ties = { unsigned_ties };
-}
-
-impl<L: Lending> LawfulKey<L> for u32 {
-    type Dst = u32;
-
-    ghost Value = { ⟦<u32 as Lawful<L>>⟧.Value };
-
-    ghost model = { ⟦<u32 as Lawful<L>>⟧.model };
-
-    ghost is_valid = { ⟦<u32 as Lawful<L>>⟧.is_valid };
-
-    ghost reading = { ⟦<u32 as Lawful<L>>⟧.reading };
-
-    ghost read_laws = { ⟦<u32 as Lawful<L>>⟧.read_laws };
-
-    ghost equal = { nat_eq };
-
-    ghost equivalence = { nat_eq_equiv };
-
-    ghost alike = { nat_alike };
-
-    ghost order = { nat_cmp };
-
-    ghost order_total = { nat_cmp_total };
-
-    ghost order_ties = { unsigned_ties };
-}
-
-impl<L: Lending> LawfulKey<L> for u64 {
-    type Dst = u64;
-
-    ghost Value = { ⟦<u64 as Lawful<L>>⟧.Value };
-
-    ghost model = { ⟦<u64 as Lawful<L>>⟧.model };
-
-    ghost is_valid = { ⟦<u64 as Lawful<L>>⟧.is_valid };
-
-    ghost reading = { ⟦<u64 as Lawful<L>>⟧.reading };
-
-    ghost read_laws = { ⟦<u64 as Lawful<L>>⟧.read_laws };
-
-    ghost equal = { nat_eq };
-
-    ghost equivalence = { nat_eq_equiv };
-
-    ghost alike = { nat_alike };
-
-    ghost order = { nat_cmp };
-
-    ghost order_total = { nat_cmp_total };
-
-    ghost order_ties = { unsigned_ties };
-}
-
-impl<L: Lending> LawfulKey<L> for u128 {
-    type Dst = u128;
-
-    ghost Value = { ⟦<u128 as Lawful<L>>⟧.Value };
-
-    ghost model = { ⟦<u128 as Lawful<L>>⟧.model };
-
-    ghost is_valid = { ⟦<u128 as Lawful<L>>⟧.is_valid };
-
-    ghost reading = { ⟦<u128 as Lawful<L>>⟧.reading };
-
-    ghost read_laws = { ⟦<u128 as Lawful<L>>⟧.read_laws };
-
-    ghost equal = { nat_eq };
-
-    ghost equivalence = { nat_eq_equiv };
-
-    ghost alike = { nat_alike };
-
-    ghost order = { nat_cmp };
-
-    ghost order_total = { nat_cmp_total };
-
-    ghost order_ties = { unsigned_ties };
-}
-
-impl<L: Lending> LawfulKey<L> for usize {
-    type Dst = usize;
-
-    ghost Value = { ⟦<usize as Lawful<L>>⟧.Value };
-
-    ghost model = { ⟦<usize as Lawful<L>>⟧.model };
-
-    ghost is_valid = { ⟦<usize as Lawful<L>>⟧.is_valid };
-
-    ghost reading = { ⟦<usize as Lawful<L>>⟧.reading };
-
-    ghost read_laws = { ⟦<usize as Lawful<L>>⟧.read_laws };
-
-    ghost equal = { nat_eq };
-
-    ghost equivalence = { nat_eq_equiv };
-
-    ghost alike = { nat_alike };
-
-    ghost order = { nat_cmp };
-
-    ghost order_total = { nat_cmp_total };
-
-    ghost order_ties = { unsigned_ties };
-}
-
 impl<L: Lending> LawfulKey<L> for char {
     type Dst = char;
 
@@ -245,162 +91,6 @@ impl<L: Lending> LawfulKey<L> for char {
     ghost order_total = { nat_cmp_total };
 
     ghost order_ties = { unsigned_ties };
-}
-
-impl<L: Lending> LawfulKey<L> for i8 {
-    type Dst = i8;
-
-    ghost Value = { ⟦<i8 as Lawful<L>>⟧.Value };
-
-    ghost model = { ⟦<i8 as Lawful<L>>⟧.model };
-
-    ghost is_valid = { ⟦<i8 as Lawful<L>>⟧.is_valid };
-
-    ghost reading = { ⟦<i8 as Lawful<L>>⟧.reading };
-
-    ghost read_laws = { ⟦<i8 as Lawful<L>>⟧.read_laws };
-
-    ghost equal = { int_eq };
-
-    ghost equivalence = { int_eq_equiv };
-
-    ghost alike = { int_alike };
-
-    ghost order = { int_cmp };
-
-    ghost order_total = { int_cmp_total };
-
-    ghost order_ties = { λ x y. refl };
-}
-
-impl<L: Lending> LawfulKey<L> for i16 {
-    type Dst = i16;
-
-    ghost Value = { ⟦<i16 as Lawful<L>>⟧.Value };
-
-    ghost model = { ⟦<i16 as Lawful<L>>⟧.model };
-
-    ghost is_valid = { ⟦<i16 as Lawful<L>>⟧.is_valid };
-
-    ghost reading = { ⟦<i16 as Lawful<L>>⟧.reading };
-
-    ghost read_laws = { ⟦<i16 as Lawful<L>>⟧.read_laws };
-
-    ghost equal = { int_eq };
-
-    ghost equivalence = { int_eq_equiv };
-
-    ghost alike = { int_alike };
-
-    ghost order = { int_cmp };
-
-    ghost order_total = { int_cmp_total };
-
-    ghost order_ties = { λ x y. refl };
-}
-
-impl<L: Lending> LawfulKey<L> for i32 {
-    type Dst = i32;
-
-    ghost Value = { ⟦<i32 as Lawful<L>>⟧.Value };
-
-    ghost model = { ⟦<i32 as Lawful<L>>⟧.model };
-
-    ghost is_valid = { ⟦<i32 as Lawful<L>>⟧.is_valid };
-
-    ghost reading = { ⟦<i32 as Lawful<L>>⟧.reading };
-
-    ghost read_laws = { ⟦<i32 as Lawful<L>>⟧.read_laws };
-
-    ghost equal = { int_eq };
-
-    ghost equivalence = { int_eq_equiv };
-
-    ghost alike = { int_alike };
-
-    ghost order = { int_cmp };
-
-    ghost order_total = { int_cmp_total };
-
-    ghost order_ties = { λ x y. refl };
-}
-
-impl<L: Lending> LawfulKey<L> for i64 {
-    type Dst = i64;
-
-    ghost Value = { ⟦<i64 as Lawful<L>>⟧.Value };
-
-    ghost model = { ⟦<i64 as Lawful<L>>⟧.model };
-
-    ghost is_valid = { ⟦<i64 as Lawful<L>>⟧.is_valid };
-
-    ghost reading = { ⟦<i64 as Lawful<L>>⟧.reading };
-
-    ghost read_laws = { ⟦<i64 as Lawful<L>>⟧.read_laws };
-
-    ghost equal = { int_eq };
-
-    ghost equivalence = { int_eq_equiv };
-
-    ghost alike = { int_alike };
-
-    ghost order = { int_cmp };
-
-    ghost order_total = { int_cmp_total };
-
-    ghost order_ties = { λ x y. refl };
-}
-
-impl<L: Lending> LawfulKey<L> for i128 {
-    type Dst = i128;
-
-    ghost Value = { ⟦<i128 as Lawful<L>>⟧.Value };
-
-    ghost model = { ⟦<i128 as Lawful<L>>⟧.model };
-
-    ghost is_valid = { ⟦<i128 as Lawful<L>>⟧.is_valid };
-
-    ghost reading = { ⟦<i128 as Lawful<L>>⟧.reading };
-
-    ghost read_laws = { ⟦<i128 as Lawful<L>>⟧.read_laws };
-
-    ghost equal = { int_eq };
-
-    ghost equivalence = { int_eq_equiv };
-
-    ghost alike = { int_alike };
-
-    ghost order = { int_cmp };
-
-    ghost order_total = { int_cmp_total };
-
-    ghost order_ties = { λ x y. refl };
-}
-
-impl<L: Lending> LawfulKey<L> for isize {
-    type Dst = isize;
-
-    ghost Value = { ⟦<isize as Lawful<L>>⟧.Value };
-
-    ghost model = { ⟦<isize as Lawful<L>>⟧.model };
-
-    ghost is_valid = { ⟦<isize as Lawful<L>>⟧.is_valid };
-
-    ghost reading = { ⟦<isize as Lawful<L>>⟧.reading };
-
-    ghost read_laws = { ⟦<isize as Lawful<L>>⟧.read_laws };
-
-    ghost equal = { int_eq };
-
-    ghost equivalence = { int_eq_equiv };
-
-    ghost alike = { int_alike };
-
-    ghost order = { int_cmp };
-
-    ghost order_total = { int_cmp_total };
-
-    ghost order_ties = { λ x y. refl };
 }
 
 impl<L: Lending> LawfulKey<L> for bool {

@@ -1,11 +1,10 @@
 //! One encoding for each value: every schema but those of maps, sets and heaps, which take their items in any order.
 ghost use Rattle.std.specs.Prelude.{true, false, max};
-ghost use Rattle.std.specs.Int.{w8, w16, w32, w64, w128};
 ghost use Rattle.wincode_io.specs.Readers.{shared, for_writing};
 ghost use Rattle.wincode_base.specs.Lengths.{bincode, preallocation_limit};
 ghost use Rattle.wincode_base.specs.Views.{form_prealloc, ViewReadRefused, PodReadRefused};
-ghost use Rattle.wincode.specs.OneTextLaws.{number_one_text, signed_one_text, bool_one_text, unit_one_text, char_one_text, str_one_text, short_one_text};
-ghost use Rattle.wincode.specs.OneTextLaws.{pair_one_text, windowed_one_text, array_one_text, list_one_text, option_one_text, result_one_text, boxed_one_text, form_one_text, lent_one_text};
+ghost use Rattle.wincode.specs.OneTextLaws.{number_one_text, bool_one_text, unit_one_text, char_one_text, str_one_text, short_one_text};
+ghost use Rattle.wincode.specs.OneTextLaws.{windowed_one_text, array_one_text, list_one_text, option_one_text, result_one_text, boxed_one_text, form_one_text, lent_one_text};
 
 use crate::containers::{self, Pod};
 use crate::io::{Borrowed, Lending, SliceView, View, ZeroCopy};
@@ -15,54 +14,6 @@ use crate::tag::TagCode;
 use std::collections::{LinkedList, VecDeque};
 use std::marker::PhantomData;
 use std::rc::Rc;
-
-impl<L: Lending> OneText<L> for u8 {
-    ghost one_text = { number_one_text 1 true };
-}
-
-impl<L: Lending> OneText<L> for u16 {
-    ghost one_text = { number_one_text 2 true };
-}
-
-impl<L: Lending> OneText<L> for u32 {
-    ghost one_text = { number_one_text 4 true };
-}
-
-impl<L: Lending> OneText<L> for u64 {
-    ghost one_text = { number_one_text 8 true };
-}
-
-impl<L: Lending> OneText<L> for u128 {
-    ghost one_text = { number_one_text 16 true };
-}
-
-impl<L: Lending> OneText<L> for usize {
-    ghost one_text = { number_one_text 8 false };
-}
-
-impl<L: Lending> OneText<L> for i8 {
-    ghost one_text = { signed_one_text w8 true };
-}
-
-impl<L: Lending> OneText<L> for i16 {
-    ghost one_text = { signed_one_text w16 true };
-}
-
-impl<L: Lending> OneText<L> for i32 {
-    ghost one_text = { signed_one_text w32 true };
-}
-
-impl<L: Lending> OneText<L> for i64 {
-    ghost one_text = { signed_one_text w64 true };
-}
-
-impl<L: Lending> OneText<L> for i128 {
-    ghost one_text = { signed_one_text w128 true };
-}
-
-impl<L: Lending> OneText<L> for isize {
-    ghost one_text = { signed_one_text w64 false };
-}
 
 impl<L: Lending> OneText<L> for bool {
     ghost one_text = { bool_one_text };
@@ -151,136 +102,6 @@ impl<L: Lending, T: OneText<L>> OneText<L> for containers::Elem<T> {
 
 impl<L: Lending, T: OneText<L>, const N: usize> OneText<L> for [T; N] {
     ghost one_text = { windowed_one_text (array_one_text N T.one_text) };
-}
-
-impl<L: Lending, A: OneText<L>, B: OneText<L>> OneText<L> for (A, B) {
-    ghost one_text = { windowed_one_text (pair_one_text A.one_text B.one_text) };
-}
-
-impl<L: Lending, A: OneText<L>, B: OneText<L>, C: OneText<L>> OneText<L> for (A, B, C) {
-    ghost one_text = { windowed_one_text (pair_one_text A.one_text (pair_one_text B.one_text C.one_text)) };
-}
-
-impl<L: Lending, A: OneText<L>, B: OneText<L>, C: OneText<L>, D: OneText<L>> OneText<L>
-    for (A, B, C, D) {
-    ghost one_text = { windowed_one_text (pair_one_text A.one_text (pair_one_text B.one_text (pair_one_text C.one_text D.one_text))) };
-}
-
-impl<L: Lending, A: OneText<L>, B: OneText<L>, C: OneText<L>, D: OneText<L>, E: OneText<L>> OneText<
-    L,
-> for (A, B, C, D, E) {
-    ghost one_text = { windowed_one_text (pair_one_text A.one_text (pair_one_text B.one_text (pair_one_text C.one_text (pair_one_text D.one_text E.one_text)))) };
-}
-
-impl<
-    L: Lending,
-    A: OneText<L>,
-    B: OneText<L>,
-    C: OneText<L>,
-    D: OneText<L>,
-    E: OneText<L>,
-    F: OneText<L>,
-> OneText<L> for (A, B, C, D, E, F) {
-    ghost one_text = { windowed_one_text (pair_one_text A.one_text (pair_one_text B.one_text (pair_one_text C.one_text (pair_one_text D.one_text (pair_one_text E.one_text F.one_text))))) };
-}
-
-impl<
-    L: Lending,
-    A: OneText<L>,
-    B: OneText<L>,
-    C: OneText<L>,
-    D: OneText<L>,
-    E: OneText<L>,
-    F: OneText<L>,
-    G: OneText<L>,
-> OneText<L> for (A, B, C, D, E, F, G) {
-    ghost one_text = { windowed_one_text (pair_one_text A.one_text (pair_one_text B.one_text (pair_one_text C.one_text (pair_one_text D.one_text (pair_one_text E.one_text
-        (pair_one_text F.one_text G.one_text)))))) };
-}
-
-impl<
-    L: Lending,
-    A: OneText<L>,
-    B: OneText<L>,
-    C: OneText<L>,
-    D: OneText<L>,
-    E: OneText<L>,
-    F: OneText<L>,
-    G: OneText<L>,
-    H: OneText<L>,
-> OneText<L> for (A, B, C, D, E, F, G, H) {
-    ghost one_text = { windowed_one_text (pair_one_text A.one_text (pair_one_text B.one_text (pair_one_text C.one_text (pair_one_text D.one_text (pair_one_text E.one_text
-        (pair_one_text F.one_text (pair_one_text G.one_text H.one_text))))))) };
-}
-
-impl<
-    L: Lending,
-    A: OneText<L>,
-    B: OneText<L>,
-    C: OneText<L>,
-    D: OneText<L>,
-    E: OneText<L>,
-    F: OneText<L>,
-    G: OneText<L>,
-    H: OneText<L>,
-    I: OneText<L>,
-> OneText<L> for (A, B, C, D, E, F, G, H, I) {
-    ghost one_text = { windowed_one_text (pair_one_text A.one_text (pair_one_text B.one_text (pair_one_text C.one_text (pair_one_text D.one_text (pair_one_text E.one_text
-        (pair_one_text F.one_text (pair_one_text G.one_text (pair_one_text H.one_text I.one_text)))))))) };
-}
-
-impl<
-    L: Lending,
-    A: OneText<L>,
-    B: OneText<L>,
-    C: OneText<L>,
-    D: OneText<L>,
-    E: OneText<L>,
-    F: OneText<L>,
-    G: OneText<L>,
-    H: OneText<L>,
-    I: OneText<L>,
-    J: OneText<L>,
-> OneText<L> for (A, B, C, D, E, F, G, H, I, J) {
-    ghost one_text = { windowed_one_text (pair_one_text A.one_text (pair_one_text B.one_text (pair_one_text C.one_text (pair_one_text D.one_text (pair_one_text E.one_text
-        (pair_one_text F.one_text (pair_one_text G.one_text (pair_one_text H.one_text (pair_one_text I.one_text J.one_text))))))))) };
-}
-
-impl<
-    L: Lending,
-    A: OneText<L>,
-    B: OneText<L>,
-    C: OneText<L>,
-    D: OneText<L>,
-    E: OneText<L>,
-    F: OneText<L>,
-    G: OneText<L>,
-    H: OneText<L>,
-    I: OneText<L>,
-    J: OneText<L>,
-    K: OneText<L>,
-> OneText<L> for (A, B, C, D, E, F, G, H, I, J, K) {
-    ghost one_text = { windowed_one_text (pair_one_text A.one_text (pair_one_text B.one_text (pair_one_text C.one_text (pair_one_text D.one_text (pair_one_text E.one_text
-        (pair_one_text F.one_text (pair_one_text G.one_text (pair_one_text H.one_text (pair_one_text I.one_text (pair_one_text J.one_text K.one_text)))))))))) };
-}
-
-impl<
-    L: Lending,
-    A: OneText<L>,
-    B: OneText<L>,
-    C: OneText<L>,
-    D: OneText<L>,
-    E: OneText<L>,
-    F: OneText<L>,
-    G: OneText<L>,
-    H: OneText<L>,
-    I: OneText<L>,
-    J: OneText<L>,
-    K: OneText<L>,
-    M: OneText<L>,
-> OneText<L> for (A, B, C, D, E, F, G, H, I, J, K, M) {
-    ghost one_text = { windowed_one_text (pair_one_text A.one_text (pair_one_text B.one_text (pair_one_text C.one_text (pair_one_text D.one_text (pair_one_text E.one_text
-        (pair_one_text F.one_text (pair_one_text G.one_text (pair_one_text H.one_text (pair_one_text I.one_text (pair_one_text J.one_text (pair_one_text K.one_text M.one_text))))))))))) };
 }
 
 impl<L: Lending, T: ZeroCopy> OneText<L> for Pod<T> {

@@ -78,10 +78,7 @@ pub(crate) fn sizes_of_items<T: SchemaWrite>(before: usize, items: &[T::Src]) ->
     let mut sum = before;
     for item in items {
         let size = T::size_of(item)?;
-        sum = match sum.checked_add(size) {
-            Some(more) => more,
-            None => return Err(write_length_encoding_overflow("usize::MAX")),
-        };
+        sum = checked_sum(sum, size)?;
     }
     Ok(sum)
 }
@@ -154,10 +151,7 @@ impl<U, T: SchemaWrite<Src = U>> ToItems<T> for LinkedList<U> {
         let mut sum = before;
         for item in self {
             let size = T::size_of(item)?;
-            sum = match sum.checked_add(size) {
-                Some(more) => more,
-                None => return Err(write_length_encoding_overflow("usize::MAX")),
-            };
+            sum = checked_sum(sum, size)?;
         }
         Ok(sum)
     }
@@ -207,10 +201,7 @@ impl<A: Ord, B, K: SchemaWrite<Src = A>, V: SchemaWrite<Src = B>> ToItems<Member
         let mut sum = before;
         for (key, value) in self {
             let size = size_of_members_2::<K, V>(key, value)?;
-            sum = match sum.checked_add(size) {
-                Some(more) => more,
-                None => return Err(write_length_encoding_overflow("usize::MAX")),
-            };
+            sum = checked_sum(sum, size)?;
         }
         Ok(sum)
     }
@@ -243,10 +234,7 @@ impl<A: Eq + Hash, B, K: SchemaWrite<Src = A>, V: SchemaWrite<Src = B>> ToItems<
         let mut sum = before;
         for (key, value) in self {
             let size = size_of_members_2::<K, V>(key, value)?;
-            sum = match sum.checked_add(size) {
-                Some(more) => more,
-                None => return Err(write_length_encoding_overflow("usize::MAX")),
-            };
+            sum = checked_sum(sum, size)?;
         }
         Ok(sum)
     }
@@ -273,10 +261,7 @@ impl<A: Ord, K: SchemaWrite<Src = A>> ToItems<K> for BTreeSet<A> {
         let mut sum = before;
         for key in self {
             let size = K::size_of(key)?;
-            sum = match sum.checked_add(size) {
-                Some(more) => more,
-                None => return Err(write_length_encoding_overflow("usize::MAX")),
-            };
+            sum = checked_sum(sum, size)?;
         }
         Ok(sum)
     }
@@ -302,10 +287,7 @@ impl<A: Eq + Hash, K: SchemaWrite<Src = A>> ToItems<K> for HashSet<A> {
         let mut sum = before;
         for key in self {
             let size = K::size_of(key)?;
-            sum = match sum.checked_add(size) {
-                Some(more) => more,
-                None => return Err(write_length_encoding_overflow("usize::MAX")),
-            };
+            sum = checked_sum(sum, size)?;
         }
         Ok(sum)
     }

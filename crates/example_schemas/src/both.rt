@@ -1,6 +1,6 @@
 //! The same bytes read by two readers.
 ghost use Rattle.std.specs.Prelude.{◌≡◌, ℕ, ◌^◌, ◌<◌, length, IfOk, IfErr, IsTrue};
-ghost use Rattle.test_streams.specs.Fronts.{Agree, IsExcused};
+ghost use Rattle.example_schemas.specs.Fronts.{Agree, IsExcused};
 
 use std::alloc::Global;
 use wincode::io::{Lending, Reader};

@@ -4,7 +4,7 @@ use Rattle.std.proofs.Math.Seq.{drop-append_seam}
 use Rattle.wincode_io.specs.Joins.{IsUnambiguous}
 use Rattle.wincode_io.specs.Readers.{ReaderState}
 use Rattle.wincode_base.specs.Outcomes.{Gives}
-use Rattle.test_streams.specs.Fronts.{Agree}
+use Rattle.example_schemas.specs.Fronts.{Agree}
 
 -- both gave a value
 pub both_gave : {D V : Type 0} (model : D → V) (reads : List ℕ → V → Type 0) → IsUnambiguous reads → (a b c d : ReaderState) (v w : D)

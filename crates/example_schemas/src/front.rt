@@ -2,7 +2,7 @@
 ghost use Rattle.std.specs.Prelude.{[], IfOk, IfErr, IsTrue};
 ghost use Rattle.wincode_base.specs.Outcomes.{Found};
 ghost use Rattle.wincode_io.specs.Streams.{stream_state, streaming};
-ghost use Rattle.test_streams.specs.Fronts.{IsNotRead};
+ghost use Rattle.example_schemas.specs.Fronts.{IsNotRead};
 
 use std::alloc::Global;
 use wincode::io::{Lending, Source, StreamReader};

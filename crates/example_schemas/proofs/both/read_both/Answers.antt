@@ -1,6 +1,6 @@
 use Rattle.std.proofs.lemmas.Result.{IfOk-weaker}
-use Rattle.test_streams.proofs.Boths.{both_gave}
-use Rattle.test_streams.proofs.both.read_both.Goals as goal
+use Rattle.example_schemas.proofs.Boths.{both_gave}
+use Rattle.example_schemas.proofs.both.read_both.Goals as goal
 
 pub returns-clause-agree : goal.returns-clause-agree
 returns-clause-agree g c =
