@@ -37,6 +37,10 @@ unsized_second a b e f d = (d.0, λ builtin. unsized_by e f (d.1 (builtin_second
 pub overflow_unsized : (builtin : Bool) {Q : Type 0} (e : WriteError) → IsOverflow past_usize e → IsSizeError builtin Q e
 overflow_unsized builtin e o = ((overflow_unfit builtin e o).0, λ t. inl o)
 
+-- a sum that overflowed is refused so
+pub overflow_refused : (builtin : Bool) {P Q : Type 0} (e : WriteError) → (P → Q → ⊥) → IsOverflow past_usize e → (P → Q → ⊥) × IsSizeError builtin P e
+overflow_refused builtin e past o = (past, overflow_unsized builtin e o)
+
 -- so is the error of a value that can't be written
 pub unwritable : {Q : Type 0} (e : WriteError) → (Q → ⊥) → IsOverflow past_usize e ⊎ IsOverflow past_u16 e → IsOverflow past_usize e ⊎ ((Q → ⊥) × IsOverflow past_u16 e)
 unwritable e none (inl o) = inl o
