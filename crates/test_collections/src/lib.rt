@@ -14,6 +14,8 @@ mod many;
 #[cfg(test)]
 mod maps;
 #[cfg(test)]
+mod mebi;
+#[cfg(test)]
 mod quick;
 #[cfg(test)]
 mod short_lengths;

@@ -37,6 +37,10 @@ fn lists_past_u16(rt: HostRuntime) -> Result<(), Fail> {
     let alloc = rt.alloc();
     let many = vec![in alloc; 0u8; 65536]?;
     assert!(rt; is_past_u16::<containers::Vec<u8, ShortU16Len>>(alloc, &many));
+    let pairs = vec![in alloc; (3u8, many)]?;
+    type Pair = (u8, containers::Vec<u8, ShortU16Len>);
+    let size = <Vec<Pair> as SchemaWrite>::size_of(&pairs);
+    assert!(rt; matches!(&size, Err(WriteError::LengthEncodingOverflow("u16::MAX"))));
     let mut queue = VecDeque::new(alloc);
     let mut heap = BinaryHeap::new(alloc);
     for _ in 0..65536 {
@@ -45,7 +49,7 @@ fn lists_past_u16(rt: HostRuntime) -> Result<(), Fail> {
     }
     assert!(rt; is_past_u16::<containers::VecDeque<u8, ShortU16Len>>(alloc, &queue));
     assert!(rt; is_past_u16::<containers::BinaryHeap<u8, ShortU16Len>>(alloc, &heap));
-    let boxed = many.into_boxed_slice();
+    let boxed = vec![in alloc; 0u8; 65536]?.into_boxed_slice();
     assert!(rt; is_past_u16::<containers::BoxedSlice<u8, ShortU16Len>>(alloc, &boxed));
     Ok(())
 }

@@ -23,7 +23,7 @@ fn numbered(alloc: Global, n: usize, head: &[u8]) -> Result<Vec<u8>, Fail> {
 }
 
 /// Whether a collection of these items, no two of which are the same, is written with as many as were read.
-fn keeps_all<'a, U: Drop, T: SchemaWrite<Src = U> + SchemaRead<Lifetime<'a>, Dst = U>>(
+pub fn keeps_all<'a, U: Drop, T: SchemaWrite<Src = U> + SchemaRead<Lifetime<'a>, Dst = U>>(
     alloc: Global,
     bytes: &'a [u8],
 ) -> Result<bool, Fail> {

@@ -1,7 +1,9 @@
 //! What is printed of bytes that are checked.
 use std::alloc::Global;
 use std::test::Fail;
-use wincode_describe::{Described, checked_line};
+use wincode_describe::spans::{Span, spans};
+use wincode_describe::{Described, checked_line, explain};
+use wincode_io::Lifetime;
 
 /// Whether the bytes are of the type, and the line.
 fn line(alloc: Global, text: &str, bytes: &[u8]) -> Result<(bool, String), Fail> {
@@ -75,6 +77,32 @@ fn a_mebibyte(rt: HostRuntime) -> Result<(), Fail> {
     let (ok, said) = line(alloc, "[u8; 1048576]", bytes.as_slice())?;
     assert!(rt; ok);
     assert_eq!(rt; said.as_str(), "ok, 1048576 bytes, 0 left");
+    Ok(())
+}
+
+/// The length of a list of one item more than a mebi.
+const LENGTH: [u8; 8] = [1, 0, 16, 0, 0, 0, 0, 0];
+
+/// More parts than a mebi are counted.
+#[test]
+fn more_than_a_mebi_of_parts(rt: HostRuntime) -> Result<(), Fail> {
+    let alloc = rt.alloc();
+    let (ok, said) = line(alloc, "Vec<()>", LENGTH.as_slice())?;
+    assert!(rt; ok);
+    assert_eq!(rt; said.as_str(), "ok, 8 bytes, 0 left");
+    Ok(())
+}
+
+/// And kept, each with its place.
+#[test]
+fn more_than_a_mebi_of_parts_are_kept(rt: HostRuntime) -> Result<(), Fail> {
+    let alloc = rt.alloc();
+    let described = Described::parse(alloc, "Vec<()>")?;
+    let explained = explain::<Lifetime>(alloc, &described, LENGTH.as_slice());
+    assert!(rt; explained.refused.is_none());
+    assert_eq!(rt; explained.parts.len(), 1_048_578);
+    let spans = spans(alloc, explained.parts.as_slice())?;
+    assert!(rt; matches!(spans.last(), Some(Span { offset: 8, size: 0 })));
     Ok(())
 }
 

@@ -10,7 +10,7 @@ fn lines(alloc: Global, text: &str, bytes: &[u8]) -> Result<String, Fail> {
 }
 
 /// A type, bytes and their lines.
-const ROWS: [(&str, &[u8], &str); 22] = [
+const ROWS: [(&str, &[u8], &str); 28] = [
     ("u16", &[2, 1, 9], "0: 0201 u16 258\n"),
     ("i8", &[255], "0: ff i8 -1\n"),
     (
@@ -89,6 +89,36 @@ const ROWS: [(&str, &[u8], &str); 22] = [
         &[4, 1],
         "0: 04 tag 4\n1: refused: Invalid tag encoding: 4\n",
     ),
+    (
+        "(String, bool)",
+        &[1, 0, 0, 0, 0, 0, 0, 0, 97, 1],
+        "0: 0100000000000000 .0 length 1\n8: 61 .0 text \"a\"\n9: 01 .1 flag true\n",
+    ),
+    (
+        "(String, bool)",
+        &[1, 0, 0, 0, 0, 0, 0, 0, 97, 2],
+        "0: 0100000000000000 .0 length 1\n8: 61 .0 text \"a\"\n9: .1 refused: Invalid bool encoding: 2\n",
+    ),
+    (
+        "(Vec<u8>, u16)",
+        &[2, 0, 0, 0, 0, 0, 0, 0, 8, 9, 7, 0],
+        "0: 0200000000000000 .0 length 2\n8: 0809 .0 bytes 2\n10: 0700 .1 u16 7\n",
+    ),
+    (
+        "Vec<(short Vec<u8>, bool)>",
+        &[2, 0, 0, 0, 0, 0, 0, 0, 1, 9, 1, 0, 3],
+        "0: 0200000000000000 length 2\n8: 01 [0].0 length 1\n9: 09 [0].0 bytes 1\n10: 01 [0].1 flag true\n11: 00 [1].0 length 0\n12:  [1].0 bytes 0\n12: [1].1 refused: Invalid bool encoding: 3\n",
+    ),
+    (
+        "enum u8 { 4: (String, u8), 5: u8 }",
+        &[4, 1, 0, 0, 0, 0, 0, 0, 0, 97],
+        "0: 04 tag 4\n1: 0100000000000000 .0 length 1\n9: 61 .0 text \"a\"\n10: .1 refused: Attempting to read 1 bytes\n",
+    ),
+    (
+        "Result<String, (u8, [bool; 2])>",
+        &[1, 0, 0, 0, 7, 1, 2],
+        "0: 01000000 tag 1\n4: 07 .0 u8 7\n5: 01 .1[0] flag true\n6: .1[1] refused: Invalid bool encoding: 2\n",
+    ),
 ];
 
 #[test]
@@ -108,6 +138,7 @@ fn short_lengths(rt: HostRuntime) -> Result<(), Fail> {
     for (head, n, printed) in [
         (&[0x7fu8][..], 127usize, "0: 7f length 127\n1: "),
         (&[0x80, 0x01], 128, "0: 8001 length 128\n2: "),
+        (&[0xff, 0x7f], 16383, "0: ff7f length 16383\n2: "),
         (&[0x80, 0x80, 0x01], 16384, "0: 808001 length 16384\n3: "),
     ] {
         let mut bytes = Vec::from_slice(alloc, head)?;
@@ -119,6 +150,19 @@ fn short_lengths(rt: HostRuntime) -> Result<(), Fail> {
         let end = format!(in alloc; "01010101010101010101010101010101.. ({n} bytes) bytes {n}\n")?;
         assert!(rt; text.as_str().ends_with(end.as_str()));
     }
+    Ok(())
+}
+
+/// An enum of a source file that doesn't say how wide its tags are has tags of four bytes.
+#[test]
+fn a_declared_enum(rt: HostRuntime) -> Result<(), Fail> {
+    let alloc = rt.alloc();
+    let source = "enum Level { Low, High(u8) }";
+    let described = Described::parse_with(alloc, source, "Level")?;
+    let (_, text) = explained_lines(alloc, &described, &[1, 0, 0, 0, 5])?;
+    assert_eq!(rt; text.as_str(), "0: 01000000 tag 1\n4: 05 .0 u8 5\n");
+    let (_, text) = explained_lines(alloc, &described, &[1, 5])?;
+    assert_eq!(rt; text.as_str(), "0: refused: Attempting to read 4 bytes\n");
     Ok(())
 }
 

@@ -197,10 +197,15 @@ struct Other {
 struct Ring {
     next: Option<Ring>,
 }
+
+enum Level {
+    Low,
+    High(u8),
+}
 ";
 
 /// A type by these declarations, and what it is.
-const DECLARED: [(&str, &str); 5] = [
+const DECLARED: [(&str, &str); 6] = [
     ("Owner", "struct { 0: String, 1: [u8; 4] }"),
     ("Option<Nothing>", "Option<()>"),
     (
@@ -212,6 +217,7 @@ const DECLARED: [(&str, &str); 5] = [
         "Vec<struct { id: u64, owners: short Vec<struct { 0: String, 1: [u8; 4] }>, state: enum u8 { 0: (), 7: struct { 0: u16 }, 2: struct { to: u64, when: Option<u32> } } }>",
     ),
     ("containers::Vec<u8, BincodeLen>", "Vec<u8>"),
+    ("Level", "enum u32 { 0: (), 1: struct { 0: u8 } }"),
 ];
 
 #[test]

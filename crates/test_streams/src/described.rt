@@ -77,6 +77,46 @@ fn fronts_and_changes(rt: HostRuntime) -> Result<(), Fail> {
     Ok(())
 }
 
+/// Short lengths of one, two and three bytes: their bytes are put together again where they came of a source.
+#[test]
+fn short_lengths(rt: HostRuntime) -> Result<(), Fail> {
+    let alloc = rt.alloc();
+    let described = Described::parse(alloc, "(short Vec<u8>, bool)")?;
+    for (head, n) in [
+        (&[0x7fu8][..], 127usize),
+        (&[0x80, 0x01], 128),
+        (&[0xff, 0x7f], 16383),
+        (&[0x80, 0x80, 0x01], 16384),
+        (&[0x81, 0x80, 0x01], 16385),
+        (&[0xff, 0xff, 0x03], 65535),
+    ] {
+        let mut bytes = Vec::from_slice(alloc, head)?;
+        bytes.extend_from_slice(vec![in alloc; 7u8; n]?.as_slice())?;
+        bytes.push(1)?;
+        let source = in_pieces(alloc, bytes.as_slice(), 8192, false)?;
+        let (ok, lines) = explained_source_lines(alloc, &described, source)?;
+        let (_, due) = explained_lines(alloc, &described, bytes.as_slice())?;
+        assert!(rt; ok && lines == due, "{n}");
+    }
+    Ok(())
+}
+
+/// A text of more than a mebibyte, which is kept, put together again and printed.
+#[test]
+fn a_text_of_more_than_a_mebibyte(rt: HostRuntime) -> Result<(), Fail> {
+    let alloc = rt.alloc();
+    let mut bytes = vec![in alloc; 97u8; 1_048_585]?;
+    bytes[..8].copy_from_slice(&[1, 0, 16, 0, 0, 0, 0, 0]);
+    let described = Described::parse(alloc, "String")?;
+    let source = StdSource::new(bytes.as_slice());
+    let (ok, lines) = explained_source_lines(alloc, &described, source)?;
+    assert!(rt; ok);
+    let printed = lines.as_str();
+    assert!(rt; printed.starts_with("0: 0100100000000000 length 1048577\n8: 6161"));
+    assert!(rt; printed.len() > 1_048_577 && printed.ends_with("aaaa\"\n"));
+    Ok(())
+}
+
 /// A source that fails where its bytes end: what needs no more than came is explained.
 #[test]
 fn a_failure_behind_a_value(rt: HostRuntime) -> Result<(), Fail> {

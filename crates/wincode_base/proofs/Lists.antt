@@ -6,7 +6,7 @@ use Rattle.wincode_base.specs.Grammar.{WriteGrammar, WriteLaws}
 use Rattle.wincode_base.specs.Lengths.{Scheme, HasEncoding, encoding_len, length_write, LengthSizeRefused}
 use Rattle.wincode_base.specs.Lists.{item_write, items_write, each_write, parts_write, list_write, SizesRefused}
 use Rattle.wincode_base.specs.Outcomes.{Wrote, WriteRefused, Stopped, IsSized, SizeRefused}
-use Rattle.wincode_base.specs.PairSizeLaws.{unfit_first, unfit_second}
+use Rattle.wincode_base.specs.PairSizeLaws.{unsized_part, unsized_second, unwritable_first}
 use Rattle.wincode_base.specs.WriteSequences.{items_wrote_none, items_wrote_more, items_unwritten, each_halted, items_halted, item_halted, list_halted_first, list_halted_second, list_wrote, list_unwritten_first, list_unwritten_second}
 use Rattle.wincode_base.specs.declared.error.WriteError.{WriteError}
 use Rattle.wincode_io.specs.Joins.{Each, total}
@@ -57,7 +57,7 @@ module _ {X V : Type 0} (s : Scheme) (f : X → V) (xs : List X) where
 module _ {X V : Type 0} (s : Scheme) (count : ℕ) (g : WriteGrammar V) (f : X → V) (xs : List X) where
   -- the length has no encoding
   pub size_without_encoding : (e : WriteError) → LengthSizeRefused s (length xs) e → SizeRefused (list_write s count g) (map f xs) e
-  size_without_encoding e d = (λ c fits. d.0 (encoding_model s f xs c.0), unfit_first s.builtin g.builtin e d.1)
+  size_without_encoding e d = (λ c fits. d.0 (encoding_model s f xs c.0), unwritable_first s.builtin g.builtin e (λ c. d.0 (encoding_model s f xs c.0)) d.1)
 
   -- the length has an encoding, and the sizes of the items were added to its size
   pub size_summed : (before n : ℕ) → HasEncoding s (length xs) → before ≡ encoding_len (s.encoding (length xs)) → Each g.can (map f xs) × (n ≡ before + total g.size (map f xs)) → (list_write s count g).can (map f xs) × (n ≡ (list_write s count g).size (map f xs))
@@ -65,14 +65,14 @@ module _ {X V : Type 0} (s : Scheme) (count : ℕ) (g : WriteGrammar V) (f : X �
 
   -- the length has an encoding, and the sizes of the items were refused
   pub size_unsummed : (before : ℕ) (e : WriteError) → before ≡ encoding_len (s.encoding (length xs)) → SizesRefused before g (map f xs) e → SizeRefused (list_write s count g) (map f xs) e
-  size_unsummed before e is d = (λ c fits. d.0 c.1 (omega (arith, is, model_size s f xs)), unfit_second s.builtin g.builtin e d.1)
+  size_unsummed before e is d = (λ c fits. d.0 c.1 (omega (arith, is, model_size s f xs)), unsized_second s.builtin g.builtin e (λ c. c.1) d.1)
 
 -- ---- the sizes of items, added to what stands before them
 
 module _ {X V : Type 0} (before : ℕ) (g : WriteGrammar V) (f : X → V) (xs : List X) (i : ℕ) (x : X) (h : i < length xs) (is : x ≡ get_or xs i x) where
   -- an item's size was refused
   pub sum_item : (e : WriteError) → SizeRefused g (f x) e → SizesRefused before g (map f xs) e
-  sum_item e d = (λ c fits. d.0 (each_map_at xs i x h is f g.can c) (omega (arith, total_within xs i x h is f g.size)), d.1)
+  sum_item e d = (λ c fits. d.0 (each_map_at xs i x h is f g.can c) (omega (arith, total_within xs i x h is f g.size)), unsized_part g.builtin e (λ c. each_map_at xs i x h is f g.can c) d.1)
 
   -- the sum of sizes overflows
   pub sum_over : (sum : ℕ) → sum ≡ before + total g.size (map f (take i xs)) → 2 ^ 64 ≤ sum + g.size (f x) → Each g.can (map f xs) → before + total g.size (map f xs) < 2 ^ 64 → ⊥

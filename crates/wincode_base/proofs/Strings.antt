@@ -32,6 +32,7 @@ use Rattle.wincode_base.specs.declared.error.ReadError.{ReadError}
 use Rattle.wincode_base.specs.declared.error.ReadError.TheVariants as reading
 use Rattle.wincode_io.specs.declared.error.ReadError.{ReadError as IoReadError}
 use Rattle.wincode_io.specs.declared.error.ReadError.TheVariants as reader
+use Rattle.wincode_io.specs.Texts.{IsUtf8Fault}
 use Rattle.wincode_io.specs.PlaceLaws.{unsteady, kept_trans, known_kept, stays_trans, stays_onward, loses_onward, onward_trans}
 
 -- ---- characters
@@ -140,7 +141,7 @@ char_due : (old new : ReaderState) (e : ReadError) → CharReadRefusedFor old ne
 char_due old new (reading.Io e) (inl d) = short_due 1 old new e (accepts_one old) d
 char_due old new (reading.Io e) (inr d) = short_due (announced d.0) old new e (λ a. (accepts_lead old d.0 a d.1).within) d.2
 char_due old new (reading.InvalidCharLead lead) d = λ a. let h = (accepts_lead old lead a d.0).some in let none = d.1 in absurd (omega arith)
-char_due old new (reading.InvalidUtf8Encoding e) d = λ a. (d.2 a.is_known).1 (accepts_lead old d.0 a d.1).is_utf8
+char_due old new (reading.InvalidUtf8Encoding e) d = λ a. (d.2 a.is_known).1.0 (accepts_lead old d.0 a d.1).is_utf8
 char_due old new _ d = absurd d
 
 -- a character was refused for its reason
@@ -176,11 +177,12 @@ take_within : (n : ℕ) (xs bytes : List ℕ) → bytes ≡ take n xs → length
 take_within n xs bytes e size = omega (arith, ap length e, length-take n xs)
 
 -- the bytes that the first announces are not UTF-8
-pub char_not : (old mid new : ReaderState) (lead n : ℕ) (bytes : List ℕ) (u : Utf8Error) → n ≡ announced lead → Stays old mid → IsPeeked old lead → Stays mid new → length bytes ≡ n → IsShown n mid bytes → (IsUtf8 bytes → ⊥)
+pub char_not : (old mid new : ReaderState) (lead n : ℕ) (bytes : List ℕ) (u : Utf8Error) → n ≡ announced lead → Stays old mid → IsPeeked old lead → Stays mid new → length bytes ≡ n → IsShown n mid bytes → IsUtf8Fault bytes u
     → CharReadRefused old new (reading.InvalidUtf8Encoding u)
 char_not old mid new lead n bytes u is s p t size shown not =
-    let P : ℕ → Type 0 = λ k. (k ≤ length old.rest) × (IsUtf8 (take k old.rest) → ⊥) in
-    (stays_trans s t, (lead, p, λ told. let e = shown_before n bytes s shown told in subst P is (take_within n old.rest bytes e size, λ h. not (subst IsUtf8 (sym e) h))))
+    let P : ℕ → Type 0 = λ k. (k ≤ length old.rest) × IsUtf8Fault (take k old.rest) u in
+    let Q : List ℕ → Type 0 = λ b. IsUtf8Fault b u in
+    (stays_trans s t, (lead, p, λ told. let e = shown_before n bytes s shown told in subst P is (take_within n old.rest bytes e size, subst Q e not)))
 
 first_true : (a b : Bool) → (a && b) ≡ true → a ≡ true
 first_true true b e = refl
@@ -256,7 +258,7 @@ body_refuses unlent owned n borrow takes_no_memory old new (reading.InvalidUtf8E
   kept = d.1.loses.kept;
   left = λ t. record { front = d.0; joins = takes_joins d.1 t };
   place = loses_onward n old new d.1.loses;
-  due = body_not n old new d.0 d.1 d.2;
+  due = body_not n old new d.0 d.1 d.2.0;
 }
 body_refuses unlent owned n borrow takes_no_memory old new _ lent builtin d = absurd d
 

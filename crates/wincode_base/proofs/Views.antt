@@ -20,7 +20,7 @@ use Rattle.wincode_base.specs.LengthLaws.{bincode_encoding, bincode_encoding_is}
 use Rattle.wincode_base.specs.Lengths.{bincode}
 use Rattle.wincode_base.specs.ItemSizes.{item_size}
 use Rattle.wincode_base.specs.Lists.{items_write, parts_write, list_bytes, ItemsWriteRefused, ListWriteRefused, WholeWriteRefused, InnerWriteRefused, SpanWriteRefused, SizesRefused, reads_list}
-use Rattle.wincode_base.specs.Outcomes.{Gives, Accepts, ReadRefused, ReaderDue, ReadDue, PieceReadRefused, Wrote, WriteRefused, Stopped, PieceWriteRefused, IsValueError}
+use Rattle.wincode_base.specs.Outcomes.{Gives, Accepts, ReadRefused, ReaderDue, ReadDue, PieceReadRefused, Wrote, WriteRefused, Stopped, PieceWriteRefused, IsSizeError}
 use Rattle.wincode_base.specs.AsForms.{reads_form}
 use Rattle.wincode_base.specs.Sequences.{Then, gives_map, refuses_map, then_gives, then_first, then_second}
 use Rattle.wincode_base.specs.FixedSizeLaws.{takes_gives}
@@ -252,7 +252,7 @@ module _ {X : Type 0} {is_valid : X → Type 0} {s : ℕ} {form : X → List ℕ
       → Forms.can (map (λ v. v) (values value s n b)) × (sum ≡ before + Forms.size (map (λ v. v) (values value s n b)))
   forms_summed before sum n b e is = (each_free (map (λ v. v) (values value s n b)), omega (arith, e, is, forms_size n b))
 
-  pub forms_over : (before n : ℕ) (b : List ℕ) (x : WriteError) → length b ≡ n * s → 2 ^ 64 ≤ before + length b → IsValueError true x
+  pub forms_over : (before n : ℕ) (b : List ℕ) (x : WriteError) → length b ≡ n * s → 2 ^ 64 ≤ before + length b → IsSizeError true (Each (form_write is_valid s form any prealloc).can (map (λ v. v) (values value s n b))) x
       → SizesRefused before (form_write is_valid s form any prealloc) (map (λ v. v) (values value s n b)) x
   forms_over before n b x e over unfit = (λ c small. absurd (omega (arith, e, over, small, forms_size n b)), unfit)
 

@@ -8,6 +8,7 @@ use Rattle.wincode_base.specs.Grammar.{WriteGrammar, WriteLaws}
 use Rattle.wincode_base.specs.Lists.{item_write, items_write, ItemsWriteRefused, SizesRefused}
 use Rattle.wincode_base.specs.ListLaws.{items_write_laws}
 use Rattle.wincode_base.specs.Outcomes.{Wrote, WriteRefused, Stopped, SizeRefused}
+use Rattle.wincode_base.specs.PairSizeLaws.{unsized_part}
 use Rattle.wincode_base.specs.Pairs.{pair_write}
 use Rattle.wincode_base.specs.WriteSequences.{items_wrote_more, items_unwritten, item_halted, stopped_map, stopped_behind, wrote_map, unwritten_map, pair_wrote, pair_unwritten_first, pair_unwritten_second}
 use Rattle.wincode_base.specs.declared.error.WriteError.{WriteError}
@@ -188,11 +189,11 @@ module _ {V E : Type 0} (g : WriteGrammar V) (see : E → V) (before : ℕ) wher
 
   pub sum_refused : (sum : ℕ) (all rest left : List E) (e : E) (x : WriteError) → SumsSoFar g see before sum all left → left ≡ e ∷ rest → SizeRefused g (see e) x → SizesRefused before g (map see all) x
   sum_refused sum all rest left e x w k d = (
-    λ c fits.
-        let builtin = each_split g.can (map see w.done) (see e ∷ map see rest) (subst (Each g.can) (sym (part_model see w.done rest all left e w.joins k)) c) in
-        let t = total_part sum all rest left e w k in d.0 builtin.1.0 (omega (arith, t, fits)),
-    d.1,
-  )
+    λ c fits. let t = total_part sum all rest left e w k in d.0 (part_can c) (omega (arith, t, fits)),
+    unsized_part g.builtin x part_can d.1,
+  ) where
+    part_can : Each g.can (map see all) → g.can (see e)
+    part_can c = (each_split g.can (map see w.done) (see e ∷ map see rest) (subst (Each g.can) (sym (part_model see w.done rest all left e w.joins k)) c)).1.0
 
   pub sum_past : (sum : ℕ) (all rest left : List E) (e : E) → SumsSoFar g see before sum all left → left ≡ e ∷ rest → (sum + g.size (see e) < 2 ^ 64 → ⊥) → Each g.can (map see all) → before + total g.size (map see all) < 2 ^ 64 → ⊥
   sum_past sum all rest left e w k o c fits = let t = total_part sum all rest left e w k in o (omega (arith, t, fits))
@@ -209,10 +210,10 @@ module _ {V E : Type 0} (g : WriteGrammar V) (see : E → V) (before : ℕ) wher
   can_parted xs ys all e c = each_split g.can (map see xs) (map see ys) (subst (Each g.can) (sym (parted xs ys all e)) c)
 
   pub sums_first : (xs ys all : List E) (x : WriteError) → xs ++ ys ≡ all → SizesRefused before g (map see xs) x → SizesRefused before g (map see all) x
-  sums_first xs ys all x e d = (λ c fits. d.0 (can_parted xs ys all e c).0 (omega (arith, fits, total_parted xs ys all e)), d.1)
+  sums_first xs ys all x e d = (λ c fits. d.0 (can_parted xs ys all e c).0 (omega (arith, fits, total_parted xs ys all e)), unsized_part g.builtin x (λ c. (can_parted xs ys all e c).0) d.1)
 
   pub sums_second : (xs ys all : List E) (sum : ℕ) (x : WriteError) → xs ++ ys ≡ all → sum ≡ before + total g.size (map see xs) → SizesRefused sum g (map see ys) x → SizesRefused before g (map see all) x
-  sums_second xs ys all sum x e s d = (λ c fits. d.0 (can_parted xs ys all e c).1 (omega (arith, fits, s, total_parted xs ys all e)), d.1)
+  sums_second xs ys all sum x e s d = (λ c fits. d.0 (can_parted xs ys all e c).1 (omega (arith, fits, s, total_parted xs ys all e)), unsized_part g.builtin x (λ c. (can_parted xs ys all e c).1) d.1)
 
   pub sums_both : (xs ys all : List E) (sum n : ℕ) → xs ++ ys ≡ all → Each g.can (map see xs) × (sum ≡ before + total g.size (map see xs)) → Each g.can (map see ys) × (n ≡ sum + total g.size (map see ys))
       → Each g.can (map see all) × (n ≡ before + total g.size (map see all))

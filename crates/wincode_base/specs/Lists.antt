@@ -4,7 +4,7 @@ use Rattle.wincode_io.specs.Readers.{ReaderState, Stays}
 use Rattle.wincode_io.specs.Joins.{Joined, Each, total, AreItems}
 use Rattle.wincode_base.specs.Grammar.{ReadGrammar, WriteGrammar, WriteRefusal, ReadRefusal}
 use Rattle.wincode_base.specs.Lengths.{Scheme, HasEncoding, LengthSizeRefused, encoding_len, IsLength, length_write, length_read}
-use Rattle.wincode_base.specs.Outcomes.{Gives, ReadRefused, SchemaReadRefused, IsValueError, IsOverflow, past_usize, PieceWriteRefused, Adds}
+use Rattle.wincode_base.specs.Outcomes.{Gives, ReadRefused, SchemaReadRefused, IsSizeError, IsOverflow, past_usize, PieceWriteRefused, Adds}
 use Rattle.wincode_base.specs.InWindow.{WindowReadRefused}
 use Rattle.wincode_base.specs.Pairs.{PairWriteRefused}
 use Rattle.wincode_base.specs.ItemSizes.{item_size, run_size, behind_size}
@@ -113,7 +113,7 @@ list_write s count g = list_write_of s count (item_size g.meta) g
 
 -- The sizes of items after so many bytes were refused: an item can't be written, or the sum is past `usize::MAX`.
 abbrev pub SizesRefused : {V : Type 0} → ℕ → WriteGrammar V → List V → WriteError → Type 0
-SizesRefused before g vs e = (Each g.can vs → before + total g.size vs < 2 ^ 64 → ⊥) × IsValueError g.builtin e
+SizesRefused before g vs e = (Each g.can vs → before + total g.size vs < 2 ^ 64 → ⊥) × IsSizeError g.builtin (Each g.can vs) e
 
 -- ---- where a list that is refused leaves the reader
 

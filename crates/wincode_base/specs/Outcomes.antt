@@ -225,6 +225,11 @@ IsOfValueAlone _ = ⊤
 abbrev pub IsValueError : Bool → WriteError → Type 0
 IsValueError builtin e = IsOfValueAlone e × (IsTrue builtin → IsLengthOverflow e)
 
+-- The error of a size: of the value alone; and where all parts are this crate's own, an overflow of a sum or a product, or,
+-- of what can't be written, that of a short length.
+abbrev pub IsSizeError : Bool → Type 0 → WriteError → Type 0
+IsSizeError builtin can e = IsOfValueAlone e × (IsTrue builtin → IsOverflow past_usize e ⊎ ((can → ⊥) × IsOverflow past_u16 e))
+
 -- v can be written, in n bytes
 abbrev pub IsSized : {V : Type 0} → WriteGrammar V → V → ℕ → Type 0
 IsSized g v n = g.can v × (n ≡ g.size v)
@@ -235,7 +240,7 @@ IsEncoded g v bytes = g.can v × g.writes v bytes
 
 -- The size of v was refused: v can't be written or its size is past `usize::MAX`.
 abbrev pub SizeRefused : {V : Type 0} → WriteGrammar V → V → WriteError → Type 0
-SizeRefused g v e = (g.can v → g.size v < 2 ^ 64 → ⊥) × IsValueError g.builtin e
+SizeRefused g v e = (g.can v → g.size v < 2 ^ 64 → ⊥) × IsSizeError g.builtin (g.can v) e
 
 -- v can be written, and the bytes are an encoding of it, of its size
 pub record IsSerialized {V : Type 0} (g : WriteGrammar V) (v : V) (bytes : List ℕ) : Type 0 where

@@ -3,6 +3,7 @@ use Rattle.std.specs.Prelude.{◌≡◌, ◌⊎◌, ℕ, ◌+◌, ◌-◌, ◌<�
 use Rattle.std.specs.Char.{IsScalar, len_utf8}
 use Rattle.wincode_io.specs.Readers.{ReaderState, Stays, Takes, IsShort, IsPeeked, ReadRefusedFor, BytesReadRefused, nothing}
 use Rattle.wincode_io.specs.Numbers.{le}
+use Rattle.wincode_io.specs.Texts.{IsUtf8Fault}
 use Rattle.wincode_base.specs.Grammar.{ReadGrammar, WriteGrammar, WriteRefusal}
 use Rattle.wincode_base.specs.Lengths.{IsLength, bincode, LengthReadRefused, preallocation_limit}
 use Rattle.wincode_base.specs.Outcomes.{Gives, PieceWriteRefused}
@@ -16,13 +17,13 @@ abbrev pub announced : ℕ → ℕ
 announced b = cond (nat_lt b 128) 1 (cond (nat_lt b 194) 0 (cond (nat_lt b 224) 2 (cond (nat_lt b 240) 3 (cond (nat_lt b 245) 4 0))))
 
 -- Why a character is refused: no byte is left; too few are left of those that the first announces; it announces none;
--- or they are not UTF-8.
+-- or they are not UTF-8, with the error of exactly these bytes.
 abbrev pub CharReadRefusedFor : ReaderState → ReaderState → ReadError → Type 0
 CharReadRefusedFor old new (reading.Io e) = ReadRefusedFor (IsShort 1 old) ⊥ 1 new e
     ⊎ ((lead : ℕ) × IsPeeked old lead × ReadRefusedFor (IsShort (announced lead) old) ⊥ (announced lead) new e)
 CharReadRefusedFor old new (reading.InvalidCharLead lead) = IsPeeked old lead × (announced lead ≡ 0)
 CharReadRefusedFor old new (reading.InvalidUtf8Encoding e) = (lead : ℕ) × IsPeeked old lead
-    × (IsTrue old.is_known → (announced lead ≤ length old.rest) × (IsUtf8 (take (announced lead) old.rest) → ⊥))
+    × (IsTrue old.is_known → (announced lead ≤ length old.rest) × IsUtf8Fault (take (announced lead) old.rest) e)
 CharReadRefusedFor old new _ = ⊥
 
 -- a character was refused, and the reader has the bytes that it had
@@ -54,11 +55,11 @@ char_write = record {
 }
 
 -- Why the n bytes of a text are refused: too few are left, or the borrow is not lent; there is no memory for those that
--- are left; or, once they are gone, they are not UTF-8.
+-- are left; or, once they are gone, they are not UTF-8, with the error of exactly these bytes.
 abbrev pub StrBytesReadRefused : Type 0 → Type 0 → ℕ → ReaderState → ReaderState → ReadError → Type 0
 StrBytesReadRefused unlent owned n old new (reading.Io e) = BytesReadRefused (IsShort n old) unlent n old new e
 StrBytesReadRefused unlent owned n old new reading.OutOfMemory = owned × Stays old new × (IsTrue old.is_known → n ≤ length old.rest)
-StrBytesReadRefused unlent owned n old new (reading.InvalidUtf8Encoding e) = (bytes : List ℕ) × Takes n old new bytes × (IsUtf8 bytes → ⊥)
+StrBytesReadRefused unlent owned n old new (reading.InvalidUtf8Encoding e) = (bytes : List ℕ) × Takes n old new bytes × IsUtf8Fault bytes e
 StrBytesReadRefused unlent owned n old new _ = ⊥
 
 -- A text was refused: its length; or, once its length is gone, its bytes. `unlent` says of a reader whether the borrow may

@@ -9,7 +9,7 @@ use Rattle.wincode_base.specs.Leaves.{number_read, number_write}
 use Rattle.wincode_base.specs.LeafLaws.{number_one}
 use Rattle.wincode_base.specs.Outcomes.{Gives, ReadRefused, Accepts, SchemaReadRefused, Wrote, WriteRefused, Stopped, IsOverflow, past_usize, SizeRefused}
 use Rattle.wincode_base.specs.PairLaws.{le_max_left, le_max_right, both_left, both_right}
-use Rattle.wincode_base.specs.PairSizeLaws.{unfit_first, unfit_second, overflow_unfit}
+use Rattle.wincode_base.specs.PairSizeLaws.{unsized_first, unsized_second, unsized_part, overflow_unsized, overflow_unfit}
 use Rattle.wincode_base.specs.Sequences.{due_map, gives_map, refuses_map, then_gives, then_first, then_second}
 use Rattle.wincode_base.specs.TagLaws.{spares}
 use Rattle.wincode_base.specs.Tags.{sides_tag, SidesRead, sides_read, sides_write, tagged_write}
@@ -79,10 +79,10 @@ module _ {V : Type 0} (k : ℕ) (tag : V → ℕ) (own : V → Type 0) (part : R
 
 module _ {V W : Type 0} (g : WriteGrammar V) (h : WriteGrammar W) where
   pub first_unsized : (v : V) (e : WriteError) → SizeRefused g v e → SizeRefused (sides_write g h) (Ok v) e
-  first_unsized v e d = (d.0, unfit_first g.builtin h.builtin e d.1)
+  first_unsized v e d = (d.0, unsized_first g.builtin h.builtin e (λ c. c) d.1)
 
   pub other_unsized : (w : W) (e : WriteError) → SizeRefused h w e → SizeRefused (sides_write g h) (Err w) e
-  other_unsized w e d = (d.0, unfit_second g.builtin h.builtin e d.1)
+  other_unsized w e d = (d.0, unsized_second g.builtin h.builtin e (λ c. c) d.1)
 
   module _ {S K : Type 0} {put : S → List ℕ → S} {room : S → ℕ} {old new : WriterState put room K} where
     pub first_wrote : (v : V) → Wrote g old new v → Wrote (sides_write g h) old new (Ok v)
@@ -105,10 +105,10 @@ module _ {V W : Type 0} (g : WriteGrammar V) (h : WriteGrammar W) where
 
 module _ {X V : Type 0} (k : ℕ) (tag : V → ℕ) (own : V → Type 0) {p : X → Type 0} {model : X → V} {part : WriteGrammar V} (l : WriteLaws p model part) (v : V) where
   pub untagged_unsized : (e : WriteError) → (IsTagged k tag own v → ⊥) → IsOverflow past_usize e → SizeRefused (enum_write k tag own part) v e
-  untagged_unsized e none o = (λ c fits. absurd (none c.0), overflow_unfit part.builtin e o)
+  untagged_unsized e none o = (λ c fits. absurd (none c.0), overflow_unsized part.builtin e o)
 
   pub part_unsized : (e : WriteError) → SizeRefused part v e → SizeRefused (enum_write k tag own part) v e
-  part_unsized e d = (λ c fits. d.0 c.1 (omega arith), d.1)
+  part_unsized e d = (λ c fits. d.0 c.1 (omega arith), unsized_part part.builtin e (λ c. c.1) d.1)
 
 module _ {S K : Type 0} {put : S → List ℕ → S} {room : S → ℕ} (laws : WriterLaws put room) {X V : Type 0} (k : ℕ) (tag : V → ℕ) (own : V → Type 0) {p : X → Type 0} {model : X → V} {part : WriteGrammar V} (l : WriteLaws p model part) (v : V) where
   pub untagged_unwritten : (s : WriterState put room K) (e : WriteError) → (IsTagged k tag own v → ⊥) → IsOverflow past_usize e → WriteRefused (enum_write k tag own part) s s v e

@@ -1,6 +1,7 @@
 //! What a reader may lend: a lifetime, as a type.
 ghost use Rattle.std.specs.Prelude.{◌≡◌, ℕ, ◌≤◌, List, length, take, drop, IsUtf8, MatchResult, slice_range};
 ghost use Rattle.std.proofs.Common.{refl};
+ghost use Rattle.wincode_io.specs.Texts.{IsUtf8Fault};
 
 use std::mem;
 use std::str::{self, Utf8Error};
@@ -74,9 +75,9 @@ pub trait Lending {
     fn share(bytes: Self::BytesMut) -> Self::Bytes
         ensures { held result ≡ held_mut bytes };
 
-    /// The lent bytes as a text, where they are UTF-8.
+    /// The lent bytes as a text, where they are UTF-8; else the error of exactly these bytes.
     fn text(bytes: Self::Bytes) -> Result<Self::Text, Utf8Error>
-        ensures { MatchResult result (λ t. (held_text t ≡ held bytes) × IsUtf8 (held bytes)) (λ e. IsUtf8 (held bytes) → ⊥) };
+        ensures { MatchResult result (λ t. (held_text t ≡ held bytes) × IsUtf8 (held bytes)) (λ e. IsUtf8Fault (held bytes) e) };
 
     // What lent bytes hold is what is said of them here.
     ghost same_held: { (s : Self.Bytes) → held s ≡ Self.Bytes.holds s };

@@ -6,6 +6,7 @@ ghost use Rattle.std.specs.List.{IsDistinct};
 ghost use Rattle.std.specs.List.Sorted.{IsStrictlySortedBy};
 ghost use Rattle.std.specs.Prelude.{◌≡◌, ◌+◌, ◌≤◌, List, length, map, IfSome, IsTrue, IfOk, IfErr};
 ghost use Rattle.wincode_io.specs.Joins.{Each, total};
+ghost use Rattle.wincode_base.specs.Lengths.{HasEncoding, LengthSizeRefused};
 ghost use Rattle.wincode_base.specs.Lists.{item_write, items_write, each_write, parts_write, list_write_of, list_write, SizesRefused};
 ghost use Rattle.wincode_base.specs.Outcomes.{IsSized, IsEncoded, SizeRefused, WriteOutcome};
 ghost use Rattle.wincode_base.specs.declared.meta.TypeMeta.TheVariants.{Dynamic};
@@ -376,6 +377,7 @@ pub fn size_of_list<Len: SeqLen, T: SchemaWrite, C: ToItems<T>, const COUNT: usi
 ) -> WriteResult<usize>
     ensures ok { IfOk result (IsSized (list_write Len.scheme COUNT T.writing) (map T.model (C.listed src.now))) }
     ensures err { IfErr result (SizeRefused (list_write Len.scheme COUNT T.writing) (map T.model (C.listed src.now))) }
+    ensures unencoded { (HasEncoding Len.scheme (length (C.listed src.now)) → ⊥) → IfErr result (LengthSizeRefused Len.scheme (length (C.listed src.now))) }
 {
     let length = Len::write_bytes_needed(src.count())?;
     src.add_sizes(length)

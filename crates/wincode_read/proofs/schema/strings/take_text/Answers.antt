@@ -1,4 +1,7 @@
-use Rattle.std.proofs.Common.{rules, ap, refl, false}
+use Rattle.std.proofs.Common.{rules, ◌≡◌, ℕ, ap, refl, subst, sym, drop, false}
+use Rattle.std.specs.Str.{error_len}
+use Rattle.std.specs.Str.Lossy.{utf8_error_len}
+use Rattle.std.specs.String.{from_utf8_error_cause}
 use Rattle.std.proofs.lemmas.Str.{IsUtf8-string_bytes}
 use Rattle.wincode_base.specs.FixedSizeLaws.{arrays_takes}
 use Rattle.wincode_base.proofs.Strings.{body_refuses, body_gives}
@@ -17,10 +20,12 @@ returns-in-Ok g c =
 
 pub returns-in-Err : goal.returns-in-Err
 returns-in-Err g c =
-    let succeeds = c.in-Err.ensures.succeeds in
+    let text = c.in-Err.ensures in
     let takes = arrays_takes _ _ _ _ _ c.in_ok-bytes.ensures.ok c.consume_unchecked.ensures in
-    rw c.invalid_utf8_encoding.ensures (record {
+    let P : ℕ → Type 0 = λ n. error_len (from_utf8_error_cause c.in-Err.error) ≡ utf8_error_len (drop n c.in_ok-bytes.bytes.items) in
+    let fault = subst P (sym text.valid_len) text.fault in
+    rw c.invalid_utf8_encoding.ensures (rw c.utf8_error.ensures (record {
       ok = tt;
-      refused = body_refuses ⊥ (Unit {0}) c.args.n 0 false _ _ (reading.InvalidUtf8Encoding _) (λ x. absurd x) (λ x. refl) (_, takes, λ u. absurd (cc (succeeds u)));
-      place = (_, takes, λ u. absurd (cc (succeeds u)));
-    })
+      refused = body_refuses ⊥ (Unit {0}) c.args.n 0 false _ _ (reading.InvalidUtf8Encoding _) (λ x. absurd x) (λ x. refl) (_, takes, (λ u. absurd (cc (text.succeeds u)), text.valid_len, fault));
+      place = (_, takes, (λ u. absurd (cc (text.succeeds u)), text.valid_len, fault));
+    }))

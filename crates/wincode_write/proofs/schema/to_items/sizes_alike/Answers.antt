@@ -1,6 +1,6 @@
 use Rattle.std.proofs.Common.{rules, inl, refl, ap, arith, ◌≡◌, ◌∙◌, ℕ, ◌+◌, ◌*◌, ◌<◌, ◌^◌, IfOk, IfErr, Result, Ok, Err}
 use Rattle.wincode_base.specs.declared.error.WriteError.{WriteError}
-use Rattle.wincode_base.specs.PairSizeLaws.{overflow_unfit}
+use Rattle.wincode_base.specs.PairSizeLaws.{overflow_unsized}
 use Rattle.wincode_base.proofs.Lists.{known_sum, known_over}
 use Rattle.wincode_write.proofs.schema.to_items.sizes_alike.Goals as goal
 
@@ -16,7 +16,7 @@ returns-in-Some g c =
     let product : c.in-Some.total ≡ n * size = search rules in
     λ items long. both _ _ _ _
     (λ m is. known_sum T.writing T.model size c.in_ok-size.ensures c.args.before n m items long (is ∙ ap (λ k. c.args.before + k) product))
-    (λ e d. (known_over T.writing T.model size c.in_ok-size.ensures c.args.before n items long (λ fits. absurd (omega (arith, d.0, product, fits))), overflow_unfit T.writing.builtin e d.1))
+    (λ e d. (known_over T.writing T.model size c.in_ok-size.ensures c.args.before n items long (λ fits. absurd (omega (arith, d.0, product, fits))), overflow_unsized T.writing.builtin e d.1))
     c.checked_sum.result c.checked_sum.ensures.ok c.checked_sum.ensures.err
 
 pub returns-in-None : goal.returns-in-None

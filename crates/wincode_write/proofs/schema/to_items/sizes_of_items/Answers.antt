@@ -1,5 +1,5 @@
 use Rattle.std.proofs.Common.{rules, arith, ◌+◌, ◌≤◌, ◌^◌}
-use Rattle.wincode_base.specs.PairSizeLaws.{overflow_unfit}
+use Rattle.wincode_base.specs.PairSizeLaws.{overflow_refused}
 use Rattle.wincode_base.proofs.Lists.{sum_item, sum_over}
 use Rattle.wincode_write.proofs.schema.to_items.sizes_of_items.Goals as goal
 use Rattle.wincode_io.specs.JoinLaws.{each_map_after, total_after}
@@ -14,7 +14,7 @@ returns-in_err-sum-clause-err g c =
     let d = c.in_err-sum.ensures.err in
     let over : 2 ^ 64 ≤ c.loop-item.sum + T.writing.size (T.model c.item-item.result) = omega (arith, d.0, c.in_ok-size.ensures.ok.1) in
     let past = sum_over c.args.before T.writing T.model c.args.items.now c.loop-item.item-index c.item-item.result c.loop-item-test.true c.item-item.is _ c.loop-item.invariant.1 over in
-    let text = overflow_unfit T.writing.builtin _ d.1 in search (rules, past, text)
+    let h = overflow_refused T.writing.builtin _ past d.1 in search (rules, h)
 
 pub loop-item-preserved : goal.loop-item-preserved
 loop-item-preserved g c =

@@ -1,7 +1,7 @@
 use Rattle.std.proofs.Common.{rules, arith, ◌∙◌, ap, ◌+◌}
 use Rattle.wincode_collect.specs.Seen.{sees}
 use Rattle.wincode_base.specs.Pairs.{pair_write}
-use Rattle.wincode_base.specs.PairSizeLaws.{overflow_unfit}
+use Rattle.wincode_base.specs.PairSizeLaws.{overflow_refused}
 use Rattle.wincode_base.proofs.Walks.{sum_more, sum_refused, sum_past}
 use Rattle.wincode_write.proofs.schema.to_items.HashMapToItemsMembers2.add_sizes.Goals as goal
 
@@ -17,7 +17,7 @@ returns-in_err-sum-clause-err g c =
     let V = g.V.SchemaWrite in
     let d = c.in_err-sum.ensures.err in
     let past = sum_past (pair_write K.writing V.writing) (sees K.model V.model) c.args.before _ _ _ _ (c.in-Some-2.key.now, c.in-Some-2.value.now) c.loop-key.invariant c.in-Some-2.ensures.steps (λ fits. absurd (omega (arith, d.0, c.in_ok-size.ensures.ok.1, fits))) in
-    let text = overflow_unfit (pair_write K.writing V.writing).builtin _ d.1 in search (rules, past, text)
+    let h = overflow_refused (pair_write K.writing V.writing).builtin _ past d.1 in search (rules, h)
 
 pub loop-key-preserved : goal.loop-key-preserved
 loop-key-preserved g c =

@@ -1,5 +1,5 @@
 use Rattle.std.proofs.Common.{rules, arith, ◌∙◌, ap, ◌+◌}
-use Rattle.wincode_base.specs.PairSizeLaws.{overflow_unfit}
+use Rattle.wincode_base.specs.PairSizeLaws.{overflow_refused}
 use Rattle.wincode_base.proofs.Walks.{sum_more, sum_refused, sum_past}
 use Rattle.wincode_write.proofs.schema.to_items.LinkedListToItems.add_sizes.Goals as goal
 
@@ -13,7 +13,7 @@ returns-in_err-sum-clause-err g c =
     let T = g.T.SchemaWrite in
     let d = c.in_err-sum.ensures.err in
     let past = sum_past T.writing T.model c.args.before _ _ _ _ c.in-Some.item.now c.loop-item.invariant c.in-Some.ensures.steps (λ fits. absurd (omega (arith, d.0, c.in_ok-size.ensures.ok.1, fits))) in
-    let text = overflow_unfit T.writing.builtin _ d.1 in search (rules, past, text)
+    let h = overflow_refused T.writing.builtin _ past d.1 in search (rules, h)
 
 pub loop-item-preserved : goal.loop-item-preserved
 loop-item-preserved g c =
