@@ -7,10 +7,11 @@ ghost use Rattle.wincode_base.specs.StringLaws.{char_write_laws, str_write_laws}
 
 use crate::schema::SchemaWrite;
 use std::str;
-use wincode_base::error::{WriteResult, write_length_encoding_overflow};
+use wincode_base::error::WriteResult;
 use wincode_base::front::put_front;
 use wincode_base::len::{BincodeLen, PREALLOCATION_LIMIT, SeqLen};
 use wincode_base::meta::TypeMeta;
+use wincode_base::sizes::checked_sum;
 use wincode_io::Writer;
 
 /// A `char` is the bytes of its UTF-8, with no length before them.
@@ -71,18 +72,6 @@ impl SchemaWrite for char {
     ghost write_laws = { char_write_laws };
 }
 
-/// The size of a text with its length.
-#[inline(always)]
-fn size_of_text(text: &str) -> WriteResult<usize>
-    ensures ok { IfOk result (λ n. (str_write 24).can text.now × (n ≡ (str_write 24).size text.now)) }
-    ensures err { IfErr result (SizeRefused (str_write 24) text.now) }
-{
-    match text.len().checked_add(8) {
-        Some(size) => Ok(size),
-        None => Err(write_length_encoding_overflow("usize::MAX")),
-    }
-}
-
 /// Writes the length of a text, and then its bytes.
 #[inline(always)]
 fn write_text<W: Writer>(writer: &mut W, text: &str) -> WriteResult<()>
@@ -121,7 +110,7 @@ impl SchemaWrite for String {
 
     #[inline(always)]
     fn size_of(src: &String) -> WriteResult<usize> {
-        size_of_text(src.as_str())
+        checked_sum(8, src.as_str().len())
     }
 
     #[inline(always)]
@@ -176,7 +165,7 @@ impl<'a> SchemaWrite for &'a str {
 
     #[inline(always)]
     fn size_of(src: &&'a str) -> WriteResult<usize> {
-        size_of_text(*src)
+        checked_sum(8, src.len())
     }
 
     #[inline(always)]

@@ -75,7 +75,7 @@ impl<A: SchemaWrite, B: SchemaWrite> SchemaWrite for (A, B) {
     }
 
     fn size_of(src: &Self::Src) -> WriteResult<usize> {
-        size_of_members_2::<A, B>(&src.0, &src.1)
+        joined_size(A::size_of(&src.0), B::size_of(&src.1))
     }
 
     #[inline]
@@ -85,7 +85,9 @@ impl<A: SchemaWrite, B: SchemaWrite> SchemaWrite for (A, B) {
 
     #[inline(always)]
     fn encode_front(src: &Self::Src, dst: &mut [u8]) -> Option<usize> {
-        encode_front_members_2::<A, B>(&src.0, &src.1, dst)
+        let first = A::encode_front(&src.0, dst)?;
+        let second = B::encode_front(&src.1, &mut dst[first..])?;
+        Some(first + second)
     }
 
     #[inline(always)]
