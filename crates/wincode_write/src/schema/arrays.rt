@@ -11,7 +11,7 @@ ghost use Rattle.wincode_base.specs.PairLaws.{windowed_write_laws};
 use crate::schema::SchemaWrite;
 use crate::schema::in_window::write_in_window;
 use crate::schema::runs::encode_each;
-use crate::schema::to_items::{sizes_of_items, write_apart};
+use crate::schema::to_items::{ToItems, write_apart};
 use wincode_base::error::WriteResult;
 use wincode_base::meta::TypeMeta;
 use wincode_base::parts::Items;
@@ -34,7 +34,7 @@ impl<T: SchemaWrite, const N: usize> SchemaWrite for Items<T, N> {
     }
 
     fn size_of(src: &[T::Src; N]) -> WriteResult<usize> {
-        sizes_of_items::<T>(0, src.as_slice())
+        ToItems::<T>::add_sizes(&src.as_slice(), 0)
     }
 
     fn write<W: Writer>(writer: &mut W, src: &[T::Src; N]) -> WriteResult<()> {

@@ -1,22 +1,14 @@
 //! A short value of one size is put together, and then written at once.
-ghost use Rattle.std.specs.Prelude.{◌≡◌, ◌*◌, ◌<◌, ◌≤◌, true, false, map, IfOk, IfErr, IfSome};
-ghost use Rattle.wincode_io.specs.Joins.{Each};
+ghost use Rattle.std.specs.Prelude.{◌≡◌, ◌*◌, ◌<◌, ◌≤◌, true, false, IfOk, IfErr, IfSome};
 ghost use Rattle.wincode_base.specs.InWindow.{windowed_write};
-ghost use Rattle.wincode_base.specs.Lists.{item_write, items_write};
+ghost use Rattle.wincode_base.specs.Lists.{item_write};
 ghost use Rattle.wincode_base.specs.Outcomes.{Wrote, WriteRefused, Stopped, WriteOutcome};
 ghost use Rattle.wincode_base.specs.declared.meta.TypeMeta.TheVariants.{Dynamic};
 
-use crate::schema::runs::write_runs;
 use crate::schema::{LONGEST, SchemaWrite};
 use wincode_base::error::WriteResult;
 use wincode_base::meta::TypeMeta;
 use wincode_io::Writer;
-
-/// The longest byte form, in bytes, of which many are written by the schema's own `write_items`.
-const SMALL: usize = 16;
-
-/// How many items are written one by one, where a block for them costs more.
-const FEW: usize = 4;
 
 /// Writes the value by one call of the writer, where its schema puts it together; or answers `false`, and
 /// has written nothing.
@@ -66,24 +58,5 @@ pub(crate) fn short_size<T: SchemaWrite>() -> Option<usize>
     match T::type_meta() {
         TypeMeta::Static { size, .. } if size <= LONGEST => Some(size),
         _ => None,
-    }
-}
-
-/// Writes items, one after another: more than a few of them a block at a time, but for those whose form is as short
-/// as in memory.
-#[inline]
-pub(crate) fn write_many<T: SchemaWrite, W: Writer>(
-    writer: &mut W,
-    items: &[T::Src],
-) -> WriteResult<()>
-    ensures { WriteOutcome (items_write T.writing) (W.state writer.old) (W.state writer.new) (map T.model items.now) (Each T.is_valid items.now) result }
-{
-    match T::type_meta() {
-        TypeMeta::Static {
-            size,
-            zero_copy: true,
-        } if size <= SMALL => T::write_items::<W>(writer, items),
-        _ if FEW < items.len() => write_runs::<T, W>(writer, items),
-        _ => T::write_items::<W>(writer, items),
     }
 }

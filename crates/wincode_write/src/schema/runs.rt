@@ -1,5 +1,5 @@
 //! Items of no one size are put together, as many as a block has room for, and then written at once.
-ghost use Rattle.std.specs.Prelude.{◌≡◌, ◌≤◌, length, take, map, IfSome};
+ghost use Rattle.std.specs.Prelude.{◌≤◌, length, take, map, IfSome};
 ghost use Rattle.wincode_io.specs.Joins.{Each};
 ghost use Rattle.wincode_base.specs.Lists.{items_write, list_write};
 ghost use Rattle.wincode_base.specs.Outcomes.{IsEncoded, WriteOutcome};
@@ -15,6 +15,12 @@ const RUN: usize = 2048;
 
 /// How many items go as their schema writes them, once two that follow each other were not put together.
 const APART: usize = 64;
+
+/// The longest byte form, in bytes, of which many are written by the schema's own `write_items`.
+const SMALL: usize = 16;
+
+/// How many items are written one by one, where a block for them costs more.
+const FEW: usize = 4;
 
 /// Puts encodings of the first items, one after another, over the front of the bytes, up to one that isn't put there;
 /// gives how many items these are, and how many bytes.
@@ -69,14 +75,22 @@ pub fn encode_list<Len: SeqLen, T: SchemaWrite, const COUNT: usize>(
     Some(length + behind)
 }
 
-/// Writes items, one after another: those that are put together a block at a time, for which the writer has room at
-/// hand, and others as their schema writes them.
-pub(crate) fn write_runs<T: SchemaWrite, W: Writer>(
+/// Writes items, one after another: more than a few that are put together a block at a time, for which the writer has
+/// room at hand, and others as their schema writes them, those too whose form is as short as in memory.
+#[inline]
+pub(crate) fn write_many<T: SchemaWrite, W: Writer>(
     writer: &mut W,
     items: &[T::Src],
 ) -> WriteResult<()>
     ensures { WriteOutcome (items_write T.writing) (W.state writer.old) (W.state writer.new) (map T.model items.now) (Each T.is_valid items.now) result }
 {
+    let is_short_form = match T::type_meta() {
+        TypeMeta::Static { size, zero_copy } => zero_copy && size <= SMALL,
+        TypeMeta::Dynamic => false,
+    };
+    if is_short_form || items.len() <= FEW {
+        return T::write_items::<W>(writer, items);
+    }
     let mut block = [0; RUN];
     let mut rest = items;
     let mut apart = 1;

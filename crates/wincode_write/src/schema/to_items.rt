@@ -15,7 +15,8 @@ ghost use Rattle.wincode_base.specs.Pairs.{pair_write};
 ghost use Rattle.wincode_base.specs.ItemSizes.{IsWriteItemSize};
 
 use crate::schema::SchemaWrite;
-use crate::schema::encoded::{short_size, write_item, write_many};
+use crate::schema::encoded::{short_size, write_item};
+use crate::schema::runs::write_many;
 use crate::schema::tuples::{encode_front_members_2, size_of_members_2};
 use std::collections::{BTreeMap, BTreeSet, BinaryHeap, HashMap, HashSet, LinkedList, VecDeque};
 use std::hash::Hash;
@@ -66,23 +67,6 @@ fn sizes_alike<T: SchemaWrite>(before: usize, n: usize) -> Option<WriteResult<us
     }
 }
 
-/// The sizes of items, added to the size of what stands before them.
-#[inline]
-pub(crate) fn sizes_of_items<T: SchemaWrite>(before: usize, items: &[T::Src]) -> WriteResult<usize>
-    ensures ok { IfOk result (λ n. Each T.writing.can (map T.model items.now) × (n ≡ before + total T.writing.size (map T.model items.now))) }
-    ensures err { IfErr result (SizesRefused before T.writing (map T.model items.now)) }
-{
-    if let Some(sum) = sizes_alike::<T>(before, items.len()) {
-        return sum;
-    }
-    let mut sum = before;
-    for item in items {
-        let size = T::size_of(item)?;
-        sum = checked_sum(sum, size)?;
-    }
-    Ok(sum)
-}
-
 /// Writes items, each as its schema writes it.
 pub(crate) fn write_apart<T: SchemaWrite, W: Writer>(
     writer: &mut W,
@@ -106,8 +90,18 @@ impl<'a, U: 'a, T: SchemaWrite<Src = U>> ToItems<T> for &'a [U] {
         self.len()
     }
 
+    #[inline]
     fn add_sizes(&self, before: usize) -> WriteResult<usize> {
-        sizes_of_items::<T>(before, *self)
+        let items: &[U] = *self;
+        if let Some(sum) = sizes_alike::<T>(before, items.len()) {
+            return sum;
+        }
+        let mut sum = before;
+        for item in items {
+            let size = T::size_of(item)?;
+            sum = checked_sum(sum, size)?;
+        }
+        Ok(sum)
     }
 
     fn write_to<W: Writer>(&self, writer: &mut W) -> WriteResult<()> {
@@ -127,8 +121,8 @@ impl<U, T: SchemaWrite<Src = U>> ToItems<T> for VecDeque<U> {
 
     fn add_sizes(&self, before: usize) -> WriteResult<usize> {
         let (front, back) = self.as_slices();
-        let sum = sizes_of_items::<T>(before, front)?;
-        sizes_of_items::<T>(sum, back)
+        let sum = ToItems::<T>::add_sizes(&front, before)?;
+        ToItems::<T>::add_sizes(&back, sum)
     }
 
     fn write_to<W: Writer>(&self, writer: &mut W) -> WriteResult<()> {
@@ -175,7 +169,7 @@ impl<U: Ord, T: SchemaWrite<Src = U>> ToItems<T> for BinaryHeap<U> {
     }
 
     fn add_sizes(&self, before: usize) -> WriteResult<usize> {
-        sizes_of_items::<T>(before, self.as_slice())
+        ToItems::<T>::add_sizes(&self.as_slice(), before)
     }
 
     fn write_to<W: Writer>(&self, writer: &mut W) -> WriteResult<()> {

@@ -1,5 +1,5 @@
 use Rattle.std.proofs.Common.{◌≡◌, ◌+◌, take, map}
-use Rattle.wincode_write.proofs.schema.to_items.sizes_of_items.Given as goal
+use Rattle.wincode_write.proofs.schema.to_items.RefSliceToItems.add_sizes.Given as goal
 use Rattle.wincode_io.specs.Joins.{Each, total}
 
 -- so far the items can be written, and their sizes are added

@@ -4,7 +4,7 @@ use Rattle.wincode_base.specs.WriteSequences.{items_wrote_none}
 use Rattle.wincode_base.proofs.Walks.{walk_run, walk_run_refused, walk_run_halted, walk_all}
 use Rattle.wincode_base.proofs.WriteAnswers.{write_refused}
 use Rattle.wincode_write.proofs.Fronts.{run_wrote}
-use Rattle.wincode_write.proofs.schema.runs.write_runs.Goals as goal
+use Rattle.wincode_write.proofs.schema.runs.write_many.Goals as goal
 
 pub loop-rest-init : goal.loop-rest-init
 loop-rest-init g c = (record { done = []; joins = refl; items = items_wrote_none g.met.W.Writer.writer_laws g.T.SchemaWrite.write_laws _; each = tt }, omega arith)

@@ -1,6 +1,6 @@
 use Rattle.std.proofs.Common.{◌<◌, length}
 use Rattle.wincode_base.proofs.Walks.{WritesSoFar}
-use Rattle.wincode_write.proofs.schema.runs.write_runs.Given as goal
+use Rattle.wincode_write.proofs.schema.runs.write_many.Given as goal
 
 abbrev pub decreases-loop-rest : goal.decreases-loop-rest
 decreases-loop-rest g l = length l.rest
