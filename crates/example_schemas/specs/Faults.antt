@@ -38,21 +38,23 @@ AskedWriteRefused old new (writer.Io e) = HasFailed old new × (error_kind e ≡
 AskedWriteRefused old new (writer.WriteSizeLimit n) = HasServed old new
 AskedWriteRefused old new _ = ⊥
 
--- what a reader over a device has left
+-- what a reader over a device has left, and for how many of these bytes its device was asked and served
 pub record ReadFrom : Type 0 where
   pub rest : List ℕ
+  pub shown : ℕ
   pub device : DeviceState
 
--- a reader of these bytes, all of them at hand, over a device
+-- A reader of these bytes over a device: at hand are those that the device gave.
 abbrev pub over_device : ReadFrom → ReaderState
-over_device r = record { rest = r.rest; ready = length r.rest; lends = nothing; never_fails = false; counts_windows = false; failures = r.device.failures; is_known = true; place = None }
+over_device r = record { rest = r.rest; ready = min r.shown (length r.rest); lends = nothing; never_fails = false; counts_windows = false; failures = r.device.failures; is_known = true; place = None }
 
--- what a writer over a device has written, and to which slice
+-- what a writer over a device has written, and to which slice, and for how many bytes more its device was asked and served
 pub record WrittenTo : Type 0 where
   pub content : SliceState
   pub slice : GName
+  pub made : ℕ
   pub device : DeviceState
 
--- a writer of this content, over a device
+-- A writer of this content over a device: room is made where the device served.
 abbrev pub slice_over : WrittenTo → WriterState slice_put slice_room GName
-slice_over w = record { content = w.content; kept = w.slice; never_fails = false; failures = w.device.failures; ready = slice_room w.content }
+slice_over w = record { content = w.content; kept = w.slice; never_fails = false; failures = w.device.failures; ready = min w.made (slice_room w.content) }

@@ -56,18 +56,19 @@ where
 
 /// Reads the bytes over a device that fails at each call in turn, until it is met by none. Each read that
 /// meets a failure is `Io` of kind Other and leaves an end of the bytes; the last one is as it is expected.
+/// How many failures were met: as many as reading makes calls.
 fn read_over_faults<'a, T: RoundTrip<Lifetime<'a>>>(
     alloc: Global,
     bytes: &'a [u8],
     expected: &str,
-) -> Result<(), Fail>
+) -> Result<usize, Fail>
 where
     T::Src: Drop,
 {
     for sound in 0..CALLS {
         let mut reader = FailingReader::new(bytes, sound);
         let answer = rewrite::<Lifetime<'a>, FailingReader<'a>, T>(alloc, &mut reader);
-        let left = reader.at_hand();
+        let left = reader.left();
         if !bytes.ends_with(left) {
             return Err(Fail::from("no end is left"));
         }
@@ -75,7 +76,7 @@ where
         if reader.failures() == 0 {
             let found = outcome(alloc, answer, left)?;
             return if found.as_str() == expected {
-                Ok(())
+                Ok(sound)
             } else {
                 Err(Fail::from("another answer than over memory"))
             };
@@ -90,17 +91,17 @@ where
 
 /// Writes the value that these bytes have, if one, to a device that fails at each call in turn, until it is met
 /// by none. Each write that meets a failure is `Io` of kind Other and adds a beginning of the encoding; the last
-/// one adds all.
+/// one adds all. How many failures were met, if there is such a value.
 fn write_over_faults<'a, T: RoundTrip<Lifetime<'a>>>(
     alloc: Global,
     bytes: &'a [u8],
-) -> Result<(), Fail>
+) -> Result<Option<usize>, Fail>
 where
     T::Src: Drop,
 {
     let mut reader = bytes;
     let Ok(value) = <T as SchemaGet<Lifetime<'a>>>::get(alloc, &mut reader) else {
-        return Ok(());
+        return Ok(None);
     };
     let mut text = Vec::new(alloc);
     T::write(&mut text, &value)?;
@@ -114,7 +115,7 @@ where
         }
         if writer.failures() == 0 {
             return if answer.is_ok() && writer.written().len() == text.len() {
-                Ok(())
+                Ok(Some(sound))
             } else {
                 Err(Fail::from("not written"))
             };
@@ -127,37 +128,40 @@ where
     Err(Fail::from("too many calls"))
 }
 
+/// How many failures reading met, and writing, if something was written.
+type Met = (usize, Option<usize>);
+
 /// Both.
 fn go_over_faults<'a, T: RoundTrip<Lifetime<'a>>>(
     alloc: Global,
     bytes: &'a [u8],
-) -> Result<(), Fail>
+) -> Result<Met, Fail>
 where
     T::Src: Drop,
 {
     let expected = by_cursor::<T>(alloc, bytes)?;
-    read_over_faults::<T>(alloc, bytes, expected.as_str())?;
-    write_over_faults::<T>(alloc, bytes)
+    let reads = read_over_faults::<T>(alloc, bytes, expected.as_str())?;
+    Ok((reads, write_over_faults::<T>(alloc, bytes)?))
 }
 
 /// Both, of values that borrow from what they are read from: the device lends nothing.
 fn go_over_faults_unlent<'a, T: RoundTrip<Lifetime<'a>>>(
     alloc: Global,
     bytes: &'a [u8],
-) -> Result<(), Fail>
+) -> Result<Met, Fail>
 where
     T::Src: Drop,
 {
     let expected = unlent::<T>(alloc, bytes)?;
-    read_over_faults::<T>(alloc, bytes, expected.as_str())?;
-    write_over_faults::<T>(alloc, bytes)
+    let reads = read_over_faults::<T>(alloc, bytes, expected.as_str())?;
+    Ok((reads, write_over_faults::<T>(alloc, bytes)?))
 }
 
 /// So of a list of items by this schema.
 fn list_over_faults<'a, T: RoundTrip<Lifetime<'a>>>(
     alloc: Global,
     bytes: &'a [u8],
-) -> Result<(), Fail>
+) -> Result<Met, Fail>
 where
     T::Src: Drop,
 {
@@ -165,7 +169,7 @@ where
 }
 
 /// So by the type of this name.
-fn go_over_faults_as(alloc: Global, name: &str, bytes: &[u8]) -> Result<(), Fail> {
+fn go_over_faults_as(alloc: Global, name: &str, bytes: &[u8]) -> Result<Met, Fail> {
     match name {
         "u16" => go_over_faults::<u16>(alloc, bytes),
         "&str" => go_over_faults_unlent::<&str>(alloc, bytes),
@@ -183,48 +187,114 @@ fn go_over_faults_as(alloc: Global, name: &str, bytes: &[u8]) -> Result<(), Fail
     }
 }
 
-/// A type's name, and bytes as digits: inputs of the worked rows, and encodings of their values.
-static INPUTS: &str = "\
-u16|0100ff\n\
-u16|01\n\
-Vec<u64>|020000000000000001000000000000000200000000000000ff\n\
-Vec<u64>|02000000000000000100000000000000020000\n\
-&str|0300000000000000616263\n\
-&str|0200000000000000c328\n\
-SliceRef<u16>|020000000000000001000200\n\
-SliceRef<u16>|0200000000000000010002\n\
-Vec<Vec<u64>>|0200000000000000010000000000000001000000000000000000000000000000\n\
-Vec<Vec<u64>>|02000000000000000100000000000000010000000000000000000000000000\n\
-Vec<(u16,bool)>|02000000000000000100010200\n\
-Vec<(u16,bool)>|0200000000000000010001020000\n\
-Vec<(u16,bool)>|0200000000000000010002020001\n\
-Vec<Result<u8,u8>>|010000000000000002000000094d\n\
-Vec<Result<u8,u8>>|010000000000000001000000094d\n\
-Vec<Result<u8,u8>>|010000000000000000000000074d\n\
-Short<u8>|03010203ff\n\
-Short<u8>|\n\
-Short<u8>|800109\n\
-Short<u8>|ffff03\n\
-String|0300000000000000616263\n\
-String|0100400000000000\n\
-String|0200000000000000c32809\n\
-char|e282ac\n\
-char|e282\n\
-char|c080\n\
-BTreeMap<u8,u8>|020000000000000007010702\n\
-BTreeMap<u8,u8>|0200000000000000070107\n\
-(u64,bool,[u8;4])|01000000000000000101020304\n\
-(u64,bool,[u8;4])|010000000000000001010203\n\
-";
+/// A type's name, and bytes as digits: inputs of the worked rows, and encodings of their values; and how many calls
+/// of a device reading makes, and writing of what is read. A length is a call, and so is a window, a character's first
+/// byte and then all of it, a text's bytes, and what is lent asks for none; what is written in one piece is a call.
+const INPUTS: [(&str, &str, usize, Option<usize>); 30] = [
+    ("u16", "0100ff", 1, Some(1)),
+    ("u16", "01", 1, None),
+    (
+        "Vec<u64>",
+        "020000000000000001000000000000000200000000000000ff",
+        2,
+        Some(1),
+    ),
+    (
+        "Vec<u64>",
+        "02000000000000000100000000000000020000",
+        2,
+        None,
+    ),
+    ("&str", "0300000000000000616263", 1, Some(2)),
+    ("&str", "0200000000000000c328", 1, None),
+    ("SliceRef<u16>", "020000000000000001000200", 1, Some(1)),
+    ("SliceRef<u16>", "0200000000000000010002", 1, None),
+    (
+        "Vec<Vec<u64>>",
+        "0200000000000000010000000000000001000000000000000000000000000000",
+        5,
+        Some(3),
+    ),
+    (
+        "Vec<Vec<u64>>",
+        "02000000000000000100000000000000010000000000000000000000000000",
+        4,
+        None,
+    ),
+    ("Vec<(u16,bool)>", "02000000000000000100010200", 2, None),
+    (
+        "Vec<(u16,bool)>",
+        "0200000000000000010001020000",
+        2,
+        Some(1),
+    ),
+    ("Vec<(u16,bool)>", "0200000000000000010002020001", 2, None),
+    (
+        "Vec<Result<u8,u8>>",
+        "010000000000000002000000094d",
+        2,
+        None,
+    ),
+    (
+        "Vec<Result<u8,u8>>",
+        "010000000000000001000000094d",
+        2,
+        Some(1),
+    ),
+    (
+        "Vec<Result<u8,u8>>",
+        "010000000000000000000000074d",
+        2,
+        Some(1),
+    ),
+    ("Short<u8>", "03010203ff", 2, Some(1)),
+    ("Short<u8>", "", 1, None),
+    ("Short<u8>", "800109", 2, None),
+    ("Short<u8>", "ffff03", 2, None),
+    ("String", "0300000000000000616263", 2, Some(2)),
+    ("String", "0100400000000000", 1, None),
+    ("String", "0200000000000000c32809", 2, None),
+    ("char", "e282ac", 2, Some(1)),
+    ("char", "e282", 2, None),
+    ("char", "c080", 1, None),
+    ("BTreeMap<u8,u8>", "020000000000000007010702", 2, Some(1)),
+    ("BTreeMap<u8,u8>", "0200000000000000070107", 2, None),
+    (
+        "(u64,bool,[u8;4])",
+        "01000000000000000101020304",
+        1,
+        Some(1),
+    ),
+    ("(u64,bool,[u8;4])", "010000000000000001010203", 1, None),
+];
 
 #[test]
 fn each_call_fails_in_turn(rt: HostRuntime) -> Result<(), Fail> {
     let alloc = rt.alloc();
-    for row in INPUTS.lines() {
-        let (name, digits) = row.split_once('|').ok_or("a name")?;
+    for (name, digits, reads, writes) in INPUTS {
         let bytes = bytes_of(alloc, digits)?;
-        go_over_faults_as(alloc, name, bytes.as_slice())?;
+        let met = go_over_faults_as(alloc, name, bytes.as_slice())?;
+        assert!(rt; met == (reads, writes), "{name} {digits} {met:?}");
     }
+    Ok(())
+}
+
+/// What is at hand is what the device gave, and it is read though the device has failed.
+#[test]
+fn what_the_device_gave_is_read(rt: HostRuntime) -> Result<(), Fail> {
+    let alloc = rt.alloc();
+    let text = [2u8, 0, 0, 0, 0, 0, 0, 0, 104, 105, 7];
+    let mut reader = FailingReader::new(&text, 1);
+    assert!(rt; reader.at_hand().is_empty());
+    reader.fill(10)?;
+    assert_eq!(rt; reader.at_hand(), &text[..10]);
+    assert!(rt; reader.fill(11).is_err());
+    assert_eq!(rt; reader.at_hand(), &text[..10]);
+    let value = <String as SchemaGet<Lifetime>>::get(alloc, &mut reader)?;
+    assert_eq!(rt; value.as_str(), "hi");
+    assert!(rt; reader.at_hand().is_empty());
+    assert_eq!(rt; reader.left(), &text[10..]);
+    assert_eq!(rt; reader.failures(), 1);
     Ok(())
 }
 
@@ -244,7 +314,7 @@ fn a_long_list_read_over_a_device(rt: HostRuntime) -> Result<(), Fail> {
             Err(_) => return Err(Fail::from("another refusal")),
         }
         let left = [524_296usize, 524_288, 0];
-        assert_eq!(rt; reader.at_hand().len(), left[sound]);
+        assert_eq!(rt; reader.left().len(), left[sound]);
     }
     Ok(())
 }
@@ -279,22 +349,22 @@ fn a_record_read_over_a_device(rt: HostRuntime) -> Result<(), Fail> {
     let mut reader = FailingReader::new(&text, 1);
     let record = read_record(alloc, &mut reader)?;
     assert!(rt; record == (7, true, [9; 32]));
-    assert_eq!(rt; reader.at_hand(), [9u8].as_slice());
+    assert_eq!(rt; reader.left(), [9u8].as_slice());
     for _ in 0..2 {
         let failed = read_record(alloc, &mut reader);
         assert!(rt; matches!(&failed, Err(ReadError::Io(error)) if is_read_fault(error)));
-        assert_eq!(rt; reader.at_hand(), [9u8].as_slice());
+        assert_eq!(rt; reader.left(), [9u8].as_slice());
     }
     let mut reader = FailingReader::new(&text[..40], 1);
     let short = read_record(alloc, &mut reader);
     assert!(rt; matches!(&short, Err(ReadError::Io(io::ReadError::ReadSizeLimit(41)))));
-    assert_eq!(rt; reader.at_hand().len(), 40);
+    assert_eq!(rt; reader.left().len(), 40);
     let mut flag = text;
     flag[8] = 2;
     let mut reader = FailingReader::new(&flag, 1);
     let refused = read_record(alloc, &mut reader);
     assert!(rt; matches!(&refused, Err(ReadError::InvalidBoolEncoding(2))));
-    assert_eq!(rt; reader.at_hand().len(), 1);
+    assert_eq!(rt; reader.left().len(), 1);
     Ok(())
 }
 
@@ -334,7 +404,7 @@ fn failures_are_counted(rt: HostRuntime) -> Result<(), Fail> {
         let refused = reader.fill(1);
         assert!(rt; matches!(&refused, Err(error) if is_read_fault(error)));
         assert_eq!(rt; reader.failures(), n);
-        assert_eq!(rt; reader.at_hand(), [3u8].as_slice());
+        assert_eq!(rt; reader.left(), [3u8].as_slice());
     }
     window.consume(1)?;
     let mut room = [0u8; 4];

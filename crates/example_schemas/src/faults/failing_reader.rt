@@ -1,6 +1,6 @@
 //! A reader whose device fails.
-ghost use Rattle.std.specs.Prelude.{◌≡◌, OnOk, IfOk, IfErr};
-ghost use Rattle.wincode_io.specs.Readers.{Readies, Windowed, WindowRefused, BytesReadRefused};
+ghost use Rattle.std.specs.Prelude.{◌≡◌, ◌≤◌, ◌-◌, max, OnOk, OnErr, IfOk, IfErr};
+ghost use Rattle.wincode_io.specs.Readers.{Readies, Loses, Windowed, WindowRefused, BytesReadRefused};
 ghost use Rattle.wincode_io.specs.Windows.{window_state};
 ghost use Rattle.example_schemas.specs.Faults.{HasServed, AskedReadRefused, over_device};
 
@@ -9,11 +9,12 @@ use std::marker::Model;
 use wincode::io::{Lifetime, ReadError, ReadResult, ReadWindow, Reader, TrustedSliceReader};
 
 /// Reads bytes from their front, as from a device that serves so many calls and then fails each time.
-/// It lends nothing. `fill`, which `fill_buf`, `consume` and the other calls make once, and
-/// `as_trusted_for` ask the device; its windows don't.
+/// It lends nothing, and has no byte at hand that the device didn't give. `fill`, which `fill_buf`,
+/// `consume` and the other calls make once, and `as_trusted_for` ask the device; its windows don't.
 #[derive(Drop)]
 pub struct FailingReader<'a> {
     rest: &'a [u8],
+    shown: usize,
     device: Device,
 }
 
@@ -22,16 +23,18 @@ impl<'a> Model for FailingReader<'a> {
 
     ghost Value = { ReadFrom };
 
-    ghost view = { λ r. record { rest = r.rest.now; device = r.device } };
+    ghost view = { λ r. record { rest = r.rest.now; shown = r.shown; device = r.device } };
 }
 
 impl<'a> FailingReader<'a> {
-    /// A reader of these bytes, whose device serves `sound` calls and has not failed.
+    /// A reader of these bytes, none of them at hand, whose device serves `sound` calls and has not
+    /// failed.
     pub fn new(bytes: &'a [u8], sound: usize) -> FailingReader<'a>
-        ensures { result ≡ record { rest = bytes.now; device = record { sound = sound; failures = 0 } } }
+        ensures { result ≡ record { rest = bytes.now; shown = 0; device = record { sound = sound; failures = 0 } } }
     {
         FailingReader {
             rest: bytes,
+            shown: 0,
             device: Device::new(sound),
         }
     }
@@ -41,6 +44,13 @@ impl<'a> FailingReader<'a> {
         ensures { result ≡ self.now.device.failures }
     {
         self.device.failures()
+    }
+
+    /// The bytes that are left, at hand or not.
+    pub fn left(&self) -> &[u8]
+        ensures { result.now ≡ self.now.rest }
+    {
+        self.rest
     }
 }
 
@@ -53,17 +63,26 @@ impl<'a> Reader<Lifetime<'a>> for FailingReader<'a> {
         ensures err { IfErr result (BytesReadRefused ⊥ ⊥ n (over_device self.old) (over_device self.new)) }
         ensures served { OnOk result (HasServed self.old.device self.new.device) }
         ensures failed { IfErr result (AskedReadRefused self.old.device self.new.device) }
+        ensures shown { OnOk result (self.new.shown ≡ max self.old.shown n) }
+        ensures kept { OnErr result (self.new.shown ≡ self.old.shown) }
     {
-        self.device.ask().map_err(ReadError::Io)
+        self.device.ask().map_err(ReadError::Io)?;
+        self.shown = self.shown.max(n);
+        Ok(())
     }
 
     fn at_hand(&self) -> &[u8] {
-        self.rest
+        &self.rest[..self.shown.min(self.rest.len())]
     }
 
-    fn consume_unchecked(&mut self, n: usize) {
+    fn consume_unchecked(&mut self, n: usize)
+        requires { n ≤ (over_device self.old).ready }
+        ensures lost { Loses n (over_device self.old) (over_device self.new) }
+        ensures shown { self.new.shown ≡ self.old.shown - n }
+    {
         let all = self.rest;
         self.rest = &all[n..];
+        self.shown = self.shown.saturating_sub(n);
     }
 
     fn borrow_exact(&mut self, _n: usize) -> ReadResult<&'a [u8]> {
@@ -79,12 +98,14 @@ impl<'a> Reader<Lifetime<'a>> for FailingReader<'a> {
         ensures err { IfErr result (WindowRefused n (over_device self.old) (over_device self.new)) }
         ensures served { OnOk result (HasServed self.old.device self.new.device) }
         ensures failed { IfErr result (AskedReadRefused self.old.device self.new.device) }
+        ensures shown { OnOk result (self.new.shown ≡ max self.old.shown n - n) }
     {
         self.fill(n)?;
         let all = self.rest;
         if n <= all.len() {
             let (front, rest) = all.split_at(n);
             self.rest = rest;
+            self.shown = self.shown.saturating_sub(n);
             Ok(ReadWindow::Plain(TrustedSliceReader::<Lifetime<'a>>::new(front)))
         } else {
             Err(ReadError::ReadSizeLimit(n))

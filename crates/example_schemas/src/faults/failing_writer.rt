@@ -1,10 +1,10 @@
 //! A writer whose device fails.
-ghost use Rattle.std.specs.Prelude.{◌≡◌, [], false, length, OnOk, IfErr};
+ghost use Rattle.std.specs.Prelude.{◌≡◌, ◌≤◌, ◌+◌, ◌-◌, max, [], false, length, OnOk, OnErr, IfErr};
 ghost use Rattle.std.specs.Borrow.{GName};
 ghost use Rattle.wincode_io.specs.SliceWriters.{SliceState, slice_put, slice_room};
 ghost use Rattle.wincode_io.specs.SliceWriterLaws.{slice_laws};
-ghost use Rattle.wincode_io.specs.WriterLaws.{same_bound};
-ghost use Rattle.wincode_io.specs.Writers.{HasRoom, BytesWriteRefused};
+ghost use Rattle.wincode_io.specs.WriterLaws.{min_right};
+ghost use Rattle.wincode_io.specs.Writers.{HasRoom, Took, BytesWriteRefused};
 ghost use Rattle.example_schemas.specs.Faults.{HasServed, AskedWriteRefused, slice_over};
 
 use super::Device;
@@ -12,10 +12,12 @@ use std::marker::Model;
 use wincode::io::{SliceWriter, WriteError, WriteResult, Writer, ZeroCopy};
 
 /// Overwrites a slice from its front, as a device does that serves so many calls and then fails each
-/// time. `make_room`, which `write` and the other calls make once, asks the device; windows don't.
+/// time. `make_room`, which `write` and the other calls make once, asks the device, and without it no
+/// room is made; windows don't.
 #[derive(Drop)]
 pub struct FailingWriter<'a> {
     slice: SliceWriter<'a>,
+    made: usize,
     device: Device,
 }
 
@@ -24,16 +26,17 @@ impl<'a> Model for FailingWriter<'a> {
 
     ghost Value = { WrittenTo };
 
-    ghost view = { λ w. record { content = (⟦<SliceWriter<'static> as Writer>⟧.state w.slice).content; slice = (⟦<SliceWriter<'static> as Writer>⟧.state w.slice).kept; device = w.device } };
+    ghost view = { λ w. record { content = (⟦<SliceWriter<'static> as Writer>⟧.state w.slice).content; slice = (⟦<SliceWriter<'static> as Writer>⟧.state w.slice).kept; made = w.made; device = w.device } };
 }
 
 impl<'a> FailingWriter<'a> {
     /// A writer that has written nothing, whose device serves `sound` calls and has not failed.
     pub fn new(bytes: &'a mut [u8], sound: usize) -> FailingWriter<'a>
-        ensures { result ≡ record { content = record { done = []; left = bytes.old }; slice = bytes.entry.ghost_name; device = record { sound = sound; failures = 0 } } }
+        ensures { result ≡ record { content = record { done = []; left = bytes.old }; slice = bytes.entry.ghost_name; made = 0; device = record { sound = sound; failures = 0 } } }
     {
         FailingWriter {
             slice: SliceWriter::new(bytes),
+            made: 0,
             device: Device::new(sound),
         }
     }
@@ -72,20 +75,39 @@ impl<'a> Writer for FailingWriter<'a> {
         ensures err { IfErr result (BytesWriteRefused n (slice_over self.old) (slice_over self.new)) }
         ensures served { OnOk result (HasServed self.old.device self.new.device) }
         ensures failed { IfErr result (AskedWriteRefused self.old.device self.new.device) }
+        ensures made { OnOk result (self.new.made ≡ max self.old.made n) }
+        ensures kept { OnErr result (self.new.made ≡ self.old.made) }
     {
         self.device.ask().map_err(WriteError::Io)?;
-        self.slice.make_room(n)
+        self.slice.make_room(n)?;
+        self.made = self.made.max(n);
+        Ok(())
     }
 
-    fn write_ready(&mut self, src: &[u8]) {
+    fn write_ready(&mut self, src: &[u8])
+        requires { length src.now ≤ (slice_over self.old).ready }
+        ensures took { Took src.now (slice_over self.old) (slice_over self.new) }
+        ensures ready { (slice_over self.old).ready ≤ (slice_over self.new).ready + length src.now }
+        ensures made { self.new.made ≡ self.old.made - length src.now }
+    {
         self.slice.write_ready(src);
+        self.made = self.made.saturating_sub(src.len());
     }
 
-    fn write_ready_t<T: ZeroCopy>(&mut self, src: &T) {
+    fn write_ready_t<T: ZeroCopy>(&mut self, src: &T)
+        requires { T.size ≤ (slice_over self.old).ready }
+        ensures took { Took (T.form src.now) (slice_over self.old) (slice_over self.new) }
+        ensures ready { (slice_over self.old).ready ≤ (slice_over self.new).ready + T.size }
+        ensures is_valid { T.is_valid src.now }
+        ensures made { self.new.made ≡ self.old.made - T.size }
+    {
+        let before = self.slice.written().len();
         self.slice.write_ready_t(src);
+        let size = self.slice.written().len() - before;
+        self.made = self.made.saturating_sub(size);
     }
 
     ghost writer_laws = { slice_laws };
 
-    ghost ready_room = { λ w. same_bound (slice_room w.content) };
+    ghost ready_room = { λ w. min_right w.made (slice_room w.content) };
 }
