@@ -1,6 +1,5 @@
 //! A buffered reader over any source.
-ghost use Rattle.std.specs.Prelude.{◌≡◌, ℕ, ◌+◌, ◌*◌, ◌<◌, ◌≤◌, false, [], length, take, drop, IfOk, IfErr, OnOk, OnErr, IsTrue, Err};
-ghost use Rattle.std.specs.IoError.{error_kind};
+ghost use Rattle.std.specs.Prelude.{◌≡◌, ℕ, ◌+◌, ◌*◌, ◌<◌, ◌≤◌, false, [], length, take, IfOk, IfErr, OnOk, OnErr, IsTrue, Err};
 ghost use Rattle.wincode_io.specs.Readers.{Stays, Readies, Loses, Takes, IsShort, IsShown, IsPeeked, BytesReadRefused, Fills, Windowed, WindowRefused, counted};
 ghost use Rattle.wincode_io.specs.FormCalls.{TakesForm, TakesForms, FormReadRefused};
 ghost use Rattle.wincode_io.specs.Writers.{byte_limit};
