@@ -6,3 +6,4 @@ mod Fronts
 mod ReadSteps
 mod ReadsBack
 mod WrittenSplits
+mod LineParts

@@ -13,3 +13,4 @@ pub mod Phrases
 pub mod Readers
 pub mod Written
 pub mod Spelled
+pub mod Lines

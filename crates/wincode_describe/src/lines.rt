@@ -1,4 +1,9 @@
 //! What is printed of bytes that are explained or checked.
+ghost use Rattle.std.specs.List.{slice_get};
+ghost use Rattle.std.specs.Prelude.{◌≡◌, ◌+◌, ◌≤◌, [], ◌++◌, length, slice_range, MatchOption, OnOk};
+ghost use Rattle.std.specs.String.{string_bytes};
+ghost use Rattle.wincode_describe.specs.Lines.{IsLine, spaced};
+
 use crate::described::{Described, LengthScheme};
 use crate::explaining::{Checked, Explained, check, check_read, explain};
 use crate::parts::part_size;
@@ -55,7 +60,9 @@ fn value_text(alloc: Global, part: &Shown) -> Result<String, AllocError> {
 }
 
 /// The place with that number, or none.
-fn place_at(places: &[String], i: usize) -> &str {
+fn place_at(places: &[String], i: usize) -> &str
+    ensures { MatchOption (slice_get places.now i) (result.now ≡ []) (λ place. result.now ≡ string_bytes place) }
+{
     match places.get(i) {
         Some(place) => place.as_str(),
         None => "",
@@ -63,7 +70,10 @@ fn place_at(places: &[String], i: usize) -> &str {
 }
 
 /// The bytes of a part.
-fn bytes_at(bytes: &[u8], span: Span) -> &[u8] {
+fn bytes_at(bytes: &[u8], span: Span) -> &[u8]
+    ensures { span.offset + span.size ≤ length bytes.now
+        → result.now ≡ slice_range bytes.now span.offset (span.offset + span.size) }
+{
     match span.offset.checked_add(span.size) {
         Some(end) => match bytes.get(span.offset..end) {
             Some(part) => part,
@@ -82,7 +92,9 @@ fn end_of(spans: &[Span]) -> usize {
 }
 
 /// A space and the place, if it isn't that of the whole.
-fn push_place(text: &mut String, place: &str) -> Result<(), AllocError> {
+fn push_place(text: &mut String, place: &str) -> Result<(), AllocError>
+    ensures { OnOk result (string_bytes text.new ≡ string_bytes text.old ++ spaced place.now) }
+{
     if !place.is_empty() {
         text.push_str(" ")?;
         text.push_str(place)?;
@@ -98,7 +110,9 @@ fn push_line(
     span: Span,
     place: &str,
     part: &Shown,
-) -> Result<(), AllocError> {
+) -> Result<(), AllocError>
+    ensures { OnOk result (IsLine span.offset place.now (string_bytes text.old) (string_bytes text.new)) }
+{
     let offset = span.offset;
     let digits = hexadecimal(alloc, bytes_at(bytes, span))?;
     let value = value_text(alloc, part)?;

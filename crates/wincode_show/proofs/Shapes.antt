@@ -5,8 +5,6 @@ use Rattle.std.proofs.KnownBytes.{Keeps-refl}
 use Rattle.wincode_io.specs.Joins.{Each, total}
 use Rattle.wincode_io.specs.NumberLaws.{length-le}
 use Rattle.wincode_io.specs.Readers.{ReaderState, Kept, memory, shared, is_steady}
-use Rattle.wincode_io.specs.Sources.{SourceState}
-use Rattle.wincode_io.specs.Streams.{streaming}
 use Rattle.wincode_io.specs.ShortNumberLaws.{groups_most}
 use Rattle.wincode_io.specs.declared.error.ReadError.TheVariants as reader
 use Rattle.wincode_base.specs.ArrayLaws.{array_write_laws}
@@ -182,12 +180,7 @@ unrelayed word shape input left old bytes _ known same d = absurd d
 
 -- ---- a source and an output
 
-stream_refused : (word : List ℕ) (shape : KnownShape) (source : SourceState) (old : Option (List ℕ)) (e : RelayError) → word ≡ word_of shape → RecodeInputRefused shape (streaming [] source) e → StreamRelayRefused word source old old e
-stream_refused word shape source old (relay.Read e) named d = (Keeps-refl old, (shape, named, d))
-stream_refused word shape source old (relay.Write e) named d = (Keeps-refl old, (shape, named, d))
-stream_refused word shape source old _ named d = absurd d
-
--- of a reader that has all of the source before it
-pub stream_unrelayed : (word : List ℕ) (shape : KnownShape) (source : SourceState) (begins : ReaderState) → begins ≡ streaming [] source → (old : Option (List ℕ)) (e : RelayError) → word ≡ word_of shape → RecodeInputRefused shape begins e
-    → StreamRelayRefused word source old old e
-stream_unrelayed word shape source begins same old e named d = stream_refused word shape source old e named (subst (λ s. RecodeInputRefused shape s e) same d)
+pub stream_unrelayed : (word : List ℕ) (shape : KnownShape) (reader : ReaderState) (old : Option (List ℕ)) (e : RelayError) → word ≡ word_of shape → RecodeInputRefused shape reader e → StreamRelayRefused word reader old old e
+stream_unrelayed word shape reader old (relay.Read e) named d = (Keeps-refl old, (shape, named, d))
+stream_unrelayed word shape reader old (relay.Write e) named d = (Keeps-refl old, (shape, named, d))
+stream_unrelayed word shape reader old _ named d = absurd d

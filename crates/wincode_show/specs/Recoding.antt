@@ -8,8 +8,6 @@ use Rattle.wincode_base.specs.declared.error.ReadError.TheVariants as reading
 use Rattle.wincode_base.specs.declared.error.WriteError.{WriteError}
 use Rattle.wincode_base.specs.declared.error.WriteError.TheVariants as writing
 use Rattle.wincode_io.specs.Readers.{ReaderState, memory, shared, is_steady}
-use Rattle.wincode_io.specs.Sources.{SourceState}
-use Rattle.wincode_io.specs.Streams.{streaming}
 use Rattle.wincode_io.specs.declared.error.ReadError.TheVariants as reader
 use Rattle.wincode_show.specs.Shapes.{IsKnown, word_of, read_of, write_of}
 use Rattle.wincode_show.specs.declared.recoding.RelayError.{RelayError}
@@ -113,17 +111,18 @@ RelayRefused word input left old new (relay.Write e) = IsKnown word × Keeps old
 RelayRefused word input left old new (relay.Output e) = IsKnown word × IfSome input (λ bytes. (text : List ℕ) × IsRecoded word bytes text)
 RelayRefused word input left old new relay.OutOfMemory = IsKnown word × Keeps old new
 
--- what comes of a source was recoded, where it is known, and its encoding and nothing else was written
-abbrev pub IsStreamRelayed : List ℕ → SourceState → Option (List ℕ) → Option (List ℕ) → Type 0
-IsStreamRelayed word source old new = IsKnown word × (IsTrue source.is_known → (text : List ℕ) × IsRecoded word source.coming text × Appends old new text)
+-- what the reader of a source has was recoded, where it is known, and its encoding and nothing else was written
+abbrev pub IsStreamRelayed : List ℕ → ReaderState → Option (List ℕ) → Option (List ℕ) → Type 0
+IsStreamRelayed word reader old new = IsKnown word × (IsTrue reader.is_known → (text : List ℕ) × IsRecoded word reader.rest text × Appends old new text)
 
--- Why relaying a source was refused, and that but for an output that failed nothing was written.
-abbrev pub StreamRelayRefused : List ℕ → SourceState → Option (List ℕ) → Option (List ℕ) → RelayError → Type 0
-StreamRelayRefused word source old new relay.UnknownShape = (IsKnown word → ⊥) × Keeps old new
-StreamRelayRefused word source old new (relay.Input e) = ⊥
-StreamRelayRefused word source old new (relay.Output e) = IsKnown word × (IsTrue source.is_known → (text : List ℕ) × IsRecoded word source.coming text)
-StreamRelayRefused word source old new relay.OutOfMemory = IsKnown word × Keeps old new
-StreamRelayRefused word source old new e = Keeps old new × ((shape : KnownShape) × (word ≡ word_of shape) × RecodeInputRefused shape (streaming [] source) e)
+-- Why relaying it was refused, and that but for an output that failed nothing was written. The reader has its buffer, so that
+-- memory is wanted for reading or writing the value alone.
+abbrev pub StreamRelayRefused : List ℕ → ReaderState → Option (List ℕ) → Option (List ℕ) → RelayError → Type 0
+StreamRelayRefused word reader old new relay.UnknownShape = (IsKnown word → ⊥) × Keeps old new
+StreamRelayRefused word reader old new (relay.Input e) = ⊥
+StreamRelayRefused word reader old new (relay.Output e) = IsKnown word × (IsTrue reader.is_known → (text : List ℕ) × IsRecoded word reader.rest text)
+StreamRelayRefused word reader old new relay.OutOfMemory = ⊥
+StreamRelayRefused word reader old new e = Keeps old new × ((shape : KnownShape) × (word ≡ word_of shape) × RecodeInputRefused shape reader e)
 
 -- the input failed, or memory was wanted
 abbrev pub GatherRefused : RelayError → Type 0

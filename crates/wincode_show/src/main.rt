@@ -19,7 +19,7 @@ use std::process::ExitCode;
 use std::rt::{Env, Files};
 use std::{env, fs, io};
 use streaming::relay_stream;
-use wincode::io::StdSource;
+use wincode::io::{StdSource, StreamReader};
 use wincode_describe::TYPES;
 
 /// Why the arguments aren't known: no memory for them, or one that is no text.
@@ -76,8 +76,10 @@ fn recode(rt: &(impl Input + Print + AllocGlobal), shape: &str) -> Result<bool, 
 
 /// So, without all of the input in memory.
 fn recode_stream(rt: &(impl Input + Print + AllocGlobal), shape: &str) -> Result<bool, Fault> {
-    let source = StdSource::new(rt.reader());
-    relay_stream(rt.alloc(), shape, source, &mut io::writer(rt))?;
+    let Ok(reader) = StreamReader::new(rt.alloc(), StdSource::new(rt.reader())) else {
+        return Err(Fault::from(RelayError::OutOfMemory));
+    };
+    relay_stream(rt.alloc(), shape, reader, &mut io::writer(rt))?;
     Ok(true)
 }
 

@@ -1,12 +1,13 @@
 //! Relaying what comes of a source, in pieces.
 use super::NESTED;
 use crate::recoding::RelayError;
+use crate::relaying::relay;
 use crate::streaming::relay_stream;
 use example_schemas::faults::Pieces;
 use std::alloc::Global;
 use std::test::Fail;
 use wincode::ReadError;
-use wincode::io::{ReadError as IoReadError, Source, StdSource};
+use wincode::io::{ReadError as IoReadError, Source, StdSource, StreamReader};
 
 /// The bytes in pieces of this size, with an empty one before each.
 fn in_pieces(alloc: Global, bytes: &[u8], size: usize, fails: bool) -> Result<Pieces, Fail> {
@@ -25,7 +26,10 @@ fn relayed<S: Source + Drop>(
     source: S,
 ) -> (Vec<u8>, Result<(), RelayError>) {
     let mut output = Vec::new(alloc);
-    let answer = relay_stream(alloc, shape, source, &mut output);
+    let answer = match StreamReader::new(alloc, source) {
+        Ok(reader) => relay_stream(alloc, shape, reader, &mut output),
+        Err(_) => Err(RelayError::OutOfMemory),
+    };
     (output, answer)
 }
 
@@ -49,6 +53,20 @@ fn whole_values(rt: HostRuntime) -> Result<(), Fail> {
     }
     let (_, answer) = relayed(alloc, "other", in_pieces(alloc, &NESTED, 1, false)?);
     assert!(rt; matches!(&answer, Err(RelayError::UnknownShape)));
+    Ok(())
+}
+
+/// A text of more than a mebibyte, read as it comes and read whole.
+#[test]
+fn more_than_a_mebibyte(rt: HostRuntime) -> Result<(), Fail> {
+    let alloc = rt.alloc();
+    let mut input = vec![in alloc; 97u8; 1_048_585]?;
+    input[..8].copy_from_slice(&[1, 0, 16, 0, 0, 0, 0, 0]);
+    let (output, answer) = relayed(alloc, "text", StdSource::new(input.as_slice()));
+    assert!(rt; answer.is_ok() && output == input);
+    let mut output = Vec::new(alloc);
+    relay(alloc, "text", &mut input.as_slice(), &mut output)?;
+    assert!(rt; output == input);
     Ok(())
 }
 

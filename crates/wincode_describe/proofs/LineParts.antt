@@ -1,0 +1,27 @@
+-- The pieces of a line, one behind another.
+use Rattle.std.proofs.Common.{◌≡◌, ◌∙◌, ap, ℕ, List, ◌++◌, append_assoc, decimal, codes, if◌then◌else◌, Result, Ok, Err}
+use Rattle.std.specs.Prelude.{OnOk}
+use Rattle.std.specs.Result.{is_ok}
+use Rattle.wincode_describe.specs.Lines.{IsLine, spaced}
+
+seven : (a b c d e f g h : List ℕ) → ((((a ++ (b ++ (c ++ d))) ++ e) ++ f) ++ g) ++ h ≡ a ++ (b ++ (c ++ (d ++ (e ++ (f ++ (g ++ h))))))
+seven a b c d e f g h =
+    append_assoc (((a ++ (b ++ (c ++ d))) ++ e) ++ f) g h
+    ∙ append_assoc ((a ++ (b ++ (c ++ d))) ++ e) f (g ++ h)
+    ∙ append_assoc (a ++ (b ++ (c ++ d))) e (f ++ (g ++ h))
+    ∙ append_assoc a (b ++ (c ++ d)) (e ++ (f ++ (g ++ h)))
+    ∙ ap (λ t. a ++ t) (append_assoc b (c ++ d) (e ++ (f ++ (g ++ h))) ∙ ap (λ t. b ++ t) (append_assoc c d (e ++ (f ++ (g ++ h)))))
+
+pub line_of : (n : ℕ) (place digits space value end begin t0 t1 t2 t3 t4 t5 : List ℕ) → begin ≡ decimal n ++ (codes ": " ++ digits) → t1 ≡ t0 ++ begin → t2 ≡ t1 ++ spaced place → t3 ≡ t2 ++ space → t4 ≡ t3 ++ value → t5 ≡ t4 ++ end
+    → IsLine n place t0 t5
+line_of n place digits space value end begin t0 t1 t2 t3 t4 t5 b e1 e2 e3 e4 e5 = (
+  digits,
+  space ++ (value ++ end),
+  e5 ∙ ap (λ t. t ++ end) (e4 ∙ ap (λ t. t ++ value) (e3 ∙ ap (λ t. t ++ space) (e2 ∙ ap (λ t. t ++ spaced place) (e1 ∙ ap (λ t. t0 ++ t) b))))
+      ∙ seven t0 (decimal n) (codes ": ") digits (spaced place) space value end,
+)
+
+-- what stands there if all went well, where it did
+pub where_ok : {T E : Type 0} (r : Result T E) (x y new : List ℕ) → new ≡ (if is_ok r then x else y) → OnOk r (new ≡ x)
+where_ok (Ok a) x y new e = e
+where_ok (Err a) x y new e = tt
