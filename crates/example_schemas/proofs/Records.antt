@@ -1,5 +1,38 @@
 -- Reading and writing a record over a device, through one window of its size.
-use Rattle.std.proofs.Common.{◌≡◌, ◌∙◌, sym, subst, ap, ℕ, ◌<◌, ◌≤◌, ◌^◌, ◌&&◌, not, Bool, true, false, true≢false, List, [], ◌∷◌, ◌++◌, length, map, refl, arith, lit≤, lit<, append-nil, IsTrue, inl, inr, Result, Ok, Err}
+use Rattle.std.proofs.Common.{
+  ◌≡◌,
+  ◌∙◌,
+  sym,
+  subst,
+  ap,
+  ℕ,
+  ◌<◌,
+  ◌≤◌,
+  ◌^◌,
+  ◌&&◌,
+  not,
+  Bool,
+  true,
+  false,
+  true≢false,
+  List,
+  [],
+  ◌∷◌,
+  ◌++◌,
+  length,
+  map,
+  refl,
+  arith,
+  lit≤,
+  lit<,
+  append-nil,
+  IsTrue,
+  inl,
+  inr,
+  Result,
+  Ok,
+  Err,
+}
 use Rattle.std.proofs.lemmas.List.{take_all, map-id, length-append}
 use Rattle.std.specs.Result.{IfErr, IsOk}
 use Rattle.std.specs.Borrow.{GName}
@@ -33,12 +66,14 @@ use Rattle.example_schemas.specs.Records.{members_read, record_read, members_wri
 -- ---- a window in a window of the same size
 
 -- a window of a reader that doesn't count its windows is steady, and stays so
-steady_inside : {n : ℕ} {old new window after : ReaderState} → old.counts_windows ≡ false → Windowed n old new window → Kept window after → is_steady after ≡ true
+steady_inside : {n : ℕ} {old new window after : ReaderState} → old.counts_windows ≡ false → Windowed n old new window → Kept window after → is_steady after
+    ≡ true
 steady_inside {after = after} u w k =
     ap (λ b. b && not after.counts_windows) (k.never_fails ∙ w.never_fails) ∙ ap (λ c. true && not c) (k.counts_windows ∙ w.counts_windows ∙ u)
 
 -- no window of all of such a window is refused
-all_of_window : (n : ℕ) (old new window after : ReaderState) (e : ReadError) → old.counts_windows ≡ false → Windowed n old new window → NoWindow n window after e → ⊥
+all_of_window : (n : ℕ) (old new window after : ReaderState) (e : ReadError) → old.counts_windows ≡ false → Windowed n old new window
+    → NoWindow n window after e → ⊥
 all_of_window n old new window after (reading.Io (reader.ReadSizeLimit m)) u w p = let short = p.1.0 w.is_known in absurd (omega (arith, w.takes.size, short))
 all_of_window n old new window after (reading.Io reader.UnsupportedZeroCopy) u w p = p.1
 all_of_window n old new window after (reading.Io reader.OutOfMemory) u w p = true≢false (sym (steady_inside u w p.0.kept) ∙ p.1)
@@ -61,7 +96,8 @@ same_window n old new window after inner w v = record {
 }
 
 -- what was refused in a window of a window was refused in one window
-one_window : (n : ℕ) (inside : ReadRefusal) (old new window after : ReaderState) (e : ReadError) → old.counts_windows ≡ false → Windowed n old new window → WindowReadRefused n inside window after e → WindowReadRefused n inside old new e
+one_window : (n : ℕ) (inside : ReadRefusal) (old new window after : ReaderState) (e : ReadError) → old.counts_windows ≡ false → Windowed n old new window
+    → WindowReadRefused n inside window after e → WindowReadRefused n inside old new e
 one_window n inside old new window after e u w (inl p) = absurd (all_of_window n old new window after e u w p)
 one_window n inside old new window after e u w (inr i) = inr (i.0, i.1, same_window n old new window after i.0 w i.2, i.3)
 
@@ -71,17 +107,24 @@ abbrev IsRecord : ℕ × (Bool × List ℕ) → Type 0
 IsRecord v = (v.0 < 256 ^ 8) × (Unit {0} × IsArray 32 (λ n. n < 256 ^ 1) v.1.1)
 
 record_laws : ReadLaws IsRecord record_read
-record_laws = windowed_read_laws (pair_read_laws (number_read_laws 8 true (lit≤ tt)) (pair_read_laws bool_read_laws (windowed_read_laws (array_read_laws 32 (λ n. n < 256 ^ 1) (number_read 1 true) (number_read_laws 1 true (lit≤ tt))))))
+record_laws = windowed_read_laws (pair_read_laws (number_read_laws 8 true (lit≤ tt))
+    (pair_read_laws bool_read_laws (windowed_read_laws (array_read_laws 32 (λ n. n < 256 ^ 1) (number_read 1 true) (number_read_laws 1 true (lit≤ tt))))))
 
 sized : (b : List ℕ) (v : ℕ × (Bool × List ℕ)) → record_read.reads b v → length b ≡ 41
 sized = sized_of record_read.reads record_read.meta 41 false record_laws.statics refl
 
 module _ {old new window : ReaderState} (w : Windowed 41 old new window) where
-  pub record_gives : {after : ReaderState} (n : ℕ) (b : Bool) (bytes : List ℕ) → Gives record_read.reads window after (n, (b, map (λ k. k) bytes)) → Gives record_read.reads old new (n, (b, bytes))
-  record_gives {after} n b bytes r = window_gives record_read.reads 41 sized old new window after (n, (b, bytes)) w (subst (λ l. Gives record_read.reads window after (n, (b, l))) (map-id bytes) r)
+  pub record_gives : {after : ReaderState} (n : ℕ) (b : Bool) (bytes : List ℕ) → Gives record_read.reads window after (n, (b, map (λ k. k) bytes))
+      → Gives record_read.reads old new (n, (b, bytes))
+  record_gives {after} n b bytes r = window_gives record_read.reads 41 sized old new window after (n, (b, bytes)) w
+      (subst (λ l. Gives record_read.reads window after (n, (b, l))) (map-id bytes) r)
 
-  pub record_refused : {after : ReaderState} (e : ReadError) → old.counts_windows ≡ false → SchemaReadRefused record_read window after e → SchemaReadRefused record_read old new e
-  record_refused {after} e u r = (window_refuses record_read.reads 41 sized record_read.borrow record_read.takes_no_memory old new window after e w r.0, one_window 41 members_read.refused old new window after e u w r.1)
+  pub record_refused : {after : ReaderState} (e : ReadError) → old.counts_windows ≡ false → SchemaReadRefused record_read window after e
+      → SchemaReadRefused record_read old new e
+  record_refused {after} e u r = (
+    window_refuses record_read.reads 41 sized record_read.borrow record_read.takes_no_memory old new window after e w r.0,
+    one_window 41 members_read.refused old new window after e u w r.1,
+  )
 
   accepted : IsTrue old.is_known → Front record_read.reads old.rest → Accepts record_read.reads window
   accepted k f =
@@ -92,11 +135,17 @@ module _ {old new window : ReaderState} (w : Windowed 41 old new window) where
       record {
         is_known = w.is_known;
         fits = omega (arith, w.takes.size);
-        front = record { value = f.value; rest = []; found = record { encoding = front.encoding; is_read = front.is_read; joins = same ∙ sym (append-nil front.encoding) } };
+        front = record {
+          value = f.value;
+          rest = [];
+          found = record
+              { encoding = front.encoding; is_read = front.is_read; joins = same ∙ sym (append-nil front.encoding) };
+        };
       }
 
   -- nothing of a window is refused that begins with a record
-  pub record_read_through : {after : ReaderState} (e : ReadError) → old.counts_windows ≡ false → IsTrue old.is_known → Front record_read.reads old.rest → ReadRefused record_read.reads record_read.borrow record_read.takes_no_memory window after e → ⊥
+  pub record_read_through : {after : ReaderState} (e : ReadError) → old.counts_windows ≡ false → IsTrue old.is_known → Front record_read.reads old.rest
+      → ReadRefused record_read.reads record_read.borrow record_read.takes_no_memory window after e → ⊥
   record_read_through {after} e u k f r = by e r.due where
     steady : after.never_fails ≡ true
     steady = r.kept.never_fails ∙ w.never_fails
@@ -138,11 +187,15 @@ each_unit (x ∷ xs) = (tt, each_unit xs)
 can : (v : ℕ × (Bool × List ℕ)) → length v.1.1 ≡ 32 → record_write.can v
 can v l = (tt, (tt, (l, each_unit v.1.1)))
 
-size_by : {X : Type 0} {is_valid : X → Type 0} {model : X → ℕ × (Bool × List ℕ)} → WriteLaws is_valid model members_write → (v : ℕ × (Bool × List ℕ)) → members_write.can v → members_write.size v ≡ 41
-size_by {is_valid = is_valid} {model = model} l v c = written_size is_valid model members_write.can members_write.size members_write.meta 41 false l.statics refl v c
+size_by : {X : Type 0} {is_valid : X → Type 0} {model : X → ℕ × (Bool × List ℕ)} → WriteLaws is_valid model members_write → (v : ℕ × (Bool × List ℕ))
+    → members_write.can v → members_write.size v ≡ 41
+size_by {is_valid = is_valid} {model = model} l v c = written_size is_valid model members_write.can members_write.size members_write.meta 41 false l.statics
+    refl v c
 
 written : (v : ℕ × (Bool × List ℕ)) → members_write.can v → members_write.size v ≡ 41
-written v c = size_by (pair_write_laws (number_write_laws 8 true) (pair_write_laws bool_write_laws (windowed_write_laws (array_write_laws 32 (λ n. n < 256 ^ 1) (λ n. n) (number_write 1 true) (number_write_laws 1 true))))) v c
+written v c = size_by (pair_write_laws (number_write_laws 8 true)
+    (pair_write_laws bool_write_laws (windowed_write_laws (array_write_laws 32 (λ n. n < 256 ^ 1) (λ n. n) (number_write 1 true) (number_write_laws 1 true)))))
+    v c
 
 -- a record is written, whose refusal is never told
 abbrev unrefused : WriteGrammar (ℕ × (Bool × List ℕ))
@@ -158,37 +211,52 @@ unrefused = record {
 }
 
 -- what serves a call and has room for a record makes it
-pub record_fits : (old new : WrittenTo) (e : IoWriteError) → BytesWriteRefused 41 (slice_over old) (slice_over new) e → AskedWriteRefused old.device new.device e → 0 < old.device.sound → 41 ≤ slice_room old.content → ⊥
+pub record_fits : (old new : WrittenTo) (e : IoWriteError) → BytesWriteRefused 41 (slice_over old) (slice_over new) e
+    → AskedWriteRefused old.device new.device e → 0 < old.device.sound → 41 ≤ slice_room old.content → ⊥
 record_fits old new (writer.WriteSizeLimit m) d a some fits = let less = d.1.0 in absurd (omega (arith, less, fits))
 record_fits old new (writer.Io x) d a some fits = let none = a.0.0 in absurd (omega (arith, none, some))
 record_fits old new _ d a some fits = a
 
 module _ {S K : Type 0} {put : S → List ℕ → S} {room : S → ℕ} (v : ℕ × (Bool × List ℕ)) (l : length v.1.1 ≡ 32) where
-  denied_by : {X : Type 0} {is_valid : X → Type 0} {model : X → ℕ × (Bool × List ℕ)} → WriteLaws is_valid model members_write → WriterLaws put room → (old new : WriterState put room K) (e : IoWriteError) → BytesWriteRefused 41 old new e
+  denied_by : {X : Type 0} {is_valid : X → Type 0} {model : X → ℕ × (Bool × List ℕ)} → WriteLaws is_valid model members_write → WriterLaws put room
+      → (old new : WriterState put room K) (e : IoWriteError) → BytesWriteRefused 41 old new e
       → WriteRefused record_write old new v (writing.Io e) × Stopped record_write old new v (writing.Io e)
-  denied_by {is_valid = is_valid} {model = model} members laws old new e d = (windowed_unwritten members_write v (room_unwritten members_write v 41 (written v) is_valid model laws members old new e d), room_halted members_write v laws e refl d)
+  denied_by {is_valid = is_valid} {model = model} members laws old new e d = (
+    windowed_unwritten members_write v (room_unwritten members_write v 41 (written v) is_valid model laws members old new e d),
+    room_halted members_write v laws e refl d,
+  )
 
   -- room for a record was refused
-  pub record_unwritten : WriterLaws put room → (old new : WriterState put room K) (e : IoWriteError) → BytesWriteRefused 41 old new e → WriteRefused record_write old new v (writing.Io e) × Stopped record_write old new v (writing.Io e)
+  pub record_unwritten : WriterLaws put room → (old new : WriterState put room K) (e : IoWriteError) → BytesWriteRefused 41 old new e
+      → WriteRefused record_write old new v (writing.Io e) × Stopped record_write old new v (writing.Io e)
   record_unwritten laws old new e d =
-      denied_by (pair_write_laws (number_write_laws 8 true) (pair_write_laws bool_write_laws (windowed_write_laws (array_write_laws 32 (λ n. n < 256 ^ 1) (λ n. n) (number_write 1 true) (number_write_laws 1 true))))) laws old new e d
+      denied_by (pair_write_laws (number_write_laws 8 true) (pair_write_laws bool_write_laws
+      (windowed_write_laws (array_write_laws 32 (λ n. n < 256 ^ 1) (λ n. n) (number_write 1 true) (number_write_laws 1 true))))) laws old new e d
 
   -- in a window of its size nothing of a record is refused
-  pub record_written_through : (old made below after : WriterState put room K) (name name' : GName) (left left' : ℕ) (e : WriteError) → HasRoom 41 old made → below ≡ made → left ≡ 41
-      → WriteRefused record_write (window_of below name left) (window_of after name' left') v e → Stopped record_write (window_of below name left) (window_of after name' left') v e → ⊥
+  pub record_written_through : (old made below after : WriterState put room K) (name name' : GName) (left left' : ℕ) (e : WriteError) → HasRoom 41 old made
+      → below ≡ made → left ≡ 41
+      → WriteRefused record_write (window_of below name left) (window_of after name' left') v e
+      → Stopped record_write (window_of below name left) (window_of after name' left') v e → ⊥
   record_written_through old made below after name name' left left' e has same all u s =
-      let stopped = window_stopped record_write v 41 (written v, lit< tt) old made below after name name' left left' e has same all u {k = unrefused} s (λ cannot inside added r. absurd (cannot (can v l))) in
+      let stopped = window_stopped record_write v 41 (written v, lit< tt) old made below after name name' left left' e has same all u {k = unrefused} s
+      (λ cannot inside added r. absurd (cannot (can v l))) in
       stopped.refused
 
   -- what of a record was written in a window of its size was written
-  pub record_through : (old below after : WriterState put room K) (name name' : GName) (left left' : ℕ) → below ≡ old → 41 ≤ room old.content → Wrote record_write (window_of below name left) (window_of after name' left') v → Wrote record_write old after v
+  pub record_through : (old below after : WriterState put room K) (name name' : GName) (left left' : ℕ) → below ≡ old → 41 ≤ room old.content
+      → Wrote record_write (window_of below name left) (window_of after name' left') v → Wrote record_write old after v
   record_through old below after name name' left left' same fits o = record {
     can = o.can;
     fits = let size = written v o.can in omega (arith, size, fits);
     encoding = o.encoding;
     is_encoding = o.is_encoding;
     took = record {
-      same = record { kept = ap (λ k. k.target) o.took.same.kept ∙ ap (λ s. s.kept) same; never_fails = ap (λ k. k.never_fails) o.took.same.kept ∙ ap (λ s. s.never_fails) same };
+      same = record {
+        kept = ap (λ k. k.target) o.took.same.kept ∙ ap (λ s. s.kept) same;
+        never_fails =
+            ap (λ k. k.never_fails) o.took.same.kept ∙ ap (λ s. s.never_fails) same;
+      };
       content = ap (λ c. c.target) o.took.content ∙ ap (λ s. put s.content o.encoding) same;
     };
   }

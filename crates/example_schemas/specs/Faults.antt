@@ -46,7 +46,17 @@ pub record ReadFrom : Type 0 where
 
 -- A reader of these bytes over a device: at hand are those that the device gave.
 abbrev pub over_device : ReadFrom → ReaderState
-over_device r = record { rest = r.rest; ready = min r.shown (length r.rest); lends = nothing; never_fails = false; counts_windows = false; failures = r.device.failures; is_known = true; place = None }
+over_device r = record {
+  rest = r.rest;
+  ready = min r.shown (length r.rest);
+  lends = nothing;
+  never_fails = false;
+  counts_windows = false;
+  failures =
+      r.device.failures;
+  is_known = true;
+  place = None;
+}
 
 -- what a writer over a device has written, and to which slice, and for how many bytes more its device was asked and served
 pub record WrittenTo : Type 0 where

@@ -24,15 +24,22 @@ module _ (n : ℕ) (old new : ReaderState) (bytes : List ℕ) (t : Takes n old n
 
   -- what was taken is no block
   pub other_refuses : (s : _) → ReadRefused (block_read n).reads 0 true old new (reading.Custom s)
-  other_refuses s = record { kept = t.loses.kept; left = λ told. record { front = bytes; joins = takes_joins t told }; place = loses_onward n old new t.loses; due = other_due }
+  other_refuses s = record {
+    kept = t.loses.kept;
+    left = λ told. record { front = bytes; joins = takes_joins t told };
+    place = loses_onward n old new t.loses;
+    due = other_due;
+  }
 
 -- nothing is so many zeros as none
-pub none_took : {S K : Type 0} {put : S → List ℕ → S} {room : S → ℕ} → WriterLaws put room → (s : WriterState put room K) → (bytes : List ℕ) × AreZeros 0 bytes × Took bytes s s
+pub none_took : {S K : Type 0} {put : S → List ℕ → S} {room : S → ℕ} → WriterLaws put room → (s : WriterState put room K) → (bytes : List ℕ) × AreZeros 0 bytes
+    × Took bytes s s
 none_took laws s = ([], (refl, tt), record { same = record { kept = refl; never_fails = refl }; content = sym (laws.nil s.content) })
 
 -- one more piece of 64 zeros
 pub more_took : {S K : Type 0} {put : S → List ℕ → S} {room : S → ℕ} → WriterLaws put room → (i : ℕ) (old mid new : WriterState put room K) (piece : List ℕ)
-    → (i + 1) * 64 ≤ room old.content → AreZeros 64 piece → ((bytes : List ℕ) × AreZeros (i * 64) bytes × Took bytes old mid) → Took piece mid new → (bytes : List ℕ) × AreZeros ((i + 1) * 64) bytes × Took bytes old new
+    → (i + 1) * 64 ≤ room old.content → AreZeros 64 piece → ((bytes : List ℕ) × AreZeros (i * 64) bytes × Took bytes old mid) → Took piece mid new
+    → (bytes : List ℕ) × AreZeros ((i + 1) * 64) bytes × Took bytes old new
 more_took {put = put} {room = room} laws i old mid new piece fits zeros (bytes, before, one) two = (
   bytes ++ piece,
   (omega (arith, length-append bytes piece, before.0, zeros.0), each_append (λ d. d ≡ 0) bytes piece before.1 zeros.1),
@@ -43,9 +50,14 @@ more_took {put = put} {room = room} laws i old mid new piece fits zeros (bytes, 
 )
 
 -- n bytes were refused
-pub block_unwritten : {S K : Type 0} {put : S → List ℕ → S} {room : S → ℕ} → WriterLaws put room → (n : ℕ) (old new : WriterState put room K) (v : Unit) (e : IoWriteError) → BytesWriteRefused n old new e → WriteRefused (block_write n) old new v (writing.Io e)
+pub block_unwritten : {S K : Type 0} {put : S → List ℕ → S} {room : S → ℕ} → WriterLaws put room
+    → (n : ℕ) (old new : WriterState put room K) (v : Unit) (e : IoWriteError) → BytesWriteRefused n old new e
+    → WriteRefused (block_write n) old new v (writing.Io e)
 block_unwritten laws n old new v e refused =
-    let long = length-replicate n 0 in encoding_unwritten (block_write n) v (replicate n 0) (long, all_zero n) long laws old new e (subst (λ m. BytesWriteRefused m old new e) (sym long) refused)
+    let long = length-replicate n 0 in encoding_unwritten (block_write n) v (replicate n 0) (long, all_zero n) long laws old new e
+    (subst (λ m. BytesWriteRefused m old new e) (sym long) refused)
 
-pub block_halted : {S K : Type 0} {put : S → List ℕ → S} {room : S → ℕ} → WriterLaws put room → (n : ℕ) (old new : WriterState put room K) (v : Unit) (e : IoWriteError) → BytesWriteRefused n old new e → Stopped (block_write n) old new v (writing.Io e)
+pub block_halted : {S K : Type 0} {put : S → List ℕ → S} {room : S → ℕ} → WriterLaws put room
+    → (n : ℕ) (old new : WriterState put room K) (v : Unit) (e : IoWriteError) → BytesWriteRefused n old new e
+    → Stopped (block_write n) old new v (writing.Io e)
 block_halted laws n old new v e refused = nothing_stopped laws old new (writing.Io e) refused.0.content (piece_denied n old new e refused)

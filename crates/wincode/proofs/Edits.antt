@@ -1,5 +1,29 @@
 -- Edits of forms behind their number, in the bytes where they stand.
-use Rattle.std.proofs.Common.{◌≡◌, ◌∙◌, sym, ap, subst, ℕ, ◌-◌, ◌*◌, ◌<◌, ◌≤◌, ◌^◌, List, [], ◌∷◌, ◌++◌, length, refl, take, drop, arith, length-take, length-drop, take-append-drop}
+use Rattle.std.proofs.Common.{
+  ◌≡◌,
+  ◌∙◌,
+  sym,
+  ap,
+  subst,
+  ℕ,
+  ◌-◌,
+  ◌*◌,
+  ◌<◌,
+  ◌≤◌,
+  ◌^◌,
+  List,
+  [],
+  ◌∷◌,
+  ◌++◌,
+  length,
+  refl,
+  take,
+  drop,
+  arith,
+  length-take,
+  length-drop,
+  take-append-drop,
+}
 use Rattle.std.specs.List.{All}
 use Rattle.std.proofs.lemmas.List.Elements.{All-head, All-tail}
 use borrow.Rule.Slice.PartMut.{put_mid}
@@ -45,7 +69,8 @@ module _ (b : List ℕ) (all : IsBytes b) (long : 8 ≤ length b) (n : ℕ) (is 
     -- `k` is t, as the length of a part of the bytes is counted
     pub edited_in_place : {X : Type 0} {is_valid : X → Type 0} {form : X → List ℕ} {value : List ℕ → X} → IsByteForm is_valid s form value
         → (es : List (ℕ × X)) → All (λ e. e.0 < n) es → All (λ e. is_valid e.1) es
-        → (k : ℕ) → k ≡ t → (forms : List ℕ) → forms ≡ all_edited s (take k (drop 8 b)) (in_places form es) → EditedInPlace s form value b es (put_mid 8 k b forms)
+        → (k : ℕ) → k ≡ t → (forms : List ℕ) → forms ≡ all_edited s (take k (drop 8 b)) (in_places form es)
+        → EditedInPlace s form value b es (put_mid 8 k b forms)
     edited_in_place {form = form} law es within is_valid k same forms e = record {
       has = has_forms;
       within = within;
@@ -55,11 +80,13 @@ module _ (b : List ℕ) (all : IsBytes b) (long : 8 ≤ length b) (n : ℕ) (is 
     }
 
 -- a form reads as the last of the values that were put over it
-pub last_is : {X : Type 0} {is_valid : X → Type 0} {s : ℕ} {form : X → List ℕ} {value : List ℕ → X} → IsByteForm is_valid s form value → (first : List ℕ) → length first ≡ s → (news : List X) → All is_valid news
+pub last_is : {X : Type 0} {is_valid : X → Type 0} {s : ℕ} {form : X → List ℕ} {value : List ℕ → X} → IsByteForm is_valid s form value → (first : List ℕ)
+    → length first ≡ s → (news : List X) → All is_valid news
     → value (all_edited s first (in_first form news)) ≡ last_of (value first) news
 unfolding all_edited
 last_is law first size [] all = refl
 last_is {is_valid = is_valid} {s = s} {form = form} {value = value} law first size (v ∷ vs) all =
     let here : is_valid v = All-head is_valid v vs all in
     let whole : form v ≡ edited s first 0 (form v) = edited_whole s first (form v) size in
-    ap (λ b. value (all_edited s b (in_first form vs))) (sym whole) ∙ last_is law (form v) (law.long v here) vs (All-tail is_valid v vs all) ∙ ap (λ x. last_of x vs) (law.value_form v here)
+    ap (λ b. value (all_edited s b (in_first form vs))) (sym whole) ∙ last_is law (form v) (law.long v here) vs (All-tail is_valid v vs all)
+    ∙ ap (λ x. last_of x vs) (law.value_form v here)

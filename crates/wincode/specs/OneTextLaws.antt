@@ -53,7 +53,8 @@ pair_one_text one two = record { same = λ a b v p q. joined_same a b p.0 p.1 q.
 pub windowed_one_text : {V : Type 0} {g : ReadGrammar V} → IsOneText g → IsOneText (windowed_read g)
 windowed_one_text one = record { same = one.same }
 
-items_same : {V : Type 0} (g : ReadGrammar V) → IsOneText g → (vs : List V) (a b : List ℕ) → Joined (λ v t. g.reads t v) vs a → Joined (λ v t. g.reads t v) vs b → a ≡ b
+items_same : {V : Type 0} (g : ReadGrammar V) → IsOneText g → (vs : List V) (a b : List ℕ) → Joined (λ v t. g.reads t v) vs a
+    → Joined (λ v t. g.reads t v) vs b → a ≡ b
 items_same g one [] a b p q = p ∙ sym q
 items_same g one (v ∷ vs) a b p q = joined_same a b p.0 p.1 q.0 q.1 p.4 q.4 (one.same p.0 q.0 v p.2 q.2) (items_same g one vs p.1 q.1 p.3 q.3)
 
@@ -74,14 +75,16 @@ list_one_text s count {g = g} one = record {
 
 -- ---- a tag, and then what it names
 
-pub form_one_text : {X : Type 0} (is_valid : X → Type 0) (s : ℕ) (form : X → List ℕ) (any : Bool) (prealloc borrow : ℕ) (refusal : ReadRefusal) → IsOneText (form_read is_valid s form any prealloc borrow refusal)
+pub form_one_text : {X : Type 0} (is_valid : X → Type 0) (s : ℕ) (form : X → List ℕ) (any : Bool) (prealloc borrow : ℕ) (refusal : ReadRefusal)
+    → IsOneText (form_read is_valid s form any prealloc borrow refusal)
 form_one_text is_valid s form any prealloc borrow refusal = record { same = λ a b v p q. p.1 ∙ sym q.1 }
 
 -- a list that is lent has the encodings of one that isn't
 pub lent_one_text : {V : Type 0} (borrow s : ℕ) {g : ReadGrammar V} → IsOneText g → IsOneText (lent_read borrow s g)
 lent_one_text borrow s {g = g} one = record { same = (list_one_text (bincode byte_limit) 16 one).same }
 
-pub tagged_one_text : {V : Type 0} {refusal : ReadRefusal} (k : ℕ) (tag : V → ℕ) {part : ReadGrammar V} → IsOneText part → IsOneText (tagged_read k tag refusal part)
+pub tagged_one_text : {V : Type 0} {refusal : ReadRefusal} (k : ℕ) (tag : V → ℕ) {part : ReadGrammar V} → IsOneText part
+    → IsOneText (tagged_read k tag refusal part)
 tagged_one_text k tag one = record { same = λ a b v p q. p.2 ∙ ap (λ t. le k (tag v) ++ t) (one.same p.0 q.0 v p.1 q.1) ∙ sym q.2 }
 
 option_same : {V : Type 0} (g : ReadGrammar V) → IsOneText g → (a b : List ℕ) (o : Option V) → OptionReads g.reads a o → OptionReads g.reads b o → a ≡ b

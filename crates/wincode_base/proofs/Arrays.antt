@@ -14,7 +14,8 @@ use Rattle.wincode_io.specs.PlaceLaws.{kept_trans, known_kept}
 
 module _ {V : Type 0} (reads : List ℕ → V → Type 0) where
   -- an item and then the others
-  item_and_items : (i : ℕ) (old mid new : ReaderState) (v : V) (vs : List V) → Gives reads old mid v → Gives (AreItems i reads) mid new vs → Gives (AreItems (suc i) reads) old new (v ∷ vs)
+  item_and_items : (i : ℕ) (old mid new : ReaderState) (v : V) (vs : List V) → Gives reads old mid v → Gives (AreItems i reads) mid new vs
+      → Gives (AreItems (suc i) reads) old new (v ∷ vs)
   item_and_items i old mid new v vs g h = record {
     kept = kept_trans g.kept h.kept;
     found = λ t. let f = g.found t in let k = h.found (known_kept g.kept t) in record {
@@ -42,6 +43,7 @@ module _ {V S D Name : Type 0} (g : ReadGrammar V) (model : D → V) (state : S 
       let got = read_all s f.items f.at f.run in
       let u = f.stop.1 in (
         f.stop.0 ∙ got.0,
-        items_refused_by g.reads one (length f.items) n g.borrow g.takes_no_memory g.takes_no_memory (λ h. h) f.fewer (state s) (state f.at) (state t) (map model f.items) e got.1 u.0,
+        items_refused_by g.reads one (length f.items) n g.borrow g.takes_no_memory g.takes_no_memory (λ h. h) f.fewer (state s) (state f.at) (state t)
+            (map model f.items) e got.1 u.0,
         item_stopped n g (length f.items) (state s) (state f.at) (state t) (map model f.items) e f.fewer got.1 u,
       )

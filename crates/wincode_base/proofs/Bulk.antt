@@ -1,5 +1,29 @@
 -- Many numbers of one byte read or written at once.
-use Rattle.std.proofs.Common.{◌≡◌, ◌∙◌, sym, ap, subst, ℕ, ◌*◌, ◌<◌, ◌≤◌, ◌^◌, true, false, List, [], ◌∷◌, ◌++◌, length, length-take, map, take, suc, refl, arith}
+use Rattle.std.proofs.Common.{
+  ◌≡◌,
+  ◌∙◌,
+  sym,
+  ap,
+  subst,
+  ℕ,
+  ◌*◌,
+  ◌<◌,
+  ◌≤◌,
+  ◌^◌,
+  true,
+  false,
+  List,
+  [],
+  ◌∷◌,
+  ◌++◌,
+  length,
+  length-take,
+  map,
+  take,
+  suc,
+  refl,
+  arith,
+}
 use Rattle.std.proofs.lemmas.List.Elements.{All-head, All-tail}
 use Rattle.std.specs.Prelude.{Result, Ok, Err, is_ok, OnOk}
 use Rattle.wincode_io.specs.Bytes.{IsBytes}
@@ -31,7 +55,8 @@ went_well (Err x) e q = absurd (cc)
 -- ---- reading
 
 -- bytes that were shown, and then consumed
-pub shown_takes : (n : ℕ) (old mid new : ReaderState) (bytes : List ℕ) → length bytes ≡ n → IsShown n old bytes → Stays old mid → Loses n mid new → Takes n old new bytes
+pub shown_takes : (n : ℕ) (old mid new : ReaderState) (bytes : List ℕ) → length bytes ≡ n → IsShown n old bytes → Stays old mid → Loses n mid new
+    → Takes n old new bytes
 shown_takes n old mid new bytes size shown stays loses = record {
   loses = record {
     kept = kept_trans stays.kept loses.kept;
@@ -44,8 +69,14 @@ shown_takes n old mid new bytes size shown stays loses = record {
 }
 
 -- memory was refused before anything was taken
-pub wanted_refuses : {V : Type 0} (reads : List ℕ → V → Type 0) (borrow : ℕ) (old new : ReaderState) → Stays old new → ReadRefused reads borrow false old new reading.OutOfMemory
-wanted_refuses reads borrow old new s = record { kept = s.kept; left = λ t. record { front = []; joins = sym (s.rest t) }; place = stays_onward old new s; due = none_spared new.never_fails }
+pub wanted_refuses : {V : Type 0} (reads : List ℕ → V → Type 0) (borrow : ℕ) (old new : ReaderState) → Stays old new
+    → ReadRefused reads borrow false old new reading.OutOfMemory
+wanted_refuses reads borrow old new s = record {
+  kept = s.kept;
+  left = λ t. record { front = []; joins = sym (s.rest t) };
+  place = stays_onward old new s;
+  due = none_spared new.never_fails;
+}
 
 byte_encoding : (v : ℕ) → v < 256 → le 1 v ≡ v ∷ []
 unfolding le
@@ -69,26 +100,31 @@ pub mapped : {X : Type 0} (xs : List X) → map (λ v. v) xs ≡ xs
 mapped [] = refl
 mapped (x ∷ xs) = ap (λ ys. x ∷ ys) (mapped xs)
 
-pub bytes_added : (n : ℕ) (old mid new : ReaderState) (bytes before after : List ℕ) → AreSmall bytes → length bytes ≡ n → IsShown n old bytes → Stays old mid → Loses n mid new
+pub bytes_added : (n : ℕ) (old mid new : ReaderState) (bytes before after : List ℕ) → AreSmall bytes → length bytes ≡ n → IsShown n old bytes → Stays old mid
+    → Loses n mid new
     → after ≡ before ++ bytes → Adds n (number_read 1 true).reads (λ v. v) old new before after
 bytes_added n old mid new bytes before after small size shown stays loses e = record {
   items = bytes;
   is = e;
   gives = subst (Gives (AreItems n (number_read 1 true).reads) old new) (sym (mapped bytes))
-      (takes_gives (AreItems n (number_read 1 true).reads) n old new bytes bytes (shown_takes n old mid new bytes size shown stays loses) (size, bytes_read bytes (are_bytes bytes small)));
+      (takes_gives (AreItems n (number_read 1 true).reads) n old new bytes bytes (shown_takes n old mid new bytes size shown stays loses)
+      (size, bytes_read bytes (are_bytes bytes small)));
 }
 
-pub bytes_refused : (n : ℕ) (old new : ReaderState) (e : IoReadError) → Stays old new → ReadRefusedFor (IsShort n old) ⊥ n new e → ReadRefused (AreItems n (number_read 1 true).reads) 0 false old new (reading.Io e)
+pub bytes_refused : (n : ℕ) (old new : ReaderState) (e : IoReadError) → Stays old new → ReadRefusedFor (IsShort n old) ⊥ n new e
+    → ReadRefused (AreItems n (number_read 1 true).reads) 0 false old new (reading.Io e)
 bytes_refused n old new e s d = denied_refuses (AreItems n (number_read 1 true).reads) n (bytes_sized n) 0 false old new (reading.Io e) (s, d)
 
 -- at once they were refused by the reader
-pub bytes_denied : (n : ℕ) (old new : ReaderState) (e : IoReadError) → Stays old new → ReadRefusedFor (IsShort n old) ⊥ n new e → BulkReadRefused (n * 1) old new (reading.Io e)
+pub bytes_denied : (n : ℕ) (old new : ReaderState) (e : IoReadError) → Stays old new → ReadRefusedFor (IsShort n old) ⊥ n new e
+    → BulkReadRefused (n * 1) old new (reading.Io e)
 bytes_denied n old new e s d =
     let one : n ≡ n * 1 = omega arith in
     subst (λ k. BulkReadRefused k old new (reading.Io e)) one (s, d)
 
 -- at once they are there, and memory for them was refused
-pub bytes_wanted : (n : ℕ) (old new : ReaderState) (bytes : List ℕ) → Stays old new → length bytes ≡ n → IsShown n old bytes → BulkReadRefused (n * 1) old new reading.OutOfMemory
+pub bytes_wanted : (n : ℕ) (old new : ReaderState) (bytes : List ℕ) → Stays old new → length bytes ≡ n → IsShown n old bytes
+    → BulkReadRefused (n * 1) old new reading.OutOfMemory
 bytes_wanted n old new bytes s size shown = (s, λ known. omega (arith, size, ap length (shown.1 known), length-take n old.rest))
 
 -- ---- writing
@@ -122,12 +158,15 @@ bytes_encoded vs small =
 
 module _ {S K : Type 0} {put : S → List ℕ → S} {room : S → ℕ} {old new : WriterState put room K} (vs : List ℕ) (small : AreSmall vs) where
   pub bytes_wrote : Added vs old new → Wrote bytes_write old new (map (λ v. v) vs)
-  bytes_wrote a = subst (Wrote bytes_write old new) (sym (mapped vs)) (encoding_wrote bytes_write vs vs (bytes_written vs (are_bytes vs small)) (ones vs) old new (each_can vs) a)
+  bytes_wrote a = subst (Wrote bytes_write old new) (sym (mapped vs))
+      (encoding_wrote bytes_write vs vs (bytes_written vs (are_bytes vs small)) (ones vs) old new (each_can vs) a)
 
-  pub bytes_unwritten : WriterLaws put room → (e : IoWriteError) → BytesWriteRefused (length vs) old new e → WriteRefused bytes_write old new (map (λ v. v) vs) (writing.Io e)
+  pub bytes_unwritten : WriterLaws put room → (e : IoWriteError) → BytesWriteRefused (length vs) old new e
+      → WriteRefused bytes_write old new (map (λ v. v) vs) (writing.Io e)
   bytes_unwritten laws e d =
       let P : List ℕ → Type 0 = λ ws. WriteRefused bytes_write old new ws (writing.Io e) in
       subst P (sym (mapped vs)) (encoding_unwritten bytes_write vs vs (bytes_written vs (are_bytes vs small)) (ones vs) laws old new e d)
 
-  pub bytes_halted : WriterLaws put room → (e : IoWriteError) → BytesWriteRefused (length vs) old new e → Stopped bytes_write old new (map (λ v. v) vs) (writing.Io e)
+  pub bytes_halted : WriterLaws put room → (e : IoWriteError) → BytesWriteRefused (length vs) old new e
+      → Stopped bytes_write old new (map (λ v. v) vs) (writing.Io e)
   bytes_halted laws e d = nothing_stopped laws old new (writing.Io e) d.0.content (λ dynamic. absurd (cc dynamic))

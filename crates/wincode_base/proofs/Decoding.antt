@@ -1,5 +1,29 @@
 -- Values that are decoded from bytes, one after another.
-use Rattle.std.proofs.Common.{◌≡◌, ◌∙◌, sym, ap, subst, refl, ℕ, ◌+◌, ◌<◌, List, [], ◌∷◌, ◌++◌, length, map, take, drop, slice_set, append_assoc, append-nil, length-append, take-append-drop, arith}
+use Rattle.std.proofs.Common.{
+  ◌≡◌,
+  ◌∙◌,
+  sym,
+  ap,
+  subst,
+  refl,
+  ℕ,
+  ◌+◌,
+  ◌<◌,
+  List,
+  [],
+  ◌∷◌,
+  ◌++◌,
+  length,
+  map,
+  take,
+  drop,
+  slice_set,
+  append_assoc,
+  append-nil,
+  length-append,
+  take-append-drop,
+  arith,
+}
 use Rattle.std.proofs.lemmas.List.{map-append, take_more_set, take_all}
 use Rattle.std.proofs.Math.Seq.{set-append_seam}
 use Rattle.wincode_io.specs.Joins.{Joined, AreItems}
@@ -15,15 +39,24 @@ module _ {V : Type 0} (reads : List ℕ → V → Type 0) where
   read_none : (bytes : List ℕ) → ReadSoFar reads bytes bytes 0 []
   read_none bytes = record { front = []; are = (refl, refl); joins = refl }
 
-  read_more : (bytes rest : List ℕ) (i size : ℕ) (vs : List V) (v : V) (next left : List ℕ) → ReadSoFar reads bytes rest i vs → next ≡ take size rest → left ≡ drop size rest → reads next v → ReadSoFar reads bytes left (i + 1) (vs ++ (v ∷ []))
+  read_more : (bytes rest : List ℕ) (i size : ℕ) (vs : List V) (v : V) (next left : List ℕ) → ReadSoFar reads bytes rest i vs → next ≡ take size rest → left
+      ≡ drop size rest → reads next v → ReadSoFar reads bytes left (i + 1) (vs ++ (v ∷ []))
   read_more bytes rest i size vs v next left so is_next is_left r = record {
     front = so.front ++ next;
-    are = (length-append vs (v ∷ []) ∙ ap (λ k. k + 1) so.are.0, joined_append (λ w x. reads x w) vs (v ∷ []) so.front next so.are.1 (next, [], r, refl, sym (append-nil next)));
-    joins = so.joins ∙ ap (λ t. so.front ++ t) (sym (ap (λ t. t ++ left) is_next ∙ ap (λ t. take size rest ++ t) is_left ∙ take-append-drop size rest)) ∙ sym (append_assoc so.front next left);
+    are = (
+      length-append vs (v ∷ []) ∙ ap (λ k. k + 1) so.are.0,
+      joined_append (λ w x. reads x w) vs (v ∷ []) so.front next so.are.1 (next, [], r, refl, sym (append-nil next)),
+    );
+    joins = so.joins ∙ ap (λ t. so.front ++ t) (sym (ap (λ t. t ++ left) is_next ∙ ap (λ t. take size rest ++ t) is_left ∙ take-append-drop size rest))
+        ∙ sym (append_assoc so.front next left);
   }
 
   read_all_of : (bytes rest : List ℕ) (i n : ℕ) (vs : List V) → ReadSoFar reads bytes rest i vs → i ≡ n → length rest ≡ 0 → AreItems n reads bytes vs
-  read_all_of bytes rest i n vs so e none = (so.are.0 ∙ e, subst (Joined (λ w x. reads x w) vs) (sym (so.joins ∙ ap (λ t. so.front ++ t) (nothing rest none) ∙ append-nil so.front)) so.are.1) where
+  read_all_of bytes rest i n vs so e none = (
+    so.are.0 ∙ e,
+    subst (Joined (λ w x. reads x w) vs)
+        (sym (so.joins ∙ ap (λ t. so.front ++ t) (nothing rest none) ∙ append-nil so.front)) so.are.1,
+  ) where
     nothing : (t : List ℕ) → length t ≡ 0 → t ≡ []
     nothing [] z = refl
     nothing (x ∷ t) z = absurd (omega (arith, z))
@@ -42,13 +75,19 @@ module _ {D V : Type 0} (reads : List ℕ → V → Type 0) (model : D → V) wh
   pub decoded_none : (bytes : List ℕ) (places : List D) → DecodedSoFar reads model bytes bytes 0 places
   decoded_none bytes places = record { so_far = read_none reads bytes }
 
-  pub decoded_more : (bytes rest : List ℕ) (i size : ℕ) (places : List D) (d : D) (next left : List ℕ) → DecodedSoFar reads model bytes rest i places → i < length places → next ≡ take size rest → left ≡ drop size rest → reads next (model d)
+  pub decoded_more : (bytes rest : List ℕ) (i size : ℕ) (places : List D) (d : D) (next left : List ℕ) → DecodedSoFar reads model bytes rest i places → i
+      < length places → next ≡ take size rest → left ≡ drop size rest → reads next (model d)
       → DecodedSoFar reads model bytes left (i + 1) (slice_set places i d)
   decoded_more bytes rest i size places d next left so l is_next is_left r =
-      let e : map model (take (i + 1) (slice_set places i d)) ≡ map model (take i places) ++ (model d ∷ []) = ap (map model) (take_more_set places i d l) ∙ map-append model (take i places) (d ∷ []) in
-      record { so_far = subst (ReadSoFar reads bytes left (i + 1)) (sym e) (read_more reads bytes rest i size (map model (take i places)) (model d) next left so.so_far is_next is_left r) }
+      let e : map model (take (i + 1) (slice_set places i d)) ≡ map model (take i places) ++ (model d ∷ []) =
+      ap (map model) (take_more_set places i d l) ∙ map-append model (take i places) (d ∷ []) in
+      record {
+        so_far = subst (ReadSoFar reads bytes left (i + 1)) (sym e)
+            (read_more reads bytes rest i size (map model (take i places)) (model d) next left so.so_far is_next is_left r);
+      }
 
-  pub decoded_all : (bytes rest : List ℕ) (i n : ℕ) (places : List D) → DecodedSoFar reads model bytes rest i places → i ≡ n → length places ≡ n → length rest ≡ 0 → AreItems n reads bytes (map model places)
+  pub decoded_all : (bytes rest : List ℕ) (i n : ℕ) (places : List D) → DecodedSoFar reads model bytes rest i places → i ≡ n → length places ≡ n → length rest
+      ≡ 0 → AreItems n reads bytes (map model places)
   decoded_all bytes rest i n places so e size none =
       let all : take i places ≡ places = ap (λ k. take k places) e ∙ take_all n places (omega (arith, size)) in
       subst (λ ds. AreItems n reads bytes (map model ds)) all (read_all_of reads bytes rest i n (map model (take i places)) so.so_far e none)
@@ -57,17 +96,21 @@ module _ {D V : Type 0} (reads : List ℕ → V → Type 0) (model : D → V) wh
   added_none bytes before = record { items = []; is = sym (append-nil before); so_far = read_none reads bytes }
 
   -- a value was put over one that was added before
-  pub put_last : (before so after : List D) (items : List D) (blank d : D) → so ≡ before ++ items → after ≡ so ++ (blank ∷ []) → slice_set after (length so) d ≡ before ++ (items ++ (d ∷ []))
+  pub put_last : (before so after : List D) (items : List D) (blank d : D) → so ≡ before ++ items → after ≡ so ++ (blank ∷ []) → slice_set after (length so) d
+      ≡ before ++ (items ++ (d ∷ []))
   put_last before so after items blank d e pushed =
       ap (λ t. slice_set t (length so) d) pushed ∙ set-append_seam so blank [] d ∙ ap (λ t. t ++ (d ∷ [])) e ∙ append_assoc before items (d ∷ [])
 
-  pub added_more : (bytes rest : List ℕ) (i size : ℕ) (before so after : List D) (blank d : D) (next left : List ℕ) → AddedSoFar reads model bytes rest i before so → after ≡ so ++ (blank ∷ []) → next ≡ take size rest → left ≡ drop size rest → reads next (model d)
+  pub added_more : (bytes rest : List ℕ) (i size : ℕ) (before so after : List D) (blank d : D) (next left : List ℕ)
+      → AddedSoFar reads model bytes rest i before so → after ≡ so ++ (blank ∷ []) → next ≡ take size rest → left ≡ drop size rest → reads next (model d)
       → AddedSoFar reads model bytes left (i + 1) before (slice_set after (length so) d)
   added_more bytes rest i size before so after blank d next left a pushed is_next is_left r = record {
     items = a.items ++ (d ∷ []);
     is = put_last before so after a.items blank d a.is pushed;
-    so_far = subst (ReadSoFar reads bytes left (i + 1)) (sym (map-append model a.items (d ∷ []))) (read_more reads bytes rest i size (map model a.items) (model d) next left a.so_far is_next is_left r);
+    so_far = subst (ReadSoFar reads bytes left (i + 1)) (sym (map-append model a.items (d ∷ [])))
+        (read_more reads bytes rest i size (map model a.items) (model d) next left a.so_far is_next is_left r);
   }
 
-  pub added_all : (bytes rest : List ℕ) (i n : ℕ) (before after : List D) (a : AddedSoFar reads model bytes rest i before after) → i ≡ n → length rest ≡ 0 → AreItems n reads bytes (map model a.items)
+  pub added_all : (bytes rest : List ℕ) (i n : ℕ) (before after : List D) (a : AddedSoFar reads model bytes rest i before after) → i ≡ n → length rest ≡ 0
+      → AreItems n reads bytes (map model a.items)
   added_all bytes rest i n before after a e none = read_all_of reads bytes rest i n (map model a.items) a.so_far e none

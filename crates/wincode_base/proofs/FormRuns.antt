@@ -1,5 +1,32 @@
 -- Many forms read or written at once.
-use Rattle.std.proofs.Common.{◌≡◌, ◌⊎◌, ◌∙◌, sym, ap, subst, ℕ, ◌*◌, ◌<◌, ◌≤◌, ◌^◌, Bool, false, List, [], ◌∷◌, ◌++◌, length, map, min, refl, inl, inr, arith, append-nil, length-append}
+use Rattle.std.proofs.Common.{
+  ◌≡◌,
+  ◌⊎◌,
+  ◌∙◌,
+  sym,
+  ap,
+  subst,
+  ℕ,
+  ◌*◌,
+  ◌<◌,
+  ◌≤◌,
+  ◌^◌,
+  Bool,
+  false,
+  List,
+  [],
+  ◌∷◌,
+  ◌++◌,
+  length,
+  map,
+  min,
+  refl,
+  inl,
+  inr,
+  arith,
+  append-nil,
+  length-append,
+}
 use Rattle.std.proofs.lemmas.Bool.{cases_lt}
 use Rattle.std.proofs.lemmas.List.Elements.{All-head, All-tail}
 use Rattle.std.specs.List.{All, flat_map}
@@ -52,7 +79,8 @@ module _ {X : Type 0} {is_valid : X → Type 0} {s : ℕ} {form : X → List ℕ
         let here : length j.0 ≡ s = ap length j.2.1 ∙ law.long v j.2.0 in
         ap length j.4 ∙ length-append j.0 j.1 ∙ omega (arith, here, sized vs j.1 j.3)
 
-  pub forms_added : (n : ℕ) (old mid new : ReaderState) (bytes : List ℕ) (before after : List X) → IsBytes bytes → length bytes ≡ n * s → IsShown (n * s) old bytes → Stays old mid → Loses (n * s) mid new
+  pub forms_added : (n : ℕ) (old mid new : ReaderState) (bytes : List ℕ) (before after : List X) → IsBytes bytes → length bytes ≡ n * s
+      → IsShown (n * s) old bytes → Stays old mid → Loses (n * s) mid new
       → after ≡ before ++ values value s n bytes → Adds n reads (λ v. v) old new before after
   forms_added n old mid new bytes before after all size shown stays loses e = let vs = values value s n bytes in record {
     items = vs;
@@ -61,7 +89,8 @@ module _ {X : Type 0} {is_valid : X → Type 0} {s : ℕ} {form : X → List ℕ
         (takes_gives (AreItems n reads) (n * s) old new bytes vs (shown_takes (n * s) old mid new bytes size shown stays loses) (forms_read n bytes all size));
   }
 
-  pub forms_refused : (n : ℕ) (old new : ReaderState) (e : IoReadError) → Stays old new → ReadRefusedFor (IsShort (n * s) old) ⊥ (n * s) new e → ReadRefused (AreItems n reads) 0 false old new (reading.Io e)
+  pub forms_refused : (n : ℕ) (old new : ReaderState) (e : IoReadError) → Stays old new → ReadRefusedFor (IsShort (n * s) old) ⊥ (n * s) new e
+      → ReadRefused (AreItems n reads) 0 false old new (reading.Io e)
   forms_refused n old new e stays d = denied_refuses (AreItems n reads) (n * s) (forms_sized n) 0 false old new (reading.Io e) (stays, d)
 
   pub forms_vast : (n : ℕ) (old : ReaderState) (t : _) → byte_limit < n * s → ReadRefused (AreItems n reads) 0 false old old (reading.LengthEncodingOverflow t)
@@ -69,7 +98,14 @@ module _ {X : Type 0} {is_valid : X → Type 0} {s : ℕ} {form : X → List ℕ
     kept = record { lends = refl; never_fails = refl; counts_windows = refl; is_known = refl };
     left = λ told. record { front = []; joins = refl };
     place = λ told. still old;
-    due = λ a. let f = a.front.found in absurd (omega (arith, vast, a.fits, forms_sized n f.encoding a.front.value f.is_read, ap length f.joins, length-append f.encoding a.front.rest));
+    due = λ a. let f = a.front.found in absurd (omega (
+      arith,
+      vast,
+      a.fits,
+      forms_sized n f.encoding a.front.value f.is_read,
+      ap length f.joins,
+      length-append f.encoding a.front.rest,
+    ));
   }
 
   -- none were asked for
@@ -81,12 +117,20 @@ module _ {X : Type 0} {is_valid : X → Type 0} {s : ℕ} {form : X → List ℕ
   }
 
   -- the same, of the first of them
-  pub form_vast : (borrow : ℕ) (takes_no_memory : Bool) (old : ReaderState) (t : _) → byte_limit < s → ReadRefused reads borrow takes_no_memory old old (reading.LengthEncodingOverflow t)
+  pub form_vast : (borrow : ℕ) (takes_no_memory : Bool) (old : ReaderState) (t : _) → byte_limit < s
+      → ReadRefused reads borrow takes_no_memory old old (reading.LengthEncodingOverflow t)
   form_vast borrow takes_no_memory old t vast = record {
     kept = record { lends = refl; never_fails = refl; counts_windows = refl; is_known = refl };
     left = λ told. record { front = []; joins = refl };
     place = λ told. still old;
-    due = λ a. let f = a.front.found in absurd (omega (arith, vast, a.fits, ap length f.is_read.1 ∙ law.long a.front.value f.is_read.0, ap length f.joins, length-append f.encoding a.front.rest));
+    due = λ a. let f = a.front.found in absurd (omega (
+      arith,
+      vast,
+      a.fits,
+      ap length f.is_read.1 ∙ law.long a.front.value f.is_read.0,
+      ap length f.joins,
+      length-append f.encoding a.front.rest,
+    ));
   }
 
 -- ---- writing
@@ -106,7 +150,8 @@ pub record WritesForms {X V : Type 0} (is_valid : X → Type 0) (s : ℕ) (form 
 pub form_writes : {X : Type 0} (is_valid : X → Type 0) (s : ℕ) (form : X → List ℕ) → WritesForms is_valid s form (λ v. v) (writes_form s form)
 form_writes is_valid s form = record { can = λ v. tt; size = λ v. refl; has_encoding = λ v. (form v, refl); is_encoding = λ v p. refl }
 
-pub pod_writes : {X : Type 0} {is_valid : X → Type 0} {s : ℕ} {form : X → List ℕ} {value : List ℕ → X} → IsByteForm is_valid s form value → (any : Bool) (prealloc : ℕ) → WritesForms is_valid s form (λ v. v) (form_write is_valid s form any prealloc)
+pub pod_writes : {X : Type 0} {is_valid : X → Type 0} {s : ℕ} {form : X → List ℕ} {value : List ℕ → X} → IsByteForm is_valid s form value
+    → (any : Bool) (prealloc : ℕ) → WritesForms is_valid s form (λ v. v) (form_write is_valid s form any prealloc)
 pod_writes law any prealloc = record {
   can = λ v. tt;
   size = λ v. refl;
@@ -118,7 +163,8 @@ pod_writes law any prealloc = record {
 abbrev pub AtOnce : ℕ → ℕ → IoWriteError → Type 0
 AtOnce n room e = ((n ≤ byte_limit) × PieceWriteRefused n room [] (writing.Io e)) ⊎ ((byte_limit < n) × (e ≡ writer.WriteSizeLimit byte_limit))
 
-module _ {X V : Type 0} {is_valid : X → Type 0} {s : ℕ} {form : X → List ℕ} {model : X → V} {g : WriteGrammar V} (f : WritesForms is_valid s form model g) (vs : List X) where
+module _ {X V : Type 0} {is_valid : X → Type 0} {s : ℕ} {form : X → List ℕ} {model : X → V} {g : WriteGrammar V} (f : WritesForms is_valid s form model g)
+    (vs : List X) where
   each_can : (xs : List X) → Each g.can (map model xs)
   each_can [] = tt
   each_can (x ∷ xs) = (f.can x, each_can xs)
@@ -136,7 +182,8 @@ module _ {X V : Type 0} {is_valid : X → Type 0} {s : ℕ} {form : X → List �
   sizes (x ∷ xs) = omega (arith, f.size x, sizes xs)
 
   module _ {S K : Type 0} {put : S → List ℕ → S} {room : S → ℕ} (old new : WriterState put room K) where
-    pub forms_wrote : {value : List ℕ → X} → IsByteForm is_valid s form value → All is_valid vs → Added (flat_map form vs) old new → Wrote (items_write g) old new (map model vs)
+    pub forms_wrote : {value : List ℕ → X} → IsByteForm is_valid s form value → All is_valid vs → Added (flat_map form vs) old new
+        → Wrote (items_write g) old new (map model vs)
     forms_wrote law all a =
         let long = length-joined form s vs (λ k d h. law.long _ (all k d h)) in
         encoding_wrote (items_write g) (map model vs) (flat_map form vs) (are_encodings vs all) (long ∙ sym (sizes vs)) old new (each_can vs) a
@@ -150,15 +197,24 @@ module _ {X V : Type 0} {is_valid : X → Type 0} {s : ℕ} {form : X → List �
     due writer.OutOfMemory d = d
 
     -- nothing was written
-    none : WriterLaws put room → IsUnmoved old new → (e : IoWriteError) → WriterDue Able new e → WriteRefused (items_write g) old new (map model vs) (writing.Io e)
+    none : WriterLaws put room → IsUnmoved old new → (e : IoWriteError) → WriterDue Able new e
+        → WriteRefused (items_write g) old new (map model vs) (writing.Io e)
     none laws unmoved e d = let encoding = has_encoding vs in record {
       same = unmoved.same;
-      began = λ c. record { front = []; more = encoding.0; is_encoding = encoding.1; within = omega arith; added = unmoved.content ∙ sym (laws.nil old.content) };
+      began = λ c. record {
+        front = [];
+        more = encoding.0;
+        is_encoding = encoding.1;
+        within = omega arith;
+        added =
+            unmoved.content ∙ sym (laws.nil old.content);
+      };
       due = d;
     }
 
     pub forms_unwritten : WriterLaws put room → (e : IoWriteError) → (length vs * s ≤ byte_limit → BytesWriteRefused (length vs * s) old new e)
-        → (byte_limit < length vs * s → (e ≡ writer.WriteSizeLimit byte_limit) × IsUnmoved old new) → WriteRefused (items_write g) old new (map model vs) (writing.Io e)
+        → (byte_limit < length vs * s → (e ≡ writer.WriteSizeLimit byte_limit) × IsUnmoved old new)
+        → WriteRefused (items_write g) old new (map model vs) (writing.Io e)
     forms_unwritten laws e refused vast = elim (cases_lt byte_limit (length vs * s)) [
       | inl over ↦
           let v = vast over in
@@ -170,14 +226,17 @@ module _ {X V : Type 0} {is_valid : X → Type 0} {s : ℕ} {form : X → List �
     -- at once they were refused: nothing was added, by a piece of all their bytes, or by one past `usize::MAX`
     pub forms_halted : WriterLaws put room → (e : IoWriteError) → (length vs * s ≤ byte_limit → BytesWriteRefused (length vs * s) old new e)
         → (byte_limit < length vs * s → (e ≡ writer.WriteSizeLimit byte_limit) × IsUnmoved old new)
-        → (AtOnce (length vs * s) (room old.content) e → ItemsWriteRefused g (map model vs) (room old.content) [] (writing.Io e)) → Stopped (items_write g) old new (map model vs) (writing.Io e)
+        → (AtOnce (length vs * s) (room old.content) e → ItemsWriteRefused g (map model vs) (room old.content) [] (writing.Io e))
+        → Stopped (items_write g) old new (map model vs) (writing.Io e)
     forms_halted laws e refused vast so = elim (cases_lt byte_limit (length vs * s)) [
       | inl over ↦ let v = vast over in nothing_stopped laws old new (writing.Io e) v.1.content (so (inr (over, v.0)))
-      | inr within ↦ let r = refused within in nothing_stopped laws old new (writing.Io e) r.0.content (so (inl (within, piece_denied (length vs * s) old new e r)))
+      | inr within ↦ let r = refused within in nothing_stopped laws old new (writing.Io e) r.0.content
+          (so (inl (within, piece_denied (length vs * s) old new e r)))
     ]
 
 -- of many forms at once that are announced as no size the first was refused
-pub pods_refused : {X : Type 0} (is_valid : X → Type 0) (s : ℕ) (form : X → List ℕ) (any : Bool) (prealloc : ℕ) (vs : List X) (room : ℕ) (e : IoWriteError) → 0 < length vs → AtOnce (length vs * s) room e
+pub pods_refused : {X : Type 0} (is_valid : X → Type 0) (s : ℕ) (form : X → List ℕ) (any : Bool) (prealloc : ℕ) (vs : List X) (room : ℕ) (e : IoWriteError) → 0
+    < length vs → AtOnce (length vs * s) room e
     → ItemsWriteRefused (form_write is_valid s form any prealloc) (map (λ v. v) vs) room [] (writing.Io e)
 pods_refused is_valid s form any prealloc [] room e some d = absurd (omega (arith, some))
 pods_refused is_valid s form any prealloc (v ∷ vs) room e some (inl d) = λ dynamic. let over = vast_form s any dynamic in absurd (omega (arith, over, d.0))
@@ -194,7 +253,8 @@ pods_refused is_valid s form any prealloc (v ∷ vs) room e some (inr d) = λ dy
 }
 
 -- of so many bytes at once the writer refused all, and holds what it held
-pub at_once : {S K : Type 0} {put : S → List ℕ → S} {room : S → ℕ} (n : ℕ) (old new : WriterState put room K) (e : IoWriteError) → (n ≤ byte_limit → BytesWriteRefused n old new e)
+pub at_once : {S K : Type 0} {put : S → List ℕ → S} {room : S → ℕ} (n : ℕ) (old new : WriterState put room K) (e : IoWriteError)
+    → (n ≤ byte_limit → BytesWriteRefused n old new e)
     → (byte_limit < n → (e ≡ writer.WriteSizeLimit byte_limit) × IsUnmoved old new) → FormWriteRefused n old new e
 at_once {S} {K} {put = put} {room = room} n old new e refused vast = elim (cases_lt byte_limit n) [
   | inl over ↦
@@ -207,13 +267,15 @@ at_once {S} {K} {put = put} {room = room} n old new e refused vast = elim (cases
       let least : n ≡ min n byte_limit = omega arith in
       (r.0, by new e least r.1)
 ] where
-  by : (new : WriterState put room K) (e : IoWriteError) → n ≡ min n byte_limit → WriteRefusedFor (room old.content < n) n new e → WriteRefusedFor (room old.content ≤ byte_limit → room old.content < n) (min n byte_limit) new e
+  by : (new : WriterState put room K) (e : IoWriteError) → n ≡ min n byte_limit → WriteRefusedFor (room old.content < n) n new e
+      → WriteRefusedFor (room old.content ≤ byte_limit → room old.content < n) (min n byte_limit) new e
   by new (writer.WriteSizeLimit m) least d = ((λ few. d.0), d.1 ∙ least)
   by new (writer.Io x) least d = d
   by new writer.OutOfMemory least d = d
 
 -- so, of n values of a byte each
-pub bytes_at_once : {S K : Type 0} {put : S → List ℕ → S} {room : S → ℕ} (n : ℕ) (old new : WriterState put room K) (e : IoWriteError) → n < 2 ^ 64 → BytesWriteRefused n old new e → FormWriteRefused (n * 1) old new e
+pub bytes_at_once : {S K : Type 0} {put : S → List ℕ → S} {room : S → ℕ} (n : ℕ) (old new : WriterState put room K) (e : IoWriteError) → n < 2 ^ 64
+    → BytesWriteRefused n old new e → FormWriteRefused (n * 1) old new e
 bytes_at_once n old new e few d =
     let one : n ≡ n * 1 = omega arith in
     at_once (n * 1) old new e (λ l. subst (λ k. BytesWriteRefused k old new e) one d) (λ l. absurd (omega (arith, few, l)))

@@ -1,5 +1,29 @@
 -- What is read from, or written to, a window of the right size is read from, or written to, what is below.
-use Rattle.std.proofs.Common.{◌≡◌, ◌∙◌, sym, subst, ℕ, ◌<◌, ◌&&◌, not, Bool, true, false, List, [], ◌++◌, length, refl, arith, append-nil, IsTrue, inl, inr, ◌-◌, ap}
+use Rattle.std.proofs.Common.{
+  ◌≡◌,
+  ◌∙◌,
+  sym,
+  subst,
+  ℕ,
+  ◌<◌,
+  ◌&&◌,
+  not,
+  Bool,
+  true,
+  false,
+  List,
+  [],
+  ◌++◌,
+  length,
+  refl,
+  arith,
+  append-nil,
+  IsTrue,
+  inl,
+  inr,
+  ◌-◌,
+  ap,
+}
 use Rattle.wincode_io.specs.Readers.{ReaderState, Windowed, is_steady}
 use Rattle.wincode_io.specs.PlaceLaws.{loses_onward}
 use Rattle.wincode_io.specs.Writers.{WriterState, WriterLaws, BytesWriteRefused}
@@ -31,16 +55,21 @@ no_memory_alone a b false e h = elim b as (λ c. (c && false) ≡ false) [ true 
 no_memory_alone true b true e h = absurd (cc)
 no_memory_alone false b true e h = absurd (cc)
 
-unsteady_inside : (inner outer : ReaderState) → inner.never_fails ≡ true → inner.counts_windows ≡ outer.counts_windows → is_steady inner ≡ false → is_steady outer ≡ false
-unsteady_inside inner outer s c d = subst (λ k. (outer.never_fails && not k) ≡ false) c (no_memory_alone inner.never_fails outer.never_fails (not inner.counts_windows) s d)
+unsteady_inside : (inner outer : ReaderState) → inner.never_fails ≡ true → inner.counts_windows ≡ outer.counts_windows → is_steady inner ≡ false
+    → is_steady outer ≡ false
+unsteady_inside inner outer s c d = subst (λ k. (outer.never_fails && not k) ≡ false) c
+    (no_memory_alone inner.never_fails outer.never_fails (not inner.counts_windows) s d)
 
-reader_due_inside : (f f' : Type 0) (borrow : ℕ) (inner outer : ReaderState) → (f' → f) → inner.lends ≡ outer.lends → inner.never_fails ≡ true → inner.counts_windows ≡ outer.counts_windows → (e : IoReadError) → ReaderDue f borrow inner e → ReaderDue f' borrow outer e
+reader_due_inside : (f f' : Type 0) (borrow : ℕ) (inner outer : ReaderState) → (f' → f) → inner.lends ≡ outer.lends → inner.never_fails ≡ true
+    → inner.counts_windows ≡ outer.counts_windows → (e : IoReadError) → ReaderDue f borrow inner e → ReaderDue f' borrow outer e
 reader_due_inside f f' borrow inner outer m l s c (reader.ReadSizeLimit n) d = λ x. d (m x)
 reader_due_inside f f' borrow inner outer m l s c reader.UnsupportedZeroCopy d = λ x. let h : inner.lends < borrow = d (m x) in omega arith
 reader_due_inside f f' borrow inner outer m l s c reader.OutOfMemory d = unsteady_inside inner outer s c d
 reader_due_inside f f' borrow inner outer m l s c (reader.Io e) d = let h : true ≡ false = sym s ∙ d.0 in absurd (cc)
 
-due_inside : (f f' : Type 0) (borrow : ℕ) (takes_no_memory : Bool) (inner outer : ReaderState) → (f' → f) → inner.lends ≡ outer.lends → inner.never_fails ≡ true → inner.counts_windows ≡ outer.counts_windows → (e : ReadError) → ReadDue f borrow takes_no_memory inner e → ReadDue f' borrow takes_no_memory outer e
+due_inside : (f f' : Type 0) (borrow : ℕ) (takes_no_memory : Bool) (inner outer : ReaderState) → (f' → f) → inner.lends ≡ outer.lends → inner.never_fails
+    ≡ true → inner.counts_windows ≡ outer.counts_windows → (e : ReadError) → ReadDue f borrow takes_no_memory inner e
+    → ReadDue f' borrow takes_no_memory outer e
 due_inside f f' borrow takes_no_memory inner outer m l s c (reading.Io e) d = reader_due_inside f f' borrow inner outer m l s c e d
 due_inside f f' borrow takes_no_memory inner outer m l s c reading.OutOfMemory d = no_memory_alone inner.never_fails outer.never_fails takes_no_memory s d
 due_inside f f' borrow takes_no_memory inner outer m l s c _ d = λ x. d (m x)
@@ -57,7 +86,12 @@ module _ {V : Type 0} (reads : List ℕ → V → Type 0) (n : ℕ) (sized : (b 
       record {
         is_known = is_known_by window.is_known w.is_known;
         fits = omega (arith, w.takes.size, (w.takes.loses.rest a.is_known).0, a.fits);
-        front = record { value = a.front.value; rest = []; found = record { encoding = f.encoding; is_read = f.is_read; joins = same ∙ sym (append-nil f.encoding) } };
+        front = record {
+          value = a.front.value;
+          rest = [];
+          found =
+              record { encoding = f.encoding; is_read = f.is_read; joins = same ∙ sym (append-nil f.encoding) };
+        };
       }
 
   -- what was read of the window was read of the reader
@@ -73,17 +107,20 @@ module _ {V : Type 0} (reads : List ℕ → V → Type 0) (n : ℕ) (sized : (b 
     place = loses_onward n old new w.takes.loses;
   }
 
-  pub window_refuses : (borrow : ℕ) (takes_no_memory : Bool) (old new window after : ReaderState) (e : ReadError) → Windowed n old new window → ReadRefused reads borrow takes_no_memory window after e → ReadRefused reads borrow takes_no_memory old new e
+  pub window_refuses : (borrow : ℕ) (takes_no_memory : Bool) (old new window after : ReaderState) (e : ReadError) → Windowed n old new window
+      → ReadRefused reads borrow takes_no_memory window after e → ReadRefused reads borrow takes_no_memory old new e
   window_refuses borrow takes_no_memory old new window after e w r = record {
     kept = w.takes.loses.kept;
     left = λ t. record { front = window.rest; joins = takes_joins w.takes t };
     place = loses_onward n old new w.takes.loses;
     due = due_inside (Accepts reads window) (Accepts reads old) borrow takes_no_memory after new (narrow old new window w)
-        (r.kept.lends ∙ w.lends ∙ sym w.takes.loses.kept.lends) (r.kept.never_fails ∙ w.never_fails) (r.kept.counts_windows ∙ w.counts_windows ∙ sym w.takes.loses.kept.counts_windows) e r.due;
+        (r.kept.lends ∙ w.lends ∙ sym w.takes.loses.kept.lends) (r.kept.never_fails ∙ w.never_fails)
+        (r.kept.counts_windows ∙ w.counts_windows ∙ sym w.takes.loses.kept.counts_windows) e r.due;
   }
 
 -- what is known where a grammar has a size
-pub sized_of : {V : Type 0} (reads : List ℕ → V → Type 0) (m : TypeMeta) (s : ℕ) (z : Bool) → IsReadStatic reads m → m ≡ Static s z → (b : List ℕ) (v : V) → reads b v → length b ≡ s
+pub sized_of : {V : Type 0} (reads : List ℕ → V → Type 0) (m : TypeMeta) (s : ℕ) (z : Bool) → IsReadStatic reads m → m ≡ Static s z → (b : List ℕ) (v : V)
+    → reads b v → length b ≡ s
 sized_of reads m s z l e = let h = subst (IsReadStatic reads) e l in h.0
 
 module _ (m : TypeMeta) (old new : ReaderState) (e : ReadError) (inside : ReadRefusal) where
@@ -95,7 +132,8 @@ module _ (m : TypeMeta) (old new : ReaderState) (e : ReadError) (inside : ReadRe
 
 -- ---- writing
 
-pub written_size : {X V : Type 0} (is_valid : X → Type 0) (model : X → V) (can : V → Type 0) (size : V → ℕ) (m : TypeMeta) (s : ℕ) (z : Bool) → IsWriteStatic is_valid model can size m → m ≡ Static s z → (v : V) → can v → size v ≡ s
+pub written_size : {X V : Type 0} (is_valid : X → Type 0) (model : X → V) (can : V → Type 0) (size : V → ℕ) (m : TypeMeta) (s : ℕ) (z : Bool)
+    → IsWriteStatic is_valid model can size m → m ≡ Static s z → (v : V) → can v → size v ≡ s
 written_size is_valid model can size m s z l e = let h = subst (IsWriteStatic is_valid model can size) e l in h.1
 
 module _ {S K V : Type 0} {put : S → List ℕ → S} {room : S → ℕ} (g : WriteGrammar V) (v : V) (n : ℕ) (sized : g.can v → g.size v ≡ n) where
@@ -105,20 +143,30 @@ module _ {S K V : Type 0} {put : S → List ℕ → S} {room : S → ℕ} (g : W
   room_due old new writer.OutOfMemory d = d.1
 
   -- room for n bytes was refused
-  pub room_unwritten : {X : Type 0} (is_valid : X → Type 0) (model : X → V) → WriterLaws put room → WriteLaws is_valid model g → (old new : WriterState put room K) (e : IoWriteError)
+  pub room_unwritten : {X : Type 0} (is_valid : X → Type 0) (model : X → V) → WriterLaws put room → WriteLaws is_valid model g
+      → (old new : WriterState put room K) (e : IoWriteError)
       → BytesWriteRefused n old new e → WriteRefused g old new v (writing.Io e)
   room_unwritten is_valid model laws l old new e d = record {
     same = d.0.same;
-    began = λ c. let t = l.has_encoding v c in record { front = []; more = t.0; is_encoding = t.1; within = omega arith; added = d.0.content ∙ sym (laws.nil old.content) };
+    began = λ c. let t = l.has_encoding v c in record {
+      front = [];
+      more = t.0;
+      is_encoding = t.1;
+      within = omega arith;
+      added =
+          d.0.content ∙ sym (laws.nil old.content);
+    };
     due = room_due old new e d;
   }
 
 -- ---- where it stands
 
-static_is : {V : Type 0} (g : WriteGrammar V) (v : V) {s : ℕ} {z : Bool} (m : TypeMeta) (room : ℕ) (added : List ℕ) (e : WriteError) → m ≡ Static s z → WindowWriteRefused (Static s z) g v room added e → WindowWriteRefused m g v room added e
+static_is : {V : Type 0} (g : WriteGrammar V) (v : V) {s : ℕ} {z : Bool} (m : TypeMeta) (room : ℕ) (added : List ℕ) (e : WriteError) → m ≡ Static s z
+    → WindowWriteRefused (Static s z) g v room added e → WindowWriteRefused m g v room added e
 static_is g v m room added e is x = rw is x
 
-dynamic_is : {V : Type 0} (g : WriteGrammar V) (v : V) (m : TypeMeta) (room : ℕ) (added : List ℕ) (e : WriteError) → m ≡ Dynamic → g.refused v room added e → WindowWriteRefused m g v room added e
+dynamic_is : {V : Type 0} (g : WriteGrammar V) (v : V) (m : TypeMeta) (room : ℕ) (added : List ℕ) (e : WriteError) → m ≡ Dynamic → g.refused v room added e
+    → WindowWriteRefused m g v room added e
 dynamic_is g v m room added e is x = rw is x
 
 module _ {S K V : Type 0} {put : S → List ℕ → S} {room : S → ℕ} (g : WriteGrammar V) (v : V) {old new : WriterState put room K} where
@@ -132,20 +180,25 @@ module _ {S K V : Type 0} {put : S → List ℕ → S} {room : S → ℕ} (g : W
   dynamic_halted {e} is s = stopped_map g (windowed_write g) v v (λ a r. dynamic_is g v g.meta (room old.content) a e is r) s
 
   -- the room for it was refused
-  pub room_halted : {s : ℕ} {z : Bool} → WriterLaws put room → (e : IoWriteError) → g.meta ≡ Static s z → BytesWriteRefused s old new e → Stopped (windowed_write g) old new v (writing.Io e)
-  room_halted {s} laws e is d = nothing_stopped laws old new (writing.Io e) d.0.content (static_is g v g.meta (room old.content) [] (writing.Io e) is (inl (piece_denied s old new e d)))
+  pub room_halted : {s : ℕ} {z : Bool} → WriterLaws put room → (e : IoWriteError) → g.meta ≡ Static s z → BytesWriteRefused s old new e
+      → Stopped (windowed_write g) old new v (writing.Io e)
+  room_halted {s} laws e is d = nothing_stopped laws old new (writing.Io e) d.0.content
+      (static_is g v g.meta (room old.content) [] (writing.Io e) is (inl (piece_denied s old new e d)))
 
 module _ {S K V : Type 0} {put : S → List ℕ → S} {room : S → ℕ} (g : WriteGrammar V) (v : V) {old new : WriterState put room K} where
   -- an item of one size was refused, and nothing was added
-  pub short_halted : {s : ℕ} {z : Bool} (n : ℕ) → WriterLaws put room → (e : IoWriteError) → g.meta ≡ Static s z → BytesWriteRefused n old new e → Stopped (item_write g) old new v (writing.Io e)
+  pub short_halted : {s : ℕ} {z : Bool} (n : ℕ) → WriterLaws put room → (e : IoWriteError) → g.meta ≡ Static s z → BytesWriteRefused n old new e
+      → Stopped (item_write g) old new v (writing.Io e)
   short_halted n laws e is d = nothing_stopped laws old new (writing.Io e) d.0.content (λ dynamic. absurd (cc (is, dynamic)))
 
 -- what can't be written was refused inside
-pub static_inside : {V : Type 0} (g : WriteGrammar V) (v : V) (m : TypeMeta) {s : ℕ} {z : Bool} (room : ℕ) (added : List ℕ) (e : WriteError) → m ≡ Static s z → (g.can v → ⊥) → (inside : ℕ) → g.refused v inside added e → WindowWriteRefused m g v room added e
+pub static_inside : {V : Type 0} (g : WriteGrammar V) (v : V) (m : TypeMeta) {s : ℕ} {z : Bool} (room : ℕ) (added : List ℕ) (e : WriteError) → m ≡ Static s z
+    → (g.can v → ⊥) → (inside : ℕ) → g.refused v inside added e → WindowWriteRefused m g v room added e
 static_inside g v m room added e is cannot inside r = rw is (inr (cannot, (inside, r)))
 
 -- items of no one size go through no window
-items_alike : {V : Type 0} (g : WriteGrammar V) (vs : List V) (room : ℕ) (added : List ℕ) (e : WriteError) → ItemsWriteRefused g vs room added e → ItemsWriteRefused (windowed_write g) vs room added e
+items_alike : {V : Type 0} (g : WriteGrammar V) (vs : List V) (room : ℕ) (added : List ℕ) (e : WriteError) → ItemsWriteRefused g vs room added e
+    → ItemsWriteRefused (windowed_write g) vs room added e
 items_alike g vs room added e d = λ dynamic. let i = d dynamic in record {
   before = i.before;
   item = i.item;

@@ -1,5 +1,35 @@
 -- What numbers read and write, by the words of std.
-use Rattle.std.proofs.Common.{◌≡◌, ◌∙◌, sym, ap, subst, ℕ, ◌<◌, ◌≤◌, nat_eq, zero, suc, ◌^◌, Bool, List, [], ◌∷◌, ◌++◌, w8, length, get_or, refl, arith, Some, None, Option, IfSome, take, false, true}
+use Rattle.std.proofs.Common.{
+  ◌≡◌,
+  ◌∙◌,
+  sym,
+  ap,
+  subst,
+  ℕ,
+  ◌<◌,
+  ◌≤◌,
+  nat_eq,
+  zero,
+  suc,
+  ◌^◌,
+  Bool,
+  List,
+  [],
+  ◌∷◌,
+  ◌++◌,
+  w8,
+  length,
+  get_or,
+  refl,
+  arith,
+  Some,
+  None,
+  Option,
+  IfSome,
+  take,
+  false,
+  true,
+}
 use Rattle.std.proofs.lemmas.List.Elements.{All-from_get_or}
 use Rattle.std.specs.Int.{to_le_bytes, from_le_bytes, Width, byte_len}
 use Rattle.wincode_io.specs.Bytes.{IsBytes}
@@ -39,21 +69,26 @@ module _ (w : Width) (some : 0 < byte_len w) where
       )
 
   -- bytes that were taken are those of their number
-  pub number_taken : (old new : ReaderState) (bytes : List ℕ) (v : ℕ) → Takes (byte_len w) old new bytes → AreSmall bytes → v ≡ from_le_bytes w bytes → TakesNumber (byte_len w) old new v
+  pub number_taken : (old new : ReaderState) (bytes : List ℕ) (v : ℕ) → Takes (byte_len w) old new bytes → AreSmall bytes → v ≡ from_le_bytes w bytes
+      → TakesNumber (byte_len w) old new v
   number_taken old new bytes v t small e =
-      let is : (v < 256 ^ byte_len w) × (bytes ≡ le (byte_len w) v) = subst (λ n. (n < 256 ^ byte_len w) × (bytes ≡ le (byte_len w) n)) (sym e) (number_encoding bytes small t.size) in
+      let is : (v < 256 ^ byte_len w) × (bytes ≡ le (byte_len w) v) =
+      subst (λ n. (n < 256 ^ byte_len w) × (bytes ≡ le (byte_len w) n)) (sym e) (number_encoding bytes small t.size) in
       (is.0, subst (Takes (byte_len w) old new) is.1 t)
 
 pub number_gives : (k : ℕ) (any : Bool) (old new : ReaderState) (v : ℕ) → TakesNumber k old new v → Gives (number_read k any).reads old new v
 number_gives k any old new v t = takes_gives (number_read k any).reads k old new (le k v) v t.1 (t.0, refl)
 
 -- the destination has a number that was read
-pub number_puts : (w : Width) (some : 0 < byte_len w) (any : Bool) (old new : ReaderState) (bytes : List ℕ) (v : ℕ) → Takes (byte_len w) old new bytes → AreSmall bytes → v ≡ from_le_bytes w bytes
+pub number_puts : (w : Width) (some : 0 < byte_len w) (any : Bool) (old new : ReaderState) (bytes : List ℕ) (v : ℕ) → Takes (byte_len w) old new bytes
+    → AreSmall bytes → v ≡ from_le_bytes w bytes
     → Puts (number_read (byte_len w) any).reads (λ n. n) old new (Some v)
-number_puts w some any old new bytes v t small e = puts (number_read (byte_len w) any).reads (λ n. n) old new v (number_gives (byte_len w) any old new v (number_taken w some old new bytes v t small e))
+number_puts w some any old new bytes v t small e = puts (number_read (byte_len w) any).reads (λ n. n) old new v
+    (number_gives (byte_len w) any old new v (number_taken w some old new bytes v t small e))
 
 -- a number was refused for its k bytes
-pub number_refuses : (k : ℕ) (any : Bool) (old new : ReaderState) (e : ReadError) → PieceReadRefused k old new e → ReadRefused (number_read k any).reads 0 true old new e
+pub number_refuses : (k : ℕ) (any : Bool) (old new : ReaderState) (e : ReadError) → PieceReadRefused k old new e
+    → ReadRefused (number_read k any).reads 0 true old new e
 number_refuses k any old new e d = denied_refuses (number_read k any).reads k (λ b v r. ap length r.1 ∙ length-le k v) 0 true old new e d
 
 number_is : (w : Width) (v : ℕ) (encoding : List ℕ) → encoding ≡ to_le_bytes w v → encoding ≡ le (byte_len w) v
@@ -62,17 +97,22 @@ number_is w v encoding is = is ∙ to_le_bytes-le w v
 number_size : (w : Width) (v : ℕ) (encoding : List ℕ) → encoding ≡ to_le_bytes w v → length encoding ≡ byte_len w
 number_size w v encoding is = ap length (number_is w v encoding is) ∙ length-le (byte_len w) v
 
-module _ {S K : Type 0} {put : S → List ℕ → S} {room : S → ℕ} (w : Width) (any : Bool) (v : ℕ) {encoding : List ℕ} (is : encoding ≡ to_le_bytes w v) {old new : WriterState put room K} where
+module _ {S K : Type 0} {put : S → List ℕ → S} {room : S → ℕ} (w : Width) (any : Bool) (v : ℕ) {encoding : List ℕ} (is : encoding ≡ to_le_bytes w v)
+    {old new : WriterState put room K} where
   pub number_wrote : Added encoding old new → Wrote (number_write (byte_len w) any) old new v
   number_wrote d = encoding_wrote (number_write (byte_len w) any) v encoding (number_is w v encoding is) (number_size w v encoding is) old new tt d
 
-  pub number_unwritten : WriterLaws put room → (e : IoWriteError) → BytesWriteRefused (length encoding) old new e → WriteRefused (number_write (byte_len w) any) old new v (writing.Io e)
-  number_unwritten laws e d = encoding_unwritten (number_write (byte_len w) any) v encoding (number_is w v encoding is) (number_size w v encoding is) laws old new e d
+  pub number_unwritten : WriterLaws put room → (e : IoWriteError) → BytesWriteRefused (length encoding) old new e
+      → WriteRefused (number_write (byte_len w) any) old new v (writing.Io e)
+  number_unwritten laws e d = encoding_unwritten (number_write (byte_len w) any) v encoding (number_is w v encoding is) (number_size w v encoding is)
+      laws old new e d
 
-  pub number_halted : WriterLaws put room → (e : IoWriteError) → BytesWriteRefused (length encoding) old new e → Stopped (number_write (byte_len w) any) old new v (writing.Io e)
+  pub number_halted : WriterLaws put room → (e : IoWriteError) → BytesWriteRefused (length encoding) old new e
+      → Stopped (number_write (byte_len w) any) old new v (writing.Io e)
   number_halted laws e d =
       let size = number_size w v encoding is in
-      encoding_stopped (number_write (byte_len w) any) v encoding (number_is w v encoding is) size laws old new e d (λ x. subst (λ n. PieceWriteRefused n (room old.content) [] (writing.Io e)) size x)
+      encoding_stopped (number_write (byte_len w) any) v encoding (number_is w v encoding is) size laws old new e d
+      (λ x. subst (λ n. PieceWriteRefused n (room old.content) [] (writing.Io e)) size x)
 
 -- the bytes of a number that were put over the front of others, where they were
 pub number_put : (w : Width) (any : Bool) (v : ℕ) {encoding : List ℕ} {P : Type 0} → P → encoding ≡ to_le_bytes w v → (bytes : List ℕ) (r : Option ℕ)
@@ -89,16 +129,20 @@ byte_encoding v small = ap (λ b. b ∷ []) (omega arith)
 
 module _ (w : Width) (pow : 256 ^ byte_len w ≡ 2 ^ bits w) (some : 0 < byte_len w) (any : Bool) where
   -- the destination has a signed number that was read
-  pub signed_puts : (old new : ReaderState) (bytes : List ℕ) (z : ℤ) → Takes (byte_len w) old new bytes → AreSmall bytes → z ≡ cast_signed w (from_le_bytes w bytes) → Puts (signed_read w any).reads (λ n. n) old new (Some z)
+  pub signed_puts : (old new : ReaderState) (bytes : List ℕ) (z : ℤ) → Takes (byte_len w) old new bytes → AreSmall bytes → z
+      ≡ cast_signed w (from_le_bytes w bytes) → Puts (signed_read w any).reads (λ n. n) old new (Some z)
   signed_puts old new bytes z t small e =
       let n = from_le_bytes w bytes in
       let read = number_gives (byte_len w) any old new n (number_taken w some old new bytes n t small refl) in
       let P : ℤ → Type 0 = λ y. Gives (signed_read w any).reads old new y in
-      puts (signed_read w any).reads (λ y. y) old new z (subst P (sym e) (gives_map (number_read (byte_len w) any).reads (signed_read w any).reads old new n (cast_signed w n) (λ b r. signed_of w pow any b n r) read))
+      puts (signed_read w any).reads (λ y. y) old new z (subst P (sym e)
+      (gives_map (number_read (byte_len w) any).reads (signed_read w any).reads old new n (cast_signed w n) (λ b r. signed_of w pow any b n r) read))
 
   -- a signed number was refused for its bytes
-  pub signed_refuses : (old new : ReaderState) (e : ReadError) → PieceReadRefused (byte_len w) old new e → ReadRefused (signed_read w any).reads 0 true old new e
-  signed_refuses old new e d = refuses_map (number_read (byte_len w) any).reads (signed_read w any).reads 0 true old new e (λ b z t. (cast_unsigned w z, as_unsigned w pow any b z t)) (number_refuses (byte_len w) any old new e d)
+  pub signed_refuses : (old new : ReaderState) (e : ReadError) → PieceReadRefused (byte_len w) old new e
+      → ReadRefused (signed_read w any).reads 0 true old new e
+  signed_refuses old new e d = refuses_map (number_read (byte_len w) any).reads (signed_read w any).reads 0 true old new e
+      (λ b z t. (cast_unsigned w z, as_unsigned w pow any b z t)) (number_refuses (byte_len w) any old new e d)
 
 signed_is : (w : Width) (z : ℤ) (encoding : List ℕ) → encoding ≡ to_le_bytes w (cast_unsigned w z) → encoding ≡ le (byte_len w) (cast_unsigned w z)
 signed_is w z encoding is = number_is w (cast_unsigned w z) encoding is
@@ -106,20 +150,25 @@ signed_is w z encoding is = number_is w (cast_unsigned w z) encoding is
 signed_size : (w : Width) (z : ℤ) (encoding : List ℕ) → encoding ≡ to_le_bytes w (cast_unsigned w z) → length encoding ≡ byte_len w
 signed_size w z encoding is = number_size w (cast_unsigned w z) encoding is
 
-module _ {S K : Type 0} {put : S → List ℕ → S} {room : S → ℕ} (w : Width) (any : Bool) (z : ℤ) {encoding : List ℕ} (is : encoding ≡ to_le_bytes w (cast_unsigned w z)) {old new : WriterState put room K} where
+module _ {S K : Type 0} {put : S → List ℕ → S} {room : S → ℕ} (w : Width) (any : Bool) (z : ℤ) {encoding : List ℕ}
+    (is : encoding ≡ to_le_bytes w (cast_unsigned w z)) {old new : WriterState put room K} where
   pub signed_wrote : Added encoding old new → Wrote (signed_write w any) old new z
   signed_wrote d = encoding_wrote (signed_write w any) z encoding (signed_is w z encoding is) (signed_size w z encoding is) old new tt d
 
-  pub signed_unwritten : WriterLaws put room → (e : IoWriteError) → BytesWriteRefused (length encoding) old new e → WriteRefused (signed_write w any) old new z (writing.Io e)
+  pub signed_unwritten : WriterLaws put room → (e : IoWriteError) → BytesWriteRefused (length encoding) old new e
+      → WriteRefused (signed_write w any) old new z (writing.Io e)
   signed_unwritten laws e d = encoding_unwritten (signed_write w any) z encoding (signed_is w z encoding is) (signed_size w z encoding is) laws old new e d
 
-  pub signed_halted : WriterLaws put room → (e : IoWriteError) → BytesWriteRefused (length encoding) old new e → Stopped (signed_write w any) old new z (writing.Io e)
+  pub signed_halted : WriterLaws put room → (e : IoWriteError) → BytesWriteRefused (length encoding) old new e
+      → Stopped (signed_write w any) old new z (writing.Io e)
   signed_halted laws e d =
       let size = signed_size w z encoding is in
-      encoding_stopped (signed_write w any) z encoding (signed_is w z encoding is) size laws old new e d (λ x. subst (λ n. PieceWriteRefused n (room old.content) [] (writing.Io e)) size x)
+      encoding_stopped (signed_write w any) z encoding (signed_is w z encoding is) size laws old new e d
+      (λ x. subst (λ n. PieceWriteRefused n (room old.content) [] (writing.Io e)) size x)
 
 -- the bytes of a signed number that were put over the front of others, where they were
-pub signed_put : (w : Width) (any : Bool) (z : ℤ) {encoding : List ℕ} {P : Type 0} → P → encoding ≡ to_le_bytes w (cast_unsigned w z) → (bytes : List ℕ) (r : Option ℕ)
+pub signed_put : (w : Width) (any : Bool) (z : ℤ) {encoding : List ℕ} {P : Type 0} → P → encoding ≡ to_le_bytes w (cast_unsigned w z)
+    → (bytes : List ℕ) (r : Option ℕ)
     → IfSome r (λ n. (n ≤ length bytes) × (take n bytes ≡ encoding))
     → IfSome r (λ n. (n ≤ length bytes) × IsEncoded (signed_write w any) z (take n bytes) × P)
 signed_put w any z fits is bytes None p = tt
@@ -128,7 +177,12 @@ signed_put w any z {encoding} fits is bytes (Some n) p = (p.0, (tt, p.1 ∙ sign
 -- ---- booleans and values without bytes
 
 pub unit_puts : {X : Type 0} (s : ReaderState) (x : X) → Puts unit_read.reads (λ _. tt) s s (Some x)
-unit_puts s x = record { kept = record { lends = refl; never_fails = refl; counts_windows = refl; is_known = refl }; found = λ t. record { encoding = []; is_read = refl; joins = refl }; place = λ t. still s }
+unit_puts s x = record {
+  kept = record { lends = refl; never_fails = refl; counts_windows = refl; is_known = refl };
+  found =
+      λ t. record { encoding = []; is_read = refl; joins = refl };
+  place = λ t. still s;
+}
 
 one_of : (bytes : List ℕ) → length bytes ≡ 1 → bytes ≡ get_or bytes 0 0 ∷ []
 one_of [] e = absurd (omega arith)
@@ -153,9 +207,16 @@ not_bool old new v big t a =
     let same : bool_byte a.front.value ≡ v = cc in
     absurd (omega (arith, small_bool a.front.value, same))
 
-pub bool_refuses : (old new : ReaderState) (v : ℕ) → 1 < v → Takes 1 old new (v ∷ []) → ReadRefused bool_read.reads 0 true old new (reading.InvalidBoolEncoding v)
+pub bool_refuses : (old new : ReaderState) (v : ℕ) → 1 < v → Takes 1 old new (v ∷ [])
+    → ReadRefused bool_read.reads 0 true old new (reading.InvalidBoolEncoding v)
 bool_refuses old new v big t =
-    record { kept = t.loses.kept; left = λ told. record { front = v ∷ []; joins = takes_joins t told }; place = loses_onward 1 old new t.loses; due = not_bool old new v big t }
+    record {
+      kept = t.loses.kept;
+      left = λ told. record { front = v ∷ []; joins = takes_joins t told };
+      place = loses_onward 1 old new t.loses;
+      due =
+          not_bool old new v big t;
+    }
 
 pub is_bool : (v : ℕ) → v ≤ 1 → v ≡ bool_byte (nat_eq v 1)
 is_bool zero h = refl

@@ -1,5 +1,29 @@
 -- Reading items one after another.
-use Rattle.std.proofs.Common.{◌≡◌, ◌∙◌, sym, ap, subst, ℕ, ◌+◌, ◌<◌, ◌≤◌, List, [], ◌∷◌, ◌++◌, map, append_assoc, append-nil, length, take, Option, Some, refl, inl, inr}
+use Rattle.std.proofs.Common.{
+  ◌≡◌,
+  ◌∙◌,
+  sym,
+  ap,
+  subst,
+  ℕ,
+  ◌+◌,
+  ◌<◌,
+  ◌≤◌,
+  List,
+  [],
+  ◌∷◌,
+  ◌++◌,
+  map,
+  append_assoc,
+  append-nil,
+  length,
+  take,
+  Option,
+  Some,
+  refl,
+  inl,
+  inr,
+}
 use Rattle.std.proofs.Math.Seq.{take-append_seam}
 use Rattle.std.proofs.lemmas.List.{map-append}
 use Rattle.wincode_io.specs.Joins.{AreItems}
@@ -16,11 +40,13 @@ module _ {D V : Type 0} (reads : List ℕ → V → Type 0) (model : D → V) wh
   pub adds_none : (s : ReaderState) (before after : List D) → after ≡ before → Adds 0 reads model s s before after
   adds_none s before after e = record { items = []; is = e ∙ sym (append-nil before); gives = items_none reads s }
 
-  pub adds_more : (i : ℕ) (old mid new : ReaderState) (before so after : List D) (d : D) → Adds i reads model old mid before so → Gives reads mid new (model d) → after ≡ so ++ (d ∷ []) → Adds (i + 1) reads model old new before after
+  pub adds_more : (i : ℕ) (old mid new : ReaderState) (before so after : List D) (d : D) → Adds i reads model old mid before so → Gives reads mid new (model d)
+      → after ≡ so ++ (d ∷ []) → Adds (i + 1) reads model old new before after
   adds_more i old mid new before so after d a g e = record {
     items = a.items ++ (d ∷ []);
     is = e ∙ ap (λ t. t ++ (d ∷ [])) a.is ∙ append_assoc before a.items (d ∷ []);
-    gives = subst (Gives (AreItems (i + 1) reads) old new) (sym (map-append model a.items (d ∷ []))) (items_more reads i old mid new (map model a.items) (model d) a.gives g);
+    gives = subst (Gives (AreItems (i + 1) reads) old new) (sym (map-append model a.items (d ∷ [])))
+        (items_more reads i old mid new (map model a.items) (model d) a.gives g);
   }
 
   -- the value that a read put into its destination
@@ -34,7 +60,8 @@ cut_back before more now after n size grown cut = cut ∙ ap (λ k. take k now) 
 -- ---- where items that are refused leave the reader
 
 module _ {V : Type 0} (n : ℕ) (g : ReadGrammar V) where
-  pub item_stopped : (i : ℕ) (old mid new : ReaderState) (us : List V) (e : ReadError) → i < n → Gives (AreItems i g.reads) old mid us → SchemaReadRefused g mid new e → ItemReadRefused n g old new e
+  pub item_stopped : (i : ℕ) (old mid new : ReaderState) (us : List V) (e : ReadError) → i < n → Gives (AreItems i g.reads) old mid us
+      → SchemaReadRefused g mid new e → ItemReadRefused n g old new e
   item_stopped i old mid new us e l gives d = record { count = i; items = us; mid = mid; gives = gives; stop = inl (l, d) }
 
   pub item_wanted : (i : ℕ) (old new : ReaderState) (us : List V) → i ≤ n → Gives (AreItems i g.reads) old new us → ItemReadRefused n g old new OutOfMemory

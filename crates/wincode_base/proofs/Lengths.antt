@@ -19,7 +19,11 @@ use Rattle.wincode_io.specs.declared.error.WriteError.{WriteError as IoWriteErro
 module _ (limit p : ℕ) where
   -- eight bytes were refused
   pub length_denied : (old new : ReaderState) (e : ReadError) → PieceReadRefused 8 old new e → SchemaReadRefused (length_read (bincode limit) p) old new e
-  length_denied old new e d = (denied_refuses (IsLength (bincode limit) p) 8 (λ b n h. ap length (bincode_encoding_is limit n b h.1).1 ∙ length-le 8 n) 0 true old new e d, denied e d) where
+  length_denied old new e d = (
+    denied_refuses (IsLength (bincode limit) p) 8 (λ b n h. ap length (bincode_encoding_is limit n b h.1).1 ∙ length-le 8 n)
+        0 true old new e d,
+    denied e d,
+  ) where
     denied : (e : ReadError) → PieceReadRefused 8 old new e → LengthReadRefused limit p old new e
     denied (reading.Io e) d = d
     denied _ d = absurd d
@@ -31,13 +35,15 @@ module _ (limit p : ℕ) where
   none_accepted : (old new : ReaderState) (n : ℕ) → TakesNumber 8 old new n → limit < n * p → Accepts (IsLength (bincode limit) p) old → ⊥
   none_accepted old new n t over a =
       let f = a.front.found in
-      let same = (bincode_laws limit).one_length f.encoding (le 8 n) a.front.rest new.rest a.front.value n f.is_read.1 (bincode_encoding limit n t.0) (sym f.joins ∙ takes_joins t.1 a.is_known) in
+      let same = (bincode_laws limit).one_length f.encoding (le 8 n) a.front.rest new.rest a.front.value n f.is_read.1 (bincode_encoding limit n t.0)
+      (sym f.joins ∙ takes_joins t.1 a.is_known) in
       let within : a.front.value * p ≤ limit = f.is_read.0.1 in
       let more : limit < a.front.value * p = subst (λ v. limit < v * p) (sym same.1) over in
       absurd (omega arith)
 
   -- a length was taken that is not admitted
-  pub length_not_accepted : (old new : ReaderState) (n : ℕ) → TakesNumber 8 old new n → limit < n * p → (needed most : ℕ) → ReadRefused (IsLength (bincode limit) p) 0 true old new (reading.PreallocationSizeLimit needed most)
+  pub length_not_accepted : (old new : ReaderState) (n : ℕ) → TakesNumber 8 old new n → limit < n * p → (needed most : ℕ)
+      → ReadRefused (IsLength (bincode limit) p) 0 true old new (reading.PreallocationSizeLimit needed most)
   length_not_accepted old new n t over needed most = record {
     kept = t.1.loses.kept;
     left = λ told. record { front = le 8 n; joins = takes_joins t.1 told };
@@ -54,23 +60,30 @@ has limit n encoding small e = bincode_encoding limit n small ∙ ap (λ b. Some
 size_is : (limit n : ℕ) (encoding : List ℕ) → n < 2 ^ 64 → encoding ≡ to_le_bytes w64 n → length encoding ≡ encoding_len ((bincode limit).encoding n)
 size_is limit n encoding small e = sym (ap encoding_len (has limit n encoding small e))
 
-module _ {S K : Type 0} {put : S → List ℕ → S} {room : S → ℕ} (limit n : ℕ) {encoding : List ℕ} (small : n < 2 ^ 64) (e : encoding ≡ to_le_bytes w64 n) {old new : WriterState put room K} where
+module _ {S K : Type 0} {put : S → List ℕ → S} {room : S → ℕ} (limit n : ℕ) {encoding : List ℕ} (small : n < 2 ^ 64) (e : encoding ≡ to_le_bytes w64 n)
+    {old new : WriterState put room K} where
   pub length_wrote : Added encoding old new → Wrote (length_write (bincode limit)) old new n
-  length_wrote d = encoding_wrote (length_write (bincode limit)) n encoding (has limit n encoding small e) (size_is limit n encoding small e) old new (encoding, has limit n encoding small e) d
+  length_wrote d = encoding_wrote (length_write (bincode limit)) n encoding (has limit n encoding small e) (size_is limit n encoding small e) old new
+      (encoding, has limit n encoding small e) d
 
-  pub length_unwritten : WriterLaws put room → (r : IoWriteError) → BytesWriteRefused (length encoding) old new r → WriteRefused (length_write (bincode limit)) old new n (writing.Io r)
-  length_unwritten laws r d = encoding_unwritten (length_write (bincode limit)) n encoding (has limit n encoding small e) (size_is limit n encoding small e) laws old new r d
+  pub length_unwritten : WriterLaws put room → (r : IoWriteError) → BytesWriteRefused (length encoding) old new r
+      → WriteRefused (length_write (bincode limit)) old new n (writing.Io r)
+  length_unwritten laws r d = encoding_unwritten (length_write (bincode limit)) n encoding (has limit n encoding small e) (size_is limit n encoding small e)
+      laws old new r d
 
-  pub length_halted : WriterLaws put room → (r : IoWriteError) → BytesWriteRefused (length encoding) old new r → Stopped (length_write (bincode limit)) old new n (writing.Io r)
+  pub length_halted : WriterLaws put room → (r : IoWriteError) → BytesWriteRefused (length encoding) old new r
+      → Stopped (length_write (bincode limit)) old new n (writing.Io r)
   length_halted laws r d =
       let size = size_is limit n encoding small e in
-      encoding_stopped (length_write (bincode limit)) n encoding (has limit n encoding small e) size laws old new r d (λ x. inl ((encoding, has limit n encoding small e), subst (λ m. PieceWriteRefused m (room old.content) [] (writing.Io r)) size x))
+      encoding_stopped (length_write (bincode limit)) n encoding (has limit n encoding small e) size laws old new r d
+      (λ x. inl ((encoding, has limit n encoding small e), subst (λ m. PieceWriteRefused m (room old.content) [] (writing.Io r)) size x))
 
 pub length_needed : (limit n : ℕ) → n < 2 ^ 64 → HasEncoding (bincode limit) n × (8 ≡ encoding_len ((bincode limit).encoding n))
 length_needed limit n small = let has = bincode_encoding limit n small in ((le 8 n, has), sym (ap encoding_len has ∙ length-le 8 n))
 
 -- eight bytes that were put over the front of others, where they were
-pub length_put : (limit n : ℕ) {encoding : List ℕ} (small : n < 2 ^ 64) (e : encoding ≡ to_le_bytes w64 n) (bytes : List ℕ) (r : Option ℕ) → IfSome r (λ k. (k ≤ length bytes) × (take k bytes ≡ encoding))
+pub length_put : (limit n : ℕ) {encoding : List ℕ} (small : n < 2 ^ 64) (e : encoding ≡ to_le_bytes w64 n) (bytes : List ℕ) (r : Option ℕ)
+    → IfSome r (λ k. (k ≤ length bytes) × (take k bytes ≡ encoding))
     → IfSome r (λ k. (k ≤ length bytes) × ((bincode limit).encoding n ≡ Some (take k bytes)))
 length_put limit n small e bytes None p = tt
 length_put limit n {encoding} small e bytes (Some k) p = (p.0, has limit n encoding small e ∙ ap (λ b. Some b) (sym p.1))

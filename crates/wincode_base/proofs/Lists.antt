@@ -7,36 +7,54 @@ use Rattle.wincode_base.specs.Lengths.{Scheme, HasEncoding, encoding_len, length
 use Rattle.wincode_base.specs.Lists.{item_write, items_write, each_write, parts_write, list_write, SizesRefused}
 use Rattle.wincode_base.specs.Outcomes.{Wrote, WriteRefused, Stopped, IsSized, SizeRefused}
 use Rattle.wincode_base.specs.PairSizeLaws.{unsized_part, unsized_second, unwritable_first}
-use Rattle.wincode_base.specs.WriteSequences.{items_wrote_none, items_wrote_more, items_unwritten, each_halted, items_halted, item_halted, list_halted_first, list_halted_second, list_wrote, list_unwritten_first, list_unwritten_second}
+use Rattle.wincode_base.specs.WriteSequences.{
+  items_wrote_none,
+  items_wrote_more,
+  items_unwritten,
+  each_halted,
+  items_halted,
+  item_halted,
+  list_halted_first,
+  list_halted_second,
+  list_wrote,
+  list_unwritten_first,
+  list_unwritten_second,
+}
 use Rattle.wincode_base.specs.declared.error.WriteError.{WriteError}
 use Rattle.wincode_io.specs.Joins.{Each, total}
 use Rattle.wincode_io.specs.JoinLaws.{map_more, map_parted, each_map_at, total_within}
 
 -- no item was written yet
-pub items_before : {A V S K : Type 0} (xs : List A) (f : A → V) {put : S → List ℕ → S} {room : S → ℕ} (laws : WriterLaws put room) {g : WriteGrammar V} {p : A → Type 0} (l : WriteLaws p f g) (s : WriterState put room K)
+pub items_before : {A V S K : Type 0} (xs : List A) (f : A → V) {put : S → List ℕ → S} {room : S → ℕ} (laws : WriterLaws put room)
+    {g : WriteGrammar V} {p : A → Type 0} (l : WriteLaws p f g) (s : WriterState put room K)
     → Wrote (items_write g) s s (map f (take 0 xs)) × Each p (take 0 xs)
 items_before xs f laws l s = (items_wrote_none laws l s, tt)
 
 module _ {A V S K : Type 0} (xs : List A) (i : ℕ) (x : A) (h : i < length xs) (e : x ≡ get_or xs i x) (f : A → V)
-    {put : S → List ℕ → S} {room : S → ℕ} (laws : WriterLaws put room) {g : WriteGrammar V} {p : A → Type 0} (l : WriteLaws p f g) {old mid new : WriterState put room K} where
+    {put : S → List ℕ → S} {room : S → ℕ} (laws : WriterLaws put room) {g : WriteGrammar V} {p : A → Type 0} (l : WriteLaws p f g)
+    {old mid new : WriterState put room K} where
   -- one item more was written
   pub items_after : Wrote (items_write g) old mid (map f (take i xs)) → Wrote g mid new (f x) → Wrote (items_write g) old new (map f (take (i + 1) xs))
   items_after r s = subst (Wrote (items_write g) old new) (sym (map_more xs i x h e f)) (items_wrote_more laws l (map f (take i xs)) (f x) r s)
 
   -- an item was refused
-  pub items_stopped : {r : WriteError} → Wrote (items_write g) old mid (map f (take i xs)) → WriteRefused g mid new (f x) r → WriteRefused (items_write g) old new (map f xs) r
+  pub items_stopped : {r : WriteError} → Wrote (items_write g) old mid (map f (take i xs)) → WriteRefused g mid new (f x) r
+      → WriteRefused (items_write g) old new (map f xs) r
   items_stopped {r} w u =
       let P : List V → Type 0 = λ vs. WriteRefused (items_write g) old new vs r in
       subst P (sym (map_parted xs i x h e f)) (items_unwritten laws l (map f (take i xs)) (f x) (map f (drop (suc i) xs)) w u)
 
-  pub each_place : {r : WriteError} → Wrote (items_write g) old mid (map f (take i xs)) → Stopped g mid new (f x) r → Stopped (each_write g) old new (map f xs) r
+  pub each_place : {r : WriteError} → Wrote (items_write g) old mid (map f (take i xs)) → Stopped g mid new (f x) r
+      → Stopped (each_write g) old new (map f xs) r
   each_place {r} w s = each_halted laws l (map f (take i xs)) (f x) (map f (drop (suc i) xs)) (map f xs) (map_parted xs i x h e f) w s
 
-  pub items_place : {r : WriteError} → Wrote (items_write g) old mid (map f (take i xs)) → Stopped g mid new (f x) r → Stopped (items_write g) old new (map f xs) r
+  pub items_place : {r : WriteError} → Wrote (items_write g) old mid (map f (take i xs)) → Stopped g mid new (f x) r
+      → Stopped (items_write g) old new (map f xs) r
   items_place {r} w s = items_halted laws l (map f (take i xs)) (f x) (map f (drop (suc i) xs)) (map f xs) (map_parted xs i x h e f) w s
 
   -- of whose refusal no more is said where it has one size
-  pub item_place : {r : WriteError} → Wrote (items_write g) old mid (map f (take i xs)) → Stopped (item_write g) mid new (f x) r → Stopped (items_write g) old new (map f xs) r
+  pub item_place : {r : WriteError} → Wrote (items_write g) old mid (map f (take i xs)) → Stopped (item_write g) mid new (f x) r
+      → Stopped (items_write g) old new (map f xs) r
   item_place {r} w s = item_halted laws l (map f (take i xs)) (f x) (map f (drop (suc i) xs)) (map f xs) (map_parted xs i x h e f) w s
 
 -- ---- the length of a list is that of what contracts see of it
@@ -60,11 +78,13 @@ module _ {X V : Type 0} (s : Scheme) (count : ℕ) (g : WriteGrammar V) (f : X �
   size_without_encoding e d = (λ c fits. d.0 (encoding_model s f xs c.0), unwritable_first s.builtin g.builtin e (λ c. d.0 (encoding_model s f xs c.0)) d.1)
 
   -- the length has an encoding, and the sizes of the items were added to its size
-  pub size_summed : (before n : ℕ) → HasEncoding s (length xs) → before ≡ encoding_len (s.encoding (length xs)) → Each g.can (map f xs) × (n ≡ before + total g.size (map f xs)) → (list_write s count g).can (map f xs) × (n ≡ (list_write s count g).size (map f xs))
+  pub size_summed : (before n : ℕ) → HasEncoding s (length xs) → before ≡ encoding_len (s.encoding (length xs)) → Each g.can (map f xs)
+      × (n ≡ before + total g.size (map f xs)) → (list_write s count g).can (map f xs) × (n ≡ (list_write s count g).size (map f xs))
   size_summed before n encoding e p = ((model_encoding s f xs encoding, p.0), p.1 ∙ ap (λ k. k + total g.size (map f xs)) (e ∙ sym (model_size s f xs)))
 
   -- the length has an encoding, and the sizes of the items were refused
-  pub size_unsummed : (before : ℕ) (e : WriteError) → before ≡ encoding_len (s.encoding (length xs)) → SizesRefused before g (map f xs) e → SizeRefused (list_write s count g) (map f xs) e
+  pub size_unsummed : (before : ℕ) (e : WriteError) → before ≡ encoding_len (s.encoding (length xs)) → SizesRefused before g (map f xs) e
+      → SizeRefused (list_write s count g) (map f xs) e
   size_unsummed before e is d = (λ c fits. d.0 c.1 (omega (arith, is, model_size s f xs)), unsized_second s.builtin g.builtin e (λ c. c.1) d.1)
 
 -- ---- the sizes of items, added to what stands before them
@@ -72,10 +92,14 @@ module _ {X V : Type 0} (s : Scheme) (count : ℕ) (g : WriteGrammar V) (f : X �
 module _ {X V : Type 0} (before : ℕ) (g : WriteGrammar V) (f : X → V) (xs : List X) (i : ℕ) (x : X) (h : i < length xs) (is : x ≡ get_or xs i x) where
   -- an item's size was refused
   pub sum_item : (e : WriteError) → SizeRefused g (f x) e → SizesRefused before g (map f xs) e
-  sum_item e d = (λ c fits. d.0 (each_map_at xs i x h is f g.can c) (omega (arith, total_within xs i x h is f g.size)), unsized_part g.builtin e (λ c. each_map_at xs i x h is f g.can c) d.1)
+  sum_item e d = (
+    λ c fits. d.0 (each_map_at xs i x h is f g.can c) (omega (arith, total_within xs i x h is f g.size)),
+    unsized_part g.builtin e (λ c. each_map_at xs i x h is f g.can c) d.1,
+  )
 
   -- the sum of sizes overflows
-  pub sum_over : (sum : ℕ) → sum ≡ before + total g.size (map f (take i xs)) → 2 ^ 64 ≤ sum + g.size (f x) → Each g.can (map f xs) → before + total g.size (map f xs) < 2 ^ 64 → ⊥
+  pub sum_over : (sum : ℕ) → sum ≡ before + total g.size (map f (take i xs)) → 2 ^ 64 ≤ sum + g.size (f x) → Each g.can (map f xs)
+      → before + total g.size (map f xs) < 2 ^ 64 → ⊥
   sum_over sum e over c fits = absurd (omega (arith, total_within xs i x h is f g.size))
 
 -- ---- items of which each can be written, in one size
@@ -88,35 +112,43 @@ module _ {X V : Type 0} (g : WriteGrammar V) (f : X → V) (n : ℕ) (known : (x
       let one = known x in
       ((one.0, rest.0), omega (arith, one.1, rest.1))
 
-  pub known_sum : (before count sum : ℕ) (xs : List X) → length xs ≡ count → sum ≡ before + count * n → Each g.can (map f xs) × (sum ≡ before + total g.size (map f xs))
+  pub known_sum : (before count sum : ℕ) (xs : List X) → length xs ≡ count → sum ≡ before + count * n → Each g.can (map f xs)
+      × (sum ≡ before + total g.size (map f xs))
   known_sum before count sum xs long is =
       let all = sizes_known xs in
       (all.0, is ∙ ap (λ k. before + k) (ap (λ k. k * n) (sym long) ∙ sym all.1))
 
-  pub known_over : (before count : ℕ) (xs : List X) → length xs ≡ count → (before + count * n < 2 ^ 64 → ⊥) → Each g.can (map f xs) → before + total g.size (map f xs) < 2 ^ 64 → ⊥
+  pub known_over : (before count : ℕ) (xs : List X) → length xs ≡ count → (before + count * n < 2 ^ 64 → ⊥) → Each g.can (map f xs)
+      → before + total g.size (map f xs) < 2 ^ 64 → ⊥
   known_over before count xs long over can fits = over (subst (λ k. before + k < 2 ^ 64) ((sizes_known xs).1 ∙ ap (λ k. k * n) long) fits)
 
 -- ---- a list after its length
 
-module _ {S K X V : Type 0} {put : S → List ℕ → S} {room : S → ℕ} (laws : WriterLaws put room) (s : Scheme) (count : ℕ) {g : WriteGrammar V} {p : X → Type 0} {f : X → V} (l : WriteLaws p f g) (xs : List X) where
+module _ {S K X V : Type 0} {put : S → List ℕ → S} {room : S → ℕ} (laws : WriterLaws put room) (s : Scheme) (count : ℕ)
+    {g : WriteGrammar V} {p : X → Type 0} {f : X → V} (l : WriteLaws p f g) (xs : List X) where
   length_model : (old new : WriterState put room K) → Wrote (length_write s) old new (length xs) → Wrote (length_write s) old new (length (map f xs))
   length_model old new r = subst (Wrote (length_write s) old new) (sym (length-map xs f)) r
 
-  pub all_wrote : {old mid new : WriterState put room K} → Wrote (length_write s) old mid (length xs) → Wrote (items_write g) mid new (map f xs) → Wrote (parts_write s count g) old new (map f xs)
+  pub all_wrote : {old mid new : WriterState put room K} → Wrote (length_write s) old mid (length xs) → Wrote (items_write g) mid new (map f xs)
+      → Wrote (parts_write s count g) old new (map f xs)
   all_wrote {old} {mid} {new} r t = list_wrote laws l s count (map f xs) (length_model old mid r) t
 
-  pub length_unwritten : {old new : WriterState put room K} {e : WriteError} → WriteRefused (length_write s) old new (length xs) e → WriteRefused (parts_write s count g) old new (map f xs) e
+  pub length_unwritten : {old new : WriterState put room K} {e : WriteError} → WriteRefused (length_write s) old new (length xs) e
+      → WriteRefused (parts_write s count g) old new (map f xs) e
   length_unwritten {old} {new} {e} u =
       let P : ℕ → Type 0 = λ n. WriteRefused (length_write s) old new n e in
       list_unwritten_first laws l s count (map f xs) (subst P (sym (length-map xs f)) u)
 
-  pub rest_unwritten : {old mid new : WriterState put room K} {e : WriteError} → Wrote (length_write s) old mid (length xs) → WriteRefused (items_write g) mid new (map f xs) e → WriteRefused (parts_write s count g) old new (map f xs) e
+  pub rest_unwritten : {old mid new : WriterState put room K} {e : WriteError} → Wrote (length_write s) old mid (length xs)
+      → WriteRefused (items_write g) mid new (map f xs) e → WriteRefused (parts_write s count g) old new (map f xs) e
   rest_unwritten {old} {mid} r u = list_unwritten_second laws l s count (map f xs) (length_model old mid r) u
 
-  pub length_halted : {old new : WriterState put room K} {e : WriteError} → Stopped (length_write s) old new (length xs) e → Stopped (parts_write s count g) old new (map f xs) e
+  pub length_halted : {old new : WriterState put room K} {e : WriteError} → Stopped (length_write s) old new (length xs) e
+      → Stopped (parts_write s count g) old new (map f xs) e
   length_halted {old} {new} {e} h =
       let P : ℕ → Type 0 = λ n. Stopped (length_write s) old new n e in
       list_halted_first laws l s count (map f xs) (subst P (sym (length-map xs f)) h)
 
-  pub rest_halted : {old mid new : WriterState put room K} {e : WriteError} → Wrote (length_write s) old mid (length xs) → Stopped (items_write g) mid new (map f xs) e → Stopped (parts_write s count g) old new (map f xs) e
+  pub rest_halted : {old mid new : WriterState put room K} {e : WriteError} → Wrote (length_write s) old mid (length xs)
+      → Stopped (items_write g) mid new (map f xs) e → Stopped (parts_write s count g) old new (map f xs) e
   rest_halted {old} {mid} r h = list_halted_second laws l s count (map f xs) (length_model old mid r) h

@@ -1,5 +1,28 @@
 -- The definitions, evaluated on worked rows of bytes and values.
-use Rattle.std.proofs.Common.{◌≡◌, sym, ap, ℕ, ◌<◌, ◌^◌, List, [], ◌∷◌, ◌++◌, length, refl, arith, true, length-append, lit<, lit≤, false, Option, Some, None, Err}
+use Rattle.std.proofs.Common.{
+  ◌≡◌,
+  sym,
+  ap,
+  ℕ,
+  ◌<◌,
+  ◌^◌,
+  List,
+  [],
+  ◌∷◌,
+  ◌++◌,
+  length,
+  refl,
+  arith,
+  true,
+  length-append,
+  lit<,
+  lit≤,
+  false,
+  Option,
+  Some,
+  None,
+  Err,
+}
 use Rattle.wincode_io.specs.Numbers.{le}
 use Rattle.wincode_io.specs.ShortNumbers.{groups, short_encoding}
 use Rattle.wincode_base.specs.Grammar.{ReadGrammar, WriteGrammar}
@@ -164,6 +187,7 @@ pub two_sizes : (result_read 4 (number_read 1 true) (number_read 2 true)).meta �
 two_sizes = refl
 
 -- the least and the greatest short numbers of one, two and three bytes
-pub short_rows : (short_encoding 127 ≡ 127 ∷ []) × (short_encoding 128 ≡ 128 ∷ 1 ∷ []) × (short_encoding 16383 ≡ 255 ∷ 127 ∷ []) × (short_encoding 16384 ≡ 128 ∷ 128 ∷ 1 ∷ []) × (short_encoding 65535 ≡ 255 ∷ 255 ∷ 3 ∷ [])
+pub short_rows : (short_encoding 127 ≡ 127 ∷ []) × (short_encoding 128 ≡ 128 ∷ 1 ∷ []) × (short_encoding 16383 ≡ 255 ∷ 127 ∷ [])
+    × (short_encoding 16384 ≡ 128 ∷ 128 ∷ 1 ∷ []) × (short_encoding 65535 ≡ 255 ∷ 255 ∷ 3 ∷ [])
 unfolding groups
 short_rows = (refl, refl, refl, refl, refl)

@@ -1,5 +1,41 @@
 -- Items of one size together: reading and writing them through one window.
-use Rattle.std.proofs.Common.{◌≡◌, ◌∙◌, sym, ap, subst, ℕ, ◌+◌, ◌*◌, ◌<◌, ◌≤◌, ◌^◌, Bool, true, false, List, [], ◌∷◌, ◌++◌, length, zero, suc, refl, arith, Some, None, IsTrue, append-nil, length-append, true≢false, cond, nat_lt, inl, inr, ◌⊎◌, Bor}
+use Rattle.std.proofs.Common.{
+  ◌≡◌,
+  ◌∙◌,
+  sym,
+  ap,
+  subst,
+  ℕ,
+  ◌+◌,
+  ◌*◌,
+  ◌<◌,
+  ◌≤◌,
+  ◌^◌,
+  Bool,
+  true,
+  false,
+  List,
+  [],
+  ◌∷◌,
+  ◌++◌,
+  length,
+  zero,
+  suc,
+  refl,
+  arith,
+  Some,
+  None,
+  IsTrue,
+  append-nil,
+  length-append,
+  true≢false,
+  cond,
+  nat_lt,
+  inl,
+  inr,
+  ◌⊎◌,
+  Bor,
+}
 use Rattle.std.specs.Prelude.{Option}
 use Rattle.std.specs.Option.{is_some}
 use Rattle.std.specs.Borrow.{GName}
@@ -14,7 +50,18 @@ use Rattle.wincode_base.specs.Grammar.{ReadGrammar, WriteGrammar, WriteLaws, IsR
 use Rattle.wincode_base.specs.InWindow.{WindowReadRefused}
 use Rattle.wincode_base.specs.LeafLaws.{same_front}
 use Rattle.wincode_base.specs.Lengths.{Scheme, HasEncoding, LengthSizeRefused, encoding_len}
-use Rattle.wincode_base.specs.Lists.{parts_write, list_write_of, list_bytes, PartsWriteRefused, ListWriteRefused, WholeWriteRefused, InnerWriteRefused, SpanWriteRefused, ItemsReadRefused, RunReadRefused}
+use Rattle.wincode_base.specs.Lists.{
+  parts_write,
+  list_write_of,
+  list_bytes,
+  PartsWriteRefused,
+  ListWriteRefused,
+  WholeWriteRefused,
+  InnerWriteRefused,
+  SpanWriteRefused,
+  ItemsReadRefused,
+  RunReadRefused,
+}
 use Rattle.wincode_base.specs.Outcomes.{Gives, ReadRefused, Wrote, WriteRefused, Stopped, WriteDue, IsAble, IsOfValueAlone, past_usize}
 use Rattle.wincode_base.specs.ItemSizes.{item_size, is_known, run_size, behind_size, IsReadItemSize, IsWriteItemSize}
 use Rattle.wincode_base.specs.WriteSequences.{same_trans, wrote_map, unwritten_map, stopped_map, nothing_stopped, piece_denied}
@@ -32,11 +79,13 @@ use Rattle.wincode_base.specs.FixedSizeLaws.{takes_joins}
 
 -- ---- the size of n items
 
-joined_size : {V : Type 0} (reads : List ℕ → V → Type 0) (s : ℕ) → ((b : List ℕ) (v : V) → reads b v → length b ≡ s) → (vs : List V) (b : List ℕ) → Joined (λ v t. reads t v) vs b → length b ≡ length vs * s
+joined_size : {V : Type 0} (reads : List ℕ → V → Type 0) (s : ℕ) → ((b : List ℕ) (v : V) → reads b v → length b ≡ s) → (vs : List V) (b : List ℕ)
+    → Joined (λ v t. reads t v) vs b → length b ≡ length vs * s
 joined_size reads s h [] b j = ap length j ∙ omega arith
 joined_size reads s h (v ∷ vs) b j = omega (arith, ap length j.4, length-append j.0 j.1, h j.0 v j.2, joined_size reads s h vs j.1 j.3)
 
-joined_vast : {V : Type 0} (reads : List ℕ → V → Type 0) → ((b : List ℕ) (v : V) → reads b v → 2 ^ 64 ≤ length b) → (vs : List V) (b : List ℕ) → 0 < length vs → Joined (λ v t. reads t v) vs b → 2 ^ 64 ≤ length b
+joined_vast : {V : Type 0} (reads : List ℕ → V → Type 0) → ((b : List ℕ) (v : V) → reads b v → 2 ^ 64 ≤ length b) → (vs : List V) (b : List ℕ) → 0 < length vs
+    → Joined (λ v t. reads t v) vs b → 2 ^ 64 ≤ length b
 joined_vast reads h [] b l j = absurd (omega arith)
 joined_vast reads h (v ∷ vs) b l j = omega (arith, ap length j.4, length-append j.0 j.1, h j.0 v j.2)
 
@@ -71,19 +120,23 @@ known_size Unknown n = absurd (n refl)
 
 module _ {V : Type 0} (g : ReadGrammar V) (n : ℕ) where
   -- the encodings of n items have the size that they have together
-  pub run_encoding : (size : ItemSize) (t : ℕ) → IsReadItemSize g size → run_size n size ≡ Some t → (b : List ℕ) (vs : List V) → AreItems n g.reads b vs → length b ≡ t
+  pub run_encoding : (size : ItemSize) (t : ℕ) → IsReadItemSize g size → run_size n size ≡ Some t → (b : List ℕ) (vs : List V) → AreItems n g.reads b vs
+      → length b ≡ t
   run_encoding (Bytes s) t h e b vs r = joined_size g.reads s h vs b r.1 ∙ ap (λ k. k * s) r.0 ∙ (cond_some (nat_lt (n * s) (2 ^ 64)) (n * s) t e).1
   run_encoding Vast t h e b vs r = let z = vast_some n t (nat_lt 0 n) refl e in joined_none g.reads vs b (r.0 ∙ z.0) r.1 ∙ sym z.1
   run_encoding Unknown t h e b vs r = absurd (true≢false (sym (ap is_some e)))
 
-  run_vast : (size : ItemSize) → IsTrue (is_known size) → IsReadItemSize g size → run_size n size ≡ None → (b : List ℕ) (vs : List V) → AreItems n g.reads b vs → 2 ^ 64 ≤ length b
-  run_vast (Bytes s) k h e b vs r = let l = not_lt (n * s) (2 ^ 64) (cond_none (nat_lt (n * s) (2 ^ 64)) (n * s) e) in omega (arith, l, joined_size g.reads s h vs b r.1 ∙ ap (λ k. k * s) r.0)
+  run_vast : (size : ItemSize) → IsTrue (is_known size) → IsReadItemSize g size → run_size n size ≡ None → (b : List ℕ) (vs : List V) → AreItems n g.reads b vs
+      → 2 ^ 64 ≤ length b
+  run_vast (Bytes s) k h e b vs r = let l = not_lt (n * s) (2 ^ 64) (cond_none (nat_lt (n * s) (2 ^ 64)) (n * s) e) in
+      omega (arith, l, joined_size g.reads s h vs b r.1 ∙ ap (λ k. k * s) r.0)
   run_vast Vast k h e b vs r = let l = vast_none n (nat_lt 0 n) refl e in joined_vast g.reads h vs b (omega (arith, l, r.0)) r.1
   run_vast Unknown k h e b vs r = absurd (true≢false (sym k))
 
   -- ---- reading n items through a window
 
-  pub run_gives : (t : ℕ) → ((b : List ℕ) (vs : List V) → AreItems n g.reads b vs → length b ≡ t) → (old new window after : ReaderState) (vs : List V) → Windowed t old new window → Gives (AreItems n g.reads) window after vs → Gives (AreItems n g.reads) old new vs
+  pub run_gives : (t : ℕ) → ((b : List ℕ) (vs : List V) → AreItems n g.reads b vs → length b ≡ t) → (old new window after : ReaderState) (vs : List V)
+      → Windowed t old new window → Gives (AreItems n g.reads) window after vs → Gives (AreItems n g.reads) old new vs
   run_gives t sized old new window after vs w r = record {
     kept = w.takes.loses.kept;
     found = λ k.
@@ -95,32 +148,42 @@ module _ {V : Type 0} (g : ReadGrammar V) (n : ℕ) where
     place = loses_onward t old new w.takes.loses;
   }
 
-  pub run_placed : (size : ItemSize) (t : ℕ) → run_size n size ≡ Some t → (old new : ReaderState) (e : ReadError) → WindowReadRefused t (ItemsReadRefused n g) old new e → RunReadRefused n size g old new e
+  pub run_placed : (size : ItemSize) (t : ℕ) → run_size n size ≡ Some t → (old new : ReaderState) (e : ReadError)
+      → WindowReadRefused t (ItemsReadRefused n g) old new e → RunReadRefused n size g old new e
   run_placed (Bytes s) t h old new e w = rw h w
   run_placed Vast t h old new e w = rw h w
   run_placed Unknown t h old new e w = absurd (true≢false (sym (ap is_some h)))
 
   -- nothing is known of the size
-  pub run_each : (size : ItemSize) → size ≡ Unknown → IsReadItemSize g size → (old new : ReaderState) (e : ReadError) → ItemsReadRefused n g old new e → RunReadRefused n size g old new e
+  pub run_each : (size : ItemSize) → size ≡ Unknown → IsReadItemSize g size → (old new : ReaderState) (e : ReadError) → ItemsReadRefused n g old new e
+      → RunReadRefused n size g old new e
   run_each Unknown is dynamic old new e d = d dynamic
   run_each (Bytes s) is dynamic old new e d = absurd (cc)
   run_each Vast is dynamic old new e d = absurd (cc)
 
   stays_here : (s : ReaderState) → Stays s s
-  stays_here s = record { kept = record { lends = refl; never_fails = refl; counts_windows = refl; is_known = refl }; rest = λ t. refl; ready = omega arith; place = refl }
+  stays_here s = record {
+    kept = record { lends = refl; never_fails = refl; counts_windows = refl; is_known = refl };
+    rest = λ t. refl;
+    ready = omega arith;
+    place = refl;
+  }
 
   -- they are past `usize::MAX` together
-  pub run_long : (size : ItemSize) → IsTrue (is_known size) → run_size n size ≡ None → (s : ReaderState) (e : ReadError) (x : Bor (List ℕ)) → x.now ≡ past_usize → e ≡ reading.LengthEncodingOverflow x → RunReadRefused n size g s s e
+  pub run_long : (size : ItemSize) → IsTrue (is_known size) → run_size n size ≡ None → (s : ReaderState) (e : ReadError) (x : Bor (List ℕ)) → x.now
+      ≡ past_usize → e ≡ reading.LengthEncodingOverflow x → RunReadRefused n size g s s e
   run_long (Bytes k) known h s e x text is = rw h (rw is (stays_here s, text))
   run_long Vast known h s e x text is = rw h (rw is (stays_here s, text))
   run_long Unknown known h s e x text is = absurd (true≢false (sym known))
 
-  pub too_long : (size : ItemSize) → IsTrue (is_known size) → IsReadItemSize g size → run_size n size ≡ None → (borrow : ℕ) (s : ReaderState) (e : ReadError) (x : _) → e ≡ reading.LengthEncodingOverflow x → ReadRefused (AreItems n g.reads) borrow false s s e
+  pub too_long : (size : ItemSize) → IsTrue (is_known size) → IsReadItemSize g size → run_size n size ≡ None
+      → (borrow : ℕ) (s : ReaderState) (e : ReadError) (x : _) → e ≡ reading.LengthEncodingOverflow x → ReadRefused (AreItems n g.reads) borrow false s s e
   too_long size known h none borrow s e x is = rw is (record {
     kept = (stays_here s).kept;
     left = λ t. record { front = []; joins = refl };
     place = λ t. still s;
-    due = λ a. let f = a.front.found in let l = run_vast size known h none f.encoding a.front.value f.is_read in absurd (omega (arith, l, a.fits, ap length f.joins, length-append f.encoding a.front.rest));
+    due = λ a. let f = a.front.found in let l = run_vast size known h none f.encoding a.front.value f.is_read in
+        absurd (omega (arith, l, a.fits, ap length f.joins, length-append f.encoding a.front.rest));
   })
 
 -- what is known of the size of items is what is announced of it
@@ -130,7 +193,8 @@ encoding_size {V} g statics = by g.meta statics refl where
   by Dynamic s e = e
   by (Static k z) s e = s.0
 
-pub value_size : {X V : Type 0} (is_valid : X → Type 0) (model : X → V) (g : WriteGrammar V) (m : TypeMeta) → IsWriteStatic is_valid model g.can g.size m → IsWriteItemSize g (item_size m)
+pub value_size : {X V : Type 0} (is_valid : X → Type 0) (model : X → V) (g : WriteGrammar V) (m : TypeMeta) → IsWriteStatic is_valid model g.can g.size m
+    → IsWriteItemSize g (item_size m)
 value_size is_valid model g Dynamic s = tt
 value_size is_valid model g (Static k z) s = s.1
 
@@ -140,7 +204,8 @@ each_total : {V : Type 0} (g : WriteGrammar V) (s : ℕ) → ((v : V) → g.can 
 each_total g s h [] c = omega arith
 each_total g s h (v ∷ vs) c = omega (arith, h v c.0, each_total g s h vs c.1)
 
-vast_total : {V : Type 0} (g : WriteGrammar V) → ((v : V) → g.can v → 2 ^ 64 ≤ g.size v) → (vs : List V) → 0 < length vs → Each g.can vs → 2 ^ 64 ≤ total g.size vs
+vast_total : {V : Type 0} (g : WriteGrammar V) → ((v : V) → g.can v → 2 ^ 64 ≤ g.size v) → (vs : List V) → 0 < length vs → Each g.can vs → 2 ^ 64
+    ≤ total g.size vs
 vast_total g h [] l c = absurd (omega arith)
 vast_total g h (v ∷ vs) l c = omega (arith, h v c.0)
 
@@ -155,26 +220,32 @@ module _ {V : Type 0} (g : WriteGrammar V) (n : ℕ) (vs : List V) (many : lengt
   run_total Unknown t h e c = absurd (true≢false (sym (ap is_some e)))
 
   run_over : (size : ItemSize) → IsTrue (is_known size) → IsWriteItemSize g size → run_size n size ≡ None → Each g.can vs → 2 ^ 64 ≤ total g.size vs
-  run_over (Bytes s) k h e c = let l = not_lt (n * s) (2 ^ 64) (cond_none (nat_lt (n * s) (2 ^ 64)) (n * s) e) in omega (arith, l, each_total g s h vs c ∙ ap (λ k. k * s) many)
+  run_over (Bytes s) k h e c = let l = not_lt (n * s) (2 ^ 64) (cond_none (nat_lt (n * s) (2 ^ 64)) (n * s) e) in
+      omega (arith, l, each_total g s h vs c ∙ ap (λ k. k * s) many)
   run_over Vast k h e c = let l = vast_none n (nat_lt 0 n) refl e in vast_total g h vs (omega (arith, l, many)) c
   run_over Unknown k h e c = absurd (true≢false (sym k))
 
   behind_by : (before : ℕ) (r : Option ℕ) (w : ℕ) → behind_size before r ≡ Some w → (t : ℕ) × (r ≡ Some t) × (w ≡ before + t) × (w < 2 ^ 64)
   behind_by before None w e = absurd (true≢false (sym (ap is_some e)))
-  behind_by before (Some t) w e = let s = cond_some (nat_lt (before + t) (2 ^ 64)) (before + t) w e in let l = ltb-true (before + t) (2 ^ 64) s.0 in let is = s.1 in (t, refl, sym is, omega (arith, l, is))
+  behind_by before (Some t) w e = let s = cond_some (nat_lt (before + t) (2 ^ 64)) (before + t) w e in let l = ltb-true (before + t) (2 ^ 64) s.0 in let is =
+      s.1 in (t, refl, sym is, omega (arith, l, is))
 
-  behind_over : (before sum : ℕ) (r : Option ℕ) → ((t : ℕ) → r ≡ Some t → sum ≡ t) → (r ≡ None → 2 ^ 64 ≤ sum) → behind_size before r ≡ None → 2 ^ 64 ≤ before + sum
+  behind_over : (before sum : ℕ) (r : Option ℕ) → ((t : ℕ) → r ≡ Some t → sum ≡ t) → (r ≡ None → 2 ^ 64 ≤ sum) → behind_size before r ≡ None → 2 ^ 64
+      ≤ before + sum
   behind_over before sum None some none e = let l = none refl in omega (arith, l)
-  behind_over before sum (Some t) some none e = let l = not_lt (before + t) (2 ^ 64) (cond_none (nat_lt (before + t) (2 ^ 64)) (before + t) e) in omega (arith, l, some t refl)
+  behind_over before sum (Some t) some none e = let l = not_lt (before + t) (2 ^ 64) (cond_none (nat_lt (before + t) (2 ^ 64)) (before + t) e) in
+      omega (arith, l, some t refl)
 
   module _ (s : Scheme) (count : ℕ) (size : ItemSize) (sized : IsWriteItemSize g size) (before : ℕ) (encoding : before ≡ encoding_len (s.encoding n)) where
     -- the list has the size that is asked room for
-    pub list_size : (w : ℕ) → behind_size before (run_size n size) ≡ Some w → ((parts_write s count g).can vs → (parts_write s count g).size vs ≡ w) × (w < 2 ^ 64)
+    pub list_size : (w : ℕ) → behind_size before (run_size n size) ≡ Some w → ((parts_write s count g).can vs → (parts_write s count g).size vs ≡ w)
+        × (w < 2 ^ 64)
     list_size w e =
         let b = behind_by before (run_size n size) w e in
         ((λ c. let t = run_total size b.0 sized b.1 c.1 in omega (arith, ap (λ k. encoding_len (s.encoding k)) many, encoding, t, b.2)), b.3)
 
-    pub list_over : IsTrue (is_known size) → behind_size before (run_size n size) ≡ None → (parts_write s count g).can vs → 2 ^ 64 ≤ (parts_write s count g).size vs
+    pub list_over : IsTrue (is_known size) → behind_size before (run_size n size) ≡ None → (parts_write s count g).can vs → 2 ^ 64
+        ≤ (parts_write s count g).size vs
     list_over k e c =
         let l = behind_over before (total g.size vs) (run_size n size) (λ t q. run_total size t sized q c.1) (λ q. run_over size k sized q c.1) e in
         omega (arith, ap (λ k. encoding_len (s.encoding k)) many, encoding, l)
@@ -188,7 +259,8 @@ module _ {S K V : Type 0} {put : S → List ℕ → S} {room : S → ℕ} (g : W
   faultless_due able new _ f h = h
 
   -- nothing was written of what can't be written within `usize`
-  pub unfit_unwritten : {X : Type 0} {is_valid : X → Type 0} {model : X → V} → WriterLaws put room → WriteLaws is_valid model g → (old : WriterState put room K) (e : WriteError) → IsOfValueAlone e → (g.can v → 2 ^ 64 ≤ g.size v) → WriteRefused g old old v e
+  pub unfit_unwritten : {X : Type 0} {is_valid : X → Type 0} {model : X → V} → WriterLaws put room → WriteLaws is_valid model g
+      → (old : WriterState put room K) (e : WriteError) → IsOfValueAlone e → (g.can v → 2 ^ 64 ≤ g.size v) → WriteRefused g old old v e
   unfit_unwritten laws l old e f over = record {
     same = record { kept = refl; never_fails = refl };
     began = λ c. let t = l.has_encoding v c in record { front = []; more = t.0; is_encoding = t.1; within = omega arith; added = sym (laws.nil old.content) };
@@ -210,23 +282,28 @@ module _ {S K V : Type 0} {put : S → List ℕ → S} {room : S → ℕ} (g : W
   due_faultless able new _ s d = tt
 
 module _ {S K V : Type 0} {put : S → List ℕ → S} {room : S → ℕ} (g : WriteGrammar V) (v : V) (n : ℕ) (sized : (g.can v → g.size v ≡ n) × (n < 2 ^ 64))
-    (old made below after : WriterState put room K) (name name' : GName) (left left' : ℕ) (e : WriteError) (has : HasRoom n old made) (same : below ≡ made) (all : left ≡ n)
+    (old made below after : WriterState put room K) (name name' : GName) (left left' : ℕ) (e : WriteError) (has : HasRoom n old made) (same : below ≡ made)
+    (all : left ≡ n)
     (u : WriteRefused g (window_of below name left) (window_of after name' left') v e) where
   -- a window of the right size refuses nothing that can be written
   window_cannot : g.can v → ⊥
   window_cannot c =
       let content = has.unmoved.content in
       let rooms = ap (λ s. room s.content) same ∙ ap room content in
-      never_due g v (IsAble g (window_of below name left) v) (window_of after name' left') e refl u.due (c, let s = sized.0 c in let f = has.fits in omega (arith, s, all, f, rooms, sized.1))
+      never_due g v (IsAble g (window_of below name left) v) (window_of after name' left') e refl u.due
+      (c, let s = sized.0 c in let f = has.fits in omega (arith, s, all, f, rooms, sized.1))
 
   pub window_unwritten : WriteRefused g old after v e
   window_unwritten = record {
-    same = same_trans (subst (λ s. IsSameWriter old s) (sym same) has.unmoved.same) (record { kept = ap (λ k. k.target) u.same.kept; never_fails = ap (λ k. k.never_fails) u.same.kept });
+    same = same_trans (subst (λ s. IsSameWriter old s) (sym same) has.unmoved.same)
+        (record { kept = ap (λ k. k.target) u.same.kept; never_fails = ap (λ k. k.never_fails) u.same.kept });
     began = λ c. absurd (window_cannot c);
-    due = faultless_due g v (IsAble g old v) after e (due_faultless g v (IsAble g (window_of below name left) v) (window_of after name' left') e refl u.due) (λ a. window_cannot a.0);
+    due = faultless_due g v (IsAble g old v) after e (due_faultless g v (IsAble g (window_of below name left) v) (window_of after name' left') e refl u.due)
+        (λ a. window_cannot a.0);
   }
 
-  pub window_stopped : {k : WriteGrammar V} (s : Stopped g (window_of below name left) (window_of after name' left') v e) → ((g.can v → ⊥) → (inside : ℕ) (added : List ℕ) → g.refused v inside added e → k.refused v (room old.content) added e) → Stopped k old after v e
+  pub window_stopped : {k : WriteGrammar V} (s : Stopped g (window_of below name left) (window_of after name' left') v e)
+      → ((g.can v → ⊥) → (inside : ℕ) (added : List ℕ) → g.refused v inside added e → k.refused v (room old.content) added e) → Stopped k old after v e
   window_stopped s so =
       let content : below.content ≡ old.content = ap (λ s. s.content) same ∙ has.unmoved.content in
       record {
@@ -238,18 +315,21 @@ module _ {S K V : Type 0} {put : S → List ℕ → S} {room : S → ℕ} (g : W
 
 -- ---- where a list that is written through a window stops
 
-pub whole_is : {V : Type 0} (s : Scheme) (size : ItemSize) (g : WriteGrammar V) (vs : List V) (room : ℕ) (added : List ℕ) (e : WriteError) → IsTrue (is_known size) → WholeWriteRefused s size g vs room added e → ListWriteRefused s size g vs room added e
+pub whole_is : {V : Type 0} (s : Scheme) (size : ItemSize) (g : WriteGrammar V) (vs : List V) (room : ℕ) (added : List ℕ) (e : WriteError)
+    → IsTrue (is_known size) → WholeWriteRefused s size g vs room added e → ListWriteRefused s size g vs room added e
 whole_is s Unknown g vs room added e k x = absurd (true≢false (sym k))
 whole_is s (Bytes z) g vs room added e k x = x
 whole_is s Vast g vs room added e k x = x
 
-unknown_is : {V : Type 0} (s : Scheme) (size : ItemSize) (g : WriteGrammar V) (vs : List V) (room : ℕ) (added : List ℕ) (e : WriteError) → size ≡ Unknown → PartsWriteRefused s g vs room added e → ListWriteRefused s size g vs room added e
+unknown_is : {V : Type 0} (s : Scheme) (size : ItemSize) (g : WriteGrammar V) (vs : List V) (room : ℕ) (added : List ℕ) (e : WriteError) → size ≡ Unknown
+    → PartsWriteRefused s g vs room added e → ListWriteRefused s size g vs room added e
 unknown_is s Unknown g vs room added e is x = x
 unknown_is s (Bytes z) g vs room added e is x = absurd (cc)
 unknown_is s Vast g vs room added e is x = absurd (cc)
 
 -- the bytes of as many items, by what is known of their number and of the length
-pub bytes_are : (s : Scheme) (size : ItemSize) (m n l : ℕ) (o : Option ℕ) → m ≡ n → l ≡ encoding_len (s.encoding n) → behind_size l (run_size n size) ≡ o → list_bytes s size m ≡ o
+pub bytes_are : (s : Scheme) (size : ItemSize) (m n l : ℕ) (o : Option ℕ) → m ≡ n → l ≡ encoding_len (s.encoding n) → behind_size l (run_size n size) ≡ o
+    → list_bytes s size m ≡ o
 bytes_are s size m n l o e f h = ap (list_bytes s size) e ∙ ap (λ k. behind_size k (run_size n size)) (sym f) ∙ h
 
 pub text_at : (s : Scheme) (m n : ℕ) → m ≡ n → HasEncoding s n → HasEncoding s m
@@ -259,13 +339,15 @@ pub textless_at : (s : Scheme) (m n : ℕ) (e : WriteError) → m ≡ n → Leng
 textless_at s m n e is t = let P : ℕ → Type 0 = λ k. LengthSizeRefused s k e in subst P (sym is) t
 
 -- what goes through one window of so many bytes was refused so
-pub span_is : {V : Type 0} (s : Scheme) (count : ℕ) (size : ItemSize) (g : WriteGrammar V) (vs : List V) → HasEncoding s (length vs) → (bytes : Option ℕ) → list_bytes s size (length vs) ≡ bytes → (room : ℕ) (added : List ℕ) (e : WriteError)
+pub span_is : {V : Type 0} (s : Scheme) (count : ℕ) (size : ItemSize) (g : WriteGrammar V) (vs : List V) → HasEncoding s (length vs) → (bytes : Option ℕ)
+    → list_bytes s size (length vs) ≡ bytes → (room : ℕ) (added : List ℕ) (e : WriteError)
     → IsTrue (is_known size) → SpanWriteRefused bytes (InnerWriteRefused s g vs) room added e → (list_write_of s count size g).refused vs room added e
 span_is s count size g vs has bytes is room added e k x =
     let P : Option ℕ → Type 0 = λ o. SpanWriteRefused o (InnerWriteRefused s g vs) room added e in
     whole_is s size g vs room added e k (inr (has, subst P (sym is) x))
 
-module _ {S K V : Type 0} {put : S → List ℕ → S} {room : S → ℕ} (s : Scheme) (count : ℕ) (size : ItemSize) (g : WriteGrammar V) (vs : List V) {old new : WriterState put room K} where
+module _ {S K V : Type 0} {put : S → List ℕ → S} {room : S → ℕ} (s : Scheme) (count : ℕ) (size : ItemSize) (g : WriteGrammar V) (vs : List V)
+    {old new : WriterState put room K} where
   pub whole_wrote : Wrote (parts_write s count g) old new vs → Wrote (list_write_of s count size g) old new vs
   whole_wrote r = wrote_map (parts_write s count g) (list_write_of s count size g) vs vs (λ c. c) refl (λ b w. w) r
 
@@ -276,16 +358,19 @@ module _ {S K V : Type 0} {put : S → List ℕ → S} {room : S → ℕ} (s : S
   parts_halted {e} is h = stopped_map (parts_write s count g) (list_write_of s count size g) vs vs (λ a r. unknown_is s size g vs (room old.content) a e is r) h
 
   -- its length has no encoding
-  pub textless_halted : {e : WriteError} → WriterLaws put room → IsTrue (is_known size) → new.content ≡ old.content → LengthSizeRefused s (length vs) e → Stopped (list_write_of s count size g) old new vs e
+  pub textless_halted : {e : WriteError} → WriterLaws put room → IsTrue (is_known size) → new.content ≡ old.content → LengthSizeRefused s (length vs) e
+      → Stopped (list_write_of s count size g) old new vs e
   textless_halted {e} laws k same r = nothing_stopped laws old new e same (whole_is s size g vs (room old.content) [] e k (inl (refl, r)))
 
   module _ (has : HasEncoding s (length vs)) (bytes : Option ℕ) (is : list_bytes s size (length vs) ≡ bytes) where
     -- it was refused, and nothing was added
-    pub span_halted : {e : WriteError} → WriterLaws put room → IsTrue (is_known size) → new.content ≡ old.content → SpanWriteRefused bytes (InnerWriteRefused s g vs) (room old.content) [] e → Stopped (list_write_of s count size g) old new vs e
+    pub span_halted : {e : WriteError} → WriterLaws put room → IsTrue (is_known size) → new.content ≡ old.content
+        → SpanWriteRefused bytes (InnerWriteRefused s g vs) (room old.content) [] e → Stopped (list_write_of s count size g) old new vs e
     span_halted {e} laws k same x = nothing_stopped laws old new e same (span_is s count size g vs has bytes is (room old.content) [] e k x)
 
     -- the room for it was refused
-    pub whole_room_halted : WriterLaws put room → IsTrue (is_known size) → (n : ℕ) → bytes ≡ Some n → (e : IoWriteError) → BytesWriteRefused n old new e → Stopped (list_write_of s count size g) old new vs (writing.Io e)
+    pub whole_room_halted : WriterLaws put room → IsTrue (is_known size) → (n : ℕ) → bytes ≡ Some n → (e : IoWriteError) → BytesWriteRefused n old new e
+        → Stopped (list_write_of s count size g) old new vs (writing.Io e)
     whole_room_halted laws k n some e d =
         let P : Option ℕ → Type 0 = λ o. SpanWriteRefused o (InnerWriteRefused s g vs) (room old.content) [] (writing.Io e) in
         span_halted laws k d.0.content (subst P (sym some) (inl (piece_denied n old new e d)))

@@ -29,7 +29,8 @@ module _ {old mid : ReaderState} {bytes : List ℕ} (stays : Stays old mid) (sho
     kept = stays.kept;
     left = λ t. record { front = []; joins = sym (stays.rest t) };
     place = stays_onward old mid stays;
-    due = λ a. none a.front.value (subst (λ b. BeginsShort b a.front.value) (sym (shown.1 a.is_known)) (short_shown old.rest a.front.value (accepts_short old a)));
+    due = λ a. none a.front.value (subst (λ b. BeginsShort b a.front.value) (sym (shown.1 a.is_known))
+        (short_shown old.rest a.front.value (accepts_short old a)));
   }
 
   -- the bytes that were shown begin with n, and then it was consumed
@@ -37,12 +38,14 @@ module _ {old mid : ReaderState} {bytes : List ℕ} (stays : Stays old mid) (sho
   short_given new n b l = takes_gives short_read.reads (length (short_encoding n)) old new (short_encoding n) n record {
     loses = record {
       kept = kept_trans stays.kept l.kept;
-      rest = λ t. subst (λ r. (length (short_encoding n) ≤ length r) × (r ≡ take (length (short_encoding n)) r ++ new.rest)) (stays.rest t) (l.rest (known_kept stays.kept t));
+      rest = λ t. subst (λ r. (length (short_encoding n) ≤ length r) × (r ≡ take (length (short_encoding n)) r ++ new.rest)) (stays.rest t)
+          (l.rest (known_kept stays.kept t));
       ready = let a = stays.ready in let b = l.ready in omega arith;
       place = l.place ∙ ap (onward (length (short_encoding n))) stays.place;
     };
     size = refl;
-    front = λ t. let w = short_whole old.rest n (subst (λ r. BeginsShort r n) (shown.1 t) b) in sym (ap (take (length (short_encoding n))) w.1.1 ∙ take-append_seam (short_encoding n) w.1.0);
+    front = λ t. let w = short_whole old.rest n (subst (λ r. BeginsShort r n) (shown.1 t) b) in
+        sym (ap (take (length (short_encoding n))) w.1.1 ∙ take-append_seam (short_encoding n) w.1.0);
   } (b.0, refl)
 
 -- ---- writing
@@ -52,12 +55,16 @@ length_sized n small = ((short_encoding n, short_has n small), sym (ap encoding_
 
 module _ {S K : Type 0} {put : S → List ℕ → S} {room : S → ℕ} (n : ℕ) (small : n < 2 ^ 16) {old new : WriterState put room K} where
   pub length_wrote : Added (short_encoding n) old new → Wrote (length_write short_scheme) old new n
-  length_wrote d = encoding_wrote (length_write short_scheme) n (short_encoding n) (short_has n small) (length_sized n small).1 old new (length_sized n small).0 d
+  length_wrote d = encoding_wrote (length_write short_scheme) n (short_encoding n) (short_has n small) (length_sized n small).1 old new
+      (length_sized n small).0 d
 
-  pub length_unwritten : WriterLaws put room → (e : IoWriteError) → BytesWriteRefused (length (short_encoding n)) old new e → WriteRefused (length_write short_scheme) old new n (writing.Io e)
+  pub length_unwritten : WriterLaws put room → (e : IoWriteError) → BytesWriteRefused (length (short_encoding n)) old new e
+      → WriteRefused (length_write short_scheme) old new n (writing.Io e)
   length_unwritten laws e d = encoding_unwritten (length_write short_scheme) n (short_encoding n) (short_has n small) (length_sized n small).1 laws old new e d
 
-  pub length_halted : WriterLaws put room → (e : IoWriteError) → BytesWriteRefused (length (short_encoding n)) old new e → Stopped (length_write short_scheme) old new n (writing.Io e)
+  pub length_halted : WriterLaws put room → (e : IoWriteError) → BytesWriteRefused (length (short_encoding n)) old new e
+      → Stopped (length_write short_scheme) old new n (writing.Io e)
   length_halted laws e d =
       let size = (length_sized n small).1 in
-      encoding_stopped (length_write short_scheme) n (short_encoding n) (short_has n small) size laws old new e d (λ x. inl ((short_encoding n, short_has n small), subst (λ m. PieceWriteRefused m (room old.content) [] (writing.Io e)) size x))
+      encoding_stopped (length_write short_scheme) n (short_encoding n) (short_has n small) size laws old new e d
+      (λ x. inl ((short_encoding n, short_has n small), subst (λ m. PieceWriteRefused m (room old.content) [] (writing.Io e)) size x))

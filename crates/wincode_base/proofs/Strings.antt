@@ -1,5 +1,40 @@
 -- What characters and texts read and write.
-use Rattle.std.proofs.Common.{◌≡◌, ◌∙◌, sym, ap, subst, ℕ, ◌+◌, ◌-◌, ◌<◌, ◌≤◌, ◌⊎◌, inl, inr, Bool, true, false, cond, nat_lt, ◌/◌, ◌^◌, ◌&&◌, List, [], ◌∷◌, ◌++◌, length, take, refl, arith, append_assoc, append-nil, length-append, length-take, IsTrue}
+use Rattle.std.proofs.Common.{
+  ◌≡◌,
+  ◌∙◌,
+  sym,
+  ap,
+  subst,
+  ℕ,
+  ◌+◌,
+  ◌-◌,
+  ◌<◌,
+  ◌≤◌,
+  ◌⊎◌,
+  inl,
+  inr,
+  Bool,
+  true,
+  false,
+  cond,
+  nat_lt,
+  ◌/◌,
+  ◌^◌,
+  ◌&&◌,
+  List,
+  [],
+  ◌∷◌,
+  ◌++◌,
+  length,
+  take,
+  refl,
+  arith,
+  append_assoc,
+  append-nil,
+  length-append,
+  length-take,
+  IsTrue,
+}
 use Rattle.std.specs.Prelude.{IsUtf8, encode_utf8}
 use Rattle.std.specs.Char.{IsScalar, len_utf8}
 use Rattle.std.proofs.Math.Seq.{take-append_seam}
@@ -16,7 +51,18 @@ use Rattle.wincode_base.specs.LeafLaws.{same_front}
 use Rattle.wincode_io.specs.Numbers.{le}
 use Rattle.wincode_io.specs.NumberLaws.{length-le}
 use Rattle.wincode_base.specs.Pairs.{pair_write}
-use Rattle.wincode_base.specs.Strings.{char_read, announced, CharReadRefusedFor, CharReadRefused, str_read, str_write, StrWriteRefused, IsStrBytes, StrBytesReadRefused, char_write}
+use Rattle.wincode_base.specs.Strings.{
+  char_read,
+  announced,
+  CharReadRefusedFor,
+  CharReadRefused,
+  str_read,
+  str_write,
+  StrWriteRefused,
+  IsStrBytes,
+  StrBytesReadRefused,
+  char_write,
+}
 use Rattle.wincode_base.specs.StringLaws.{str_then, then_encoding}
 use Rattle.wincode_base.specs.Sequences.{Then, refuses_map, then_first, then_second, gives_map, then_gives}
 use Rattle.wincode_base.specs.WriteSequences as sequence
@@ -63,11 +109,13 @@ two c l h = passed (nat_lt c 128) _ _ (le-ltb c 128 l) ∙ taken (nat_lt c 2048)
 
 three : (c : ℕ) → 2048 ≤ c → c < 65536 → encode c ≡ (224 + c / 4096) ∷ next (c / 64) ∷ next c ∷ []
 unfolding encode
-three c l h = passed (nat_lt c 128) _ _ (le-ltb c 128 (omega arith)) ∙ passed (nat_lt c 2048) _ _ (le-ltb c 2048 l) ∙ taken (nat_lt c 65536) _ _ (lt-ltb c 65536 h)
+three c l h = passed (nat_lt c 128) _ _ (le-ltb c 128 (omega arith)) ∙ passed (nat_lt c 2048) _ _ (le-ltb c 2048 l)
+    ∙ taken (nat_lt c 65536) _ _ (lt-ltb c 65536 h)
 
 four : (c : ℕ) → 65536 ≤ c → encode c ≡ (240 + c / 262144) ∷ next (c / 4096) ∷ next (c / 64) ∷ next c ∷ []
 unfolding encode
-four c l = passed (nat_lt c 128) _ _ (le-ltb c 128 (omega arith)) ∙ passed (nat_lt c 2048) _ _ (le-ltb c 2048 (omega arith)) ∙ passed (nat_lt c 65536) _ _ (le-ltb c 65536 l)
+four c l = passed (nat_lt c 128) _ _ (le-ltb c 128 (omega arith)) ∙ passed (nat_lt c 2048) _ _ (le-ltb c 2048 (omega arith))
+    ∙ passed (nat_lt c 65536) _ _ (le-ltb c 65536 l)
 
 announced_two : (a : ℕ) → 194 ≤ a → a < 224 → announced a ≡ 2
 announced_two a l h = grind arith
@@ -90,15 +138,34 @@ led_by c s = by (order c 128) (order c 2048) (order c 65536)
   where
     by : (c < 128) ⊎ (128 ≤ c) → (c < 2048) ⊎ (2048 ≤ c) → (c < 65536) ⊎ (65536 ≤ c) → Led c
     by (inl h) _ _ = let e = encode_ascii c h in record { lead = c; more = []; is = e; size = announced_one c h ∙ sym (ap length e) }
-    by (inr l) (inl h) _ = let e = two c l h in record { lead = 192 + c / 64; more = next c ∷ []; is = e; size = announced_two (192 + c / 64) (omega arith) (omega arith) ∙ sym (ap length e) }
-    by (inr _) (inr l) (inl h) = let e = three c l h in record { lead = 224 + c / 4096; more = next (c / 64) ∷ next c ∷ []; is = e; size = announced_three (224 + c / 4096) (omega arith) (omega arith) ∙ sym (ap length e) }
+    by (inr l) (inl h) _ = let e = two c l h in record {
+      lead = 192 + c / 64;
+      more = next c ∷ [];
+      is = e;
+      size =
+          announced_two (192 + c / 64) (omega arith) (omega arith) ∙ sym (ap length e);
+    }
+    by (inr _) (inr l) (inl h) = let e = three c l h in record {
+      lead = 224 + c / 4096;
+      more = next (c / 64) ∷ next c ∷ [];
+      is = e;
+      size =
+          announced_three (224 + c / 4096) (omega arith) (omega arith) ∙ sym (ap length e);
+    }
     by (inr _) (inr _) (inr l) =
         let e = four c l in
         let top = below c (scalar_cases c s) in
-        record { lead = 240 + c / 262144; more = next (c / 4096) ∷ next (c / 64) ∷ next c ∷ []; is = e; size = announced_four (240 + c / 262144) (omega arith) (omega arith) ∙ sym (ap length e) }
+        record {
+          lead = 240 + c / 262144;
+          more = next (c / 4096) ∷ next (c / 64) ∷ next c ∷ [];
+          is = e;
+          size =
+              announced_four (240 + c / 262144) (omega arith) (omega arith) ∙ sym (ap length e);
+        }
 
 -- where a character is in front, its first byte announces it
-same_lead : (c : ℕ) (s : IsScalar c) (x more rest : List ℕ) (lead : ℕ) → rest ≡ encode_utf8 c ++ x → rest ≡ lead ∷ more → announced lead ≡ length (encode_utf8 c)
+same_lead : (c : ℕ) (s : IsScalar c) (x more rest : List ℕ) (lead : ℕ) → rest ≡ encode_utf8 c ++ x → rest ≡ lead ∷ more → announced lead
+    ≡ length (encode_utf8 c)
 same_lead c s x more rest lead e p =
     let l = led_by c s in
     let fronts : lead ∷ more ≡ l.lead ∷ (l.more ++ x) = sym p ∙ e ∙ ap (λ t. t ++ x) l.is in
@@ -118,7 +185,8 @@ accepts_lead old lead a p =
     let shown = p a.is_known in
     let size = same_lead c f.is_read.0 a.front.rest shown.0 old.rest lead whole shown.1 in
     let l = led_by c f.is_read.0 in
-    let front : take (announced lead) old.rest ≡ encode_utf8 c = ap (λ n. take n old.rest) size ∙ ap (take (length (encode_utf8 c))) whole ∙ take-append_seam (encode_utf8 c) a.front.rest in
+    let front : take (announced lead) old.rest ≡ encode_utf8 c =
+    ap (λ n. take n old.rest) size ∙ ap (take (length (encode_utf8 c))) whole ∙ take-append_seam (encode_utf8 c) a.front.rest in
     record {
       some = omega (arith, size, ap length l.is);
       within = omega (arith, size, ap length whole, length-append (encode_utf8 c) a.front.rest);
@@ -131,7 +199,8 @@ accepts_one old a =
     let l = led_by a.front.value f.is_read.0 in
     omega (arith, ap length (f.joins ∙ ap (λ t. t ++ a.front.rest) (f.is_read.1 ∙ l.is)))
 
-short_due : (n : ℕ) (old new : ReaderState) (e : IoReadError) → (Accepts char_read.reads old → n ≤ length old.rest) → ReadRefusedFor (IsShort n old) ⊥ n new e → ReaderDue (Accepts char_read.reads old) 0 new e
+short_due : (n : ℕ) (old new : ReaderState) (e : IoReadError) → (Accepts char_read.reads old → n ≤ length old.rest) → ReadRefusedFor (IsShort n old) ⊥ n new e
+    → ReaderDue (Accepts char_read.reads old) 0 new e
 short_due n old new (reader.ReadSizeLimit m) enough d = λ a. let h = d.0 a.is_known in let k = enough a in absurd (omega arith)
 short_due n old new reader.UnsupportedZeroCopy enough d = absurd d
 short_due n old new reader.OutOfMemory enough d = unsteady new d
@@ -158,14 +227,16 @@ pub char_denied : (old new : ReaderState) (e : ReadError) → PieceReadRefused 1
 char_denied old new (reading.Io e) d = (d.0, inl d.1)
 char_denied old new _ d = absurd d
 
-short_before : (n : ℕ) {old mid : ReaderState} → Stays old mid → (new : ReaderState) (e : IoReadError) → ReadRefusedFor (IsShort n mid) ⊥ n new e → ReadRefusedFor (IsShort n old) ⊥ n new e
+short_before : (n : ℕ) {old mid : ReaderState} → Stays old mid → (new : ReaderState) (e : IoReadError) → ReadRefusedFor (IsShort n mid) ⊥ n new e
+    → ReadRefusedFor (IsShort n old) ⊥ n new e
 short_before n {old} {mid} s new (reader.ReadSizeLimit m) d = (λ told. subst (λ r. length r < n) (s.rest told) (d.0 (known_kept s.kept told)), d.1)
 short_before n s new reader.UnsupportedZeroCopy d = d
 short_before n s new reader.OutOfMemory d = d
 short_before n s new (reader.Io e) d = d
 
 -- too few are left of the bytes that the first announces
-pub char_cut : (old mid new : ReaderState) (lead n : ℕ) (e : IoReadError) → n ≡ announced lead → Stays old mid → IsPeeked old lead → Stays mid new → ReadRefusedFor (IsShort n mid) ⊥ n new e → CharReadRefused old new (reading.Io e)
+pub char_cut : (old mid new : ReaderState) (lead n : ℕ) (e : IoReadError) → n ≡ announced lead → Stays old mid → IsPeeked old lead → Stays mid new
+    → ReadRefusedFor (IsShort n mid) ⊥ n new e → CharReadRefused old new (reading.Io e)
 char_cut old mid new lead n e is s p t d =
     let P : ℕ → Type 0 = λ k. ReadRefusedFor (IsShort k old) ⊥ k new e in
     (stays_trans s t, inr (lead, p, subst P is (short_before n s new e d)))
@@ -177,7 +248,8 @@ take_within : (n : ℕ) (xs bytes : List ℕ) → bytes ≡ take n xs → length
 take_within n xs bytes e size = omega (arith, ap length e, length-take n xs)
 
 -- the bytes that the first announces are not UTF-8
-pub char_not : (old mid new : ReaderState) (lead n : ℕ) (bytes : List ℕ) (u : Utf8Error) → n ≡ announced lead → Stays old mid → IsPeeked old lead → Stays mid new → length bytes ≡ n → IsShown n mid bytes → IsUtf8Fault bytes u
+pub char_not : (old mid new : ReaderState) (lead n : ℕ) (bytes : List ℕ) (u : Utf8Error) → n ≡ announced lead → Stays old mid → IsPeeked old lead
+    → Stays mid new → length bytes ≡ n → IsShown n mid bytes → IsUtf8Fault bytes u
     → CharReadRefused old new (reading.InvalidUtf8Encoding u)
 char_not old mid new lead n bytes u is s p t size shown not =
     let P : ℕ → Type 0 = λ k. (k ≤ length old.rest) × IsUtf8Fault (take k old.rest) u in
@@ -199,7 +271,8 @@ none_more xs [] e = append-nil xs
 none_more xs (y ∷ ys) e = absurd (omega (arith, e, length-append xs (y ∷ ys)))
 
 -- a character was shown, and then consumed
-pub char_gives : (old mid shown_by new : ReaderState) (lead n c : ℕ) (bytes more : List ℕ) → n ≡ announced lead → Stays old mid → IsPeeked old lead → Stays mid shown_by → length bytes ≡ n → IsShown n mid bytes → IsUtf8 bytes
+pub char_gives : (old mid shown_by new : ReaderState) (lead n c : ℕ) (bytes more : List ℕ) → n ≡ announced lead → Stays old mid → IsPeeked old lead
+    → Stays mid shown_by → length bytes ≡ n → IsShown n mid bytes → IsUtf8 bytes
     → bytes ≡ encode_utf8 c ++ more → Loses n shown_by new → Gives char_read.reads old new c
 char_gives old mid shown_by new lead n c bytes more is s p t size shown u e l =
     let two = stays_trans s t in
@@ -209,7 +282,8 @@ char_gives old mid shown_by new lead n c bytes more is s p t size shown u e l =
       found = λ told.
           let front = shown_before n bytes s shown told in
           let rest : shown_by.rest ≡ old.rest = two.rest told in
-          let split : old.rest ≡ bytes ++ new.rest = sym rest ∙ (l.rest (known_kept two.kept told)).1 ∙ ap (λ r. take n r ++ new.rest) rest ∙ ap (λ b. b ++ new.rest) (sym front) in
+          let split : old.rest ≡ bytes ++ new.rest = sym rest ∙ (l.rest (known_kept two.kept told)).1 ∙ ap (λ r. take n r ++ new.rest) rest
+          ∙ ap (λ b. b ++ new.rest) (sym front) in
           let whole : old.rest ≡ encode_utf8 c ++ (more ++ new.rest) = split ∙ ap (λ b. b ++ new.rest) e ∙ append_assoc (encode_utf8 c) more new.rest in
           let peeked = p told in
           let count = same_lead c sc (more ++ new.rest) peeked.0 old.rest lead whole peeked.1 in
@@ -227,7 +301,8 @@ body_short n old short a =
     let f = a.front.found in
     absurd (omega (arith, short a.is_known, ap length f.is_read.2, f.is_read.0, ap length f.joins, length-append f.encoding a.front.rest))
 
-body_due : (unlent : Type 0) (n borrow : ℕ) (old new : ReaderState) (e : IoReadError) → (unlent → new.lends < borrow) → ReadRefusedFor (IsShort n old) unlent n new e → ReaderDue (Accepts (IsStrBytes n) old) borrow new e
+body_due : (unlent : Type 0) (n borrow : ℕ) (old new : ReaderState) (e : IoReadError) → (unlent → new.lends < borrow)
+    → ReadRefusedFor (IsShort n old) unlent n new e → ReaderDue (Accepts (IsStrBytes n) old) borrow new e
 body_due unlent n borrow old new (reader.ReadSizeLimit m) lent d = λ a. body_short n old d.0 a
 body_due unlent n borrow old new reader.UnsupportedZeroCopy lent d = λ a. lent d
 body_due unlent n borrow old new reader.OutOfMemory lent d = unsteady new d
@@ -236,11 +311,13 @@ body_due unlent n borrow old new (reader.Io e) lent d = d
 body_not : (n : ℕ) (old new : ReaderState) (bytes : List ℕ) → Takes n old new bytes → (IsUtf8 bytes → ⊥) → Accepts (IsStrBytes n) old → ⊥
 body_not n old new bytes t not a =
     let f = a.front.found in
-    let same = same_front bytes f.encoding new.rest a.front.rest (t.size ∙ sym (ap length f.is_read.2 ∙ f.is_read.0)) (sym (takes_joins t a.is_known) ∙ f.joins) in
+    let same = same_front bytes f.encoding new.rest a.front.rest (t.size ∙ sym (ap length f.is_read.2 ∙ f.is_read.0))
+    (sym (takes_joins t a.is_known) ∙ f.joins) in
     not (subst IsUtf8 (sym (same ∙ f.is_read.2)) f.is_read.1)
 
 -- the bytes of a text were refused for their reason
-pub body_refuses : (unlent owned : Type 0) (n borrow : ℕ) (takes_no_memory : Bool) (old new : ReaderState) (e : ReadError) → (unlent → new.lends < borrow) → (owned → takes_no_memory ≡ false)
+pub body_refuses : (unlent owned : Type 0) (n borrow : ℕ) (takes_no_memory : Bool) (old new : ReaderState) (e : ReadError) → (unlent → new.lends < borrow)
+    → (owned → takes_no_memory ≡ false)
     → StrBytesReadRefused unlent owned n old new e → ReadRefused (IsStrBytes n) borrow takes_no_memory old new e
 body_refuses unlent owned n borrow takes_no_memory old new (reading.Io e) lent builtin d = record {
   kept = d.0.kept;
@@ -263,7 +340,8 @@ body_refuses unlent owned n borrow takes_no_memory old new (reading.InvalidUtf8E
 body_refuses unlent owned n borrow takes_no_memory old new _ lent builtin d = absurd d
 
 -- the bytes of a lent text were refused for their reason
-pub borrow_refuses : (n : ℕ) (old new : ReaderState) (e : IoReadError) → BytesReadRefused (IsShort n old) (old.lends < 1) n old new e → ReadRefused (IsStrBytes n) 1 true old new (reading.Io e)
+pub borrow_refuses : (n : ℕ) (old new : ReaderState) (e : IoReadError) → BytesReadRefused (IsShort n old) (old.lends < 1) n old new e
+    → ReadRefused (IsStrBytes n) 1 true old new (reading.Io e)
 borrow_refuses n old new e d = body_refuses (old.lends < 1) ⊥ n 1 true old new (reading.Io e) (λ x. subst (λ k. k < 1) (sym d.0.kept.lends) x) (λ x. absurd x) d
 
 -- the bytes of a text were taken
@@ -275,14 +353,25 @@ body_gives n old new bytes v t e u = record {
 }
 
 module _ (prealloc borrow : ℕ) (takes_no_memory : Bool) where
-  pub text_gives : (old mid new : ReaderState) (n : ℕ) (v : List ℕ) → Gives (IsLength (bincode preallocation_limit) 1) old mid n → Gives (IsStrBytes n) mid new v → Gives (str_read prealloc borrow takes_no_memory).reads old new v
-  text_gives old mid new n v r t = gives_map (Then (IsLength (bincode preallocation_limit) 1) IsStrBytes) (str_read prealloc borrow takes_no_memory).reads old new v v (λ b p. then_encoding prealloc borrow takes_no_memory b v p) (then_gives (IsLength (bincode preallocation_limit) 1) IsStrBytes old mid new n v r t)
+  pub text_gives : (old mid new : ReaderState) (n : ℕ) (v : List ℕ) → Gives (IsLength (bincode preallocation_limit) 1) old mid n
+      → Gives (IsStrBytes n) mid new v → Gives (str_read prealloc borrow takes_no_memory).reads old new v
+  text_gives old mid new n v r t = gives_map (Then (IsLength (bincode preallocation_limit) 1) IsStrBytes)
+      (str_read prealloc borrow takes_no_memory).reads old new v v (λ b p. then_encoding prealloc borrow takes_no_memory b v p)
+      (then_gives (IsLength (bincode preallocation_limit) 1) IsStrBytes old mid new n v r t)
 
-  pub text_first : (old new : ReaderState) (e : ReadError) → ReadRefused (IsLength (bincode preallocation_limit) 1) 0 true old new e → ReadRefused (str_read prealloc borrow takes_no_memory).reads borrow takes_no_memory old new e
-  text_first old new e r = refuses_map (Then (IsLength (bincode preallocation_limit) 1) IsStrBytes) (str_read prealloc borrow takes_no_memory).reads borrow takes_no_memory old new e (λ b v p. (v, str_then prealloc borrow takes_no_memory b v p)) (then_first (IsLength (bincode preallocation_limit) 1) IsStrBytes 0 borrow true takes_no_memory old new e (omega arith) (λ x. absurd (cc x)) r)
+  pub text_first : (old new : ReaderState) (e : ReadError) → ReadRefused (IsLength (bincode preallocation_limit) 1) 0 true old new e
+      → ReadRefused (str_read prealloc borrow takes_no_memory).reads borrow takes_no_memory old new e
+  text_first old new e r = refuses_map (Then (IsLength (bincode preallocation_limit) 1) IsStrBytes)
+      (str_read prealloc borrow takes_no_memory).reads borrow takes_no_memory old new e (λ b v p. (v, str_then prealloc borrow takes_no_memory b v p))
+      (then_first (IsLength (bincode preallocation_limit) 1) IsStrBytes 0 borrow true takes_no_memory old new e (omega arith) (λ x. absurd (cc x)) r)
 
-  pub text_second : (old mid new : ReaderState) (n : ℕ) (e : ReadError) → Gives (IsLength (bincode preallocation_limit) 1) old mid n → ReadRefused (IsStrBytes n) borrow takes_no_memory mid new e → ReadRefused (str_read prealloc borrow takes_no_memory).reads borrow takes_no_memory old new e
-  text_second old mid new n e r t = refuses_map (Then (IsLength (bincode preallocation_limit) 1) IsStrBytes) (str_read prealloc borrow takes_no_memory).reads borrow takes_no_memory old new e (λ b v p. (v, str_then prealloc borrow takes_no_memory b v p)) (then_second (IsLength (bincode preallocation_limit) 1) IsStrBytes (length_one (bincode preallocation_limit) (bincode_laws preallocation_limit) 1) borrow borrow takes_no_memory takes_no_memory old mid new n e (omega arith) (λ x. x) r t)
+  pub text_second : (old mid new : ReaderState) (n : ℕ) (e : ReadError) → Gives (IsLength (bincode preallocation_limit) 1) old mid n
+      → ReadRefused (IsStrBytes n) borrow takes_no_memory mid new e
+      → ReadRefused (str_read prealloc borrow takes_no_memory).reads borrow takes_no_memory old new e
+  text_second old mid new n e r t = refuses_map (Then (IsLength (bincode preallocation_limit) 1) IsStrBytes)
+      (str_read prealloc borrow takes_no_memory).reads borrow takes_no_memory old new e (λ b v p. (v, str_then prealloc borrow takes_no_memory b v p))
+      (then_second (IsLength (bincode preallocation_limit) 1) IsStrBytes (length_one (bincode preallocation_limit) (bincode_laws preallocation_limit) 1)
+      borrow borrow takes_no_memory takes_no_memory old mid new n e (omega arith) (λ x. x) r t)
 
 -- bytes alone, as something to write
 abbrev bytes_write : WriteGrammar (List ℕ)
@@ -316,12 +405,14 @@ two_size : (prealloc : ℕ) (v : List ℕ) → length v < 2 ^ 64 → (str_write 
 two_size prealloc v small = ap (λ n. n + length v) (length_size (length v) small)
 
 -- the eight bytes of the length were refused
-eight_refused : (n : ℕ) → n < 2 ^ 64 → (v : List ℕ) (room : ℕ) (added : List ℕ) (e : WriteError) → LengthWriteRefused (bincode preallocation_limit) n room added e → StrWriteRefused v room added e
+eight_refused : (n : ℕ) → n < 2 ^ 64 → (v : List ℕ) (room : ℕ) (added : List ℕ) (e : WriteError)
+    → LengthWriteRefused (bincode preallocation_limit) n room added e → StrWriteRefused v room added e
 eight_refused n small v room added e (inl d) = inl (subst (λ k. PieceWriteRefused k room added e) (sym (length_size n small)) d.1)
 eight_refused n small v room added e (inr d) = absurd (d.1.0 (le 8 n, bincode_encoding preallocation_limit n small))
 
 -- a character was refused in one piece
-pub char_halted : {S K : Type 0} {put : S → List ℕ → S} {room : S → ℕ} {old new : WriterState put room K} (laws : WriterLaws put room) (c : ℕ) (bytes : List ℕ) (is : char_write.writes c bytes) (size : length bytes ≡ len_utf8 c) (e : IoWriteError)
+pub char_halted : {S K : Type 0} {put : S → List ℕ → S} {room : S → ℕ} {old new : WriterState put room K} (laws : WriterLaws put room) (c : ℕ) (bytes : List ℕ)
+    (is : char_write.writes c bytes) (size : length bytes ≡ len_utf8 c) (e : IoWriteError)
     → BytesWriteRefused (length bytes) old new e → Stopped char_write old new c (writing.Io e)
 char_halted {room = room} {old = old} {new = new} laws c bytes is size e d =
     sequence.encoding_stopped char_write c bytes is size laws old new e d (λ x. subst (λ n. PieceWriteRefused n (room old.content) [] (writing.Io e)) size x)
@@ -333,7 +424,8 @@ piece_nothing n room added (writing.Io writer.OutOfMemory) d = d
 piece_nothing n room added _ d = absurd d
 
 -- behind the length, the bytes were refused
-behind_length : (v : List ℕ) (n : ℕ) → n ≡ length v → (encoding : List ℕ) → encoding ≡ le 8 n → (room : ℕ) (added : List ℕ) (e : WriteError) → PieceWriteRefused (length v) (room - length encoding) added e → StrWriteRefused v room (encoding ++ added) e
+behind_length : (v : List ℕ) (n : ℕ) → n ≡ length v → (encoding : List ℕ) → encoding ≡ le 8 n → (room : ℕ) (added : List ℕ) (e : WriteError)
+    → PieceWriteRefused (length v) (room - length encoding) added e → StrWriteRefused v room (encoding ++ added) e
 behind_length v n is encoding t room added e d =
     let none = piece_nothing (length v) (room - length encoding) added e d in
     let eight : length encoding ≡ 8 = ap length t ∙ length-le 8 n in
@@ -341,7 +433,8 @@ behind_length v n is encoding t room added e d =
     inr (ap (λ a. encoding ++ a) none ∙ append-nil encoding ∙ t ∙ ap (le 8) is, subst (λ a. P 8 a) none (subst (λ k. P k added) eight d))
 
 module _ {S K : Type 0} {put : S → List ℕ → S} {room : S → ℕ} (laws : WriterLaws put room) (prealloc : ℕ) where
-  pub encoding_wrote : {old mid new : WriterState put room K} (v : List ℕ) (n : ℕ) (bytes : List ℕ) → n < 2 ^ 64 → n ≡ length v → bytes ≡ v → Wrote (length_write (bincode preallocation_limit)) old mid n → Added bytes mid new
+  pub encoding_wrote : {old mid new : WriterState put room K} (v : List ℕ) (n : ℕ) (bytes : List ℕ) → n < 2 ^ 64 → n ≡ length v → bytes ≡ v
+      → Wrote (length_write (bincode preallocation_limit)) old mid n → Added bytes mid new
       → Wrote (str_write prealloc) old new v
   encoding_wrote {old} {mid} {new} v n bytes small e f r d =
       let fits : length v < 2 ^ 64 = subst (λ k. k < 2 ^ 64) e small in
@@ -350,14 +443,16 @@ module _ {S K : Type 0} {put : S → List ℕ → S} {room : S → ℕ} (laws : 
       (subst (λ k. Wrote (length_write (bincode preallocation_limit)) old mid k) e r)
       (sequence.encoding_wrote bytes_write v bytes f (ap length f) mid new tt d))
 
-  pub text_unwritten_first : {old new : WriterState put room K} (v : List ℕ) (n : ℕ) {e : WriteError} → n < 2 ^ 64 → n ≡ length v → WriteRefused (length_write (bincode preallocation_limit)) old new n e → WriteRefused (str_write prealloc) old new v e
+  pub text_unwritten_first : {old new : WriterState put room K} (v : List ℕ) (n : ℕ) {e : WriteError} → n < 2 ^ 64 → n ≡ length v
+      → WriteRefused (length_write (bincode preallocation_limit)) old new n e → WriteRefused (str_write prealloc) old new v e
   text_unwritten_first {old} {new} v n {e} small is u =
       let fits : length v < 2 ^ 64 = subst (λ k. k < 2 ^ 64) is small in
       sequence.unwritten_map in_two (str_write prealloc) (length v, v) v (λ c. (text_can v fits, tt)) (two_size prealloc v fits) (two_encodings prealloc v)
       (sequence.pair_unwritten_first (length_write_laws (bincode preallocation_limit)) bytes_laws v
       (subst (λ k. WriteRefused (length_write (bincode preallocation_limit)) old new k e) is u))
 
-  pub text_unwritten_second : {old mid new : WriterState put room K} (v : List ℕ) (n : ℕ) (bytes : List ℕ) {e : IoWriteError} → n < 2 ^ 64 → n ≡ length v → bytes ≡ v → Wrote (length_write (bincode preallocation_limit)) old mid n
+  pub text_unwritten_second : {old mid new : WriterState put room K} (v : List ℕ) (n : ℕ) (bytes : List ℕ) {e : IoWriteError} → n < 2 ^ 64 → n ≡ length v
+      → bytes ≡ v → Wrote (length_write (bincode preallocation_limit)) old mid n
       → BytesWriteRefused (length bytes) mid new e → WriteRefused (str_write prealloc) old new v (writing.Io e)
   text_unwritten_second {old} {mid} {new} v n bytes {e} small is f r d =
       let fits : length v < 2 ^ 64 = subst (λ k. k < 2 ^ 64) is small in
@@ -366,13 +461,17 @@ module _ {S K : Type 0} {put : S → List ℕ → S} {room : S → ℕ} (laws : 
       (subst (λ k. Wrote (length_write (bincode preallocation_limit)) old mid k) is r)
       (sequence.encoding_unwritten bytes_write v bytes f (ap length f) laws mid new e d))
 
-  pub text_halted_first : {old new : WriterState put room K} (v : List ℕ) (n : ℕ) {e : WriteError} → n < 2 ^ 64 → Stopped (length_write (bincode preallocation_limit)) old new n e → Stopped (str_write prealloc) old new v e
-  text_halted_first {old} v n {e} small s = sequence.stopped_map (length_write (bincode preallocation_limit)) (str_write prealloc) n v (λ a r. eight_refused n small v (room old.content) a e r) s
+  pub text_halted_first : {old new : WriterState put room K} (v : List ℕ) (n : ℕ) {e : WriteError} → n < 2 ^ 64
+      → Stopped (length_write (bincode preallocation_limit)) old new n e → Stopped (str_write prealloc) old new v e
+  text_halted_first {old} v n {e} small s = sequence.stopped_map (length_write (bincode preallocation_limit)) (str_write prealloc) n v
+      (λ a r. eight_refused n small v (room old.content) a e r) s
 
-  pub text_halted_second : {old mid new : WriterState put room K} (v : List ℕ) (n : ℕ) (bytes : List ℕ) {e : IoWriteError} → n ≡ length v → bytes ≡ v → Wrote (length_write (bincode preallocation_limit)) old mid n
+  pub text_halted_second : {old mid new : WriterState put room K} (v : List ℕ) (n : ℕ) (bytes : List ℕ) {e : IoWriteError} → n ≡ length v → bytes ≡ v
+      → Wrote (length_write (bincode preallocation_limit)) old mid n
       → BytesWriteRefused (length bytes) mid new e → Stopped (str_write prealloc) old new v (writing.Io e)
   text_halted_second {old} {mid} {new} v n bytes {e} is f r d =
       let P : ℕ → Type 0 = λ k. PieceWriteRefused k (room mid.content) [] (writing.Io e) in
-      let s : Stopped bytes_write mid new v (writing.Io e) = sequence.encoding_stopped bytes_write v bytes f (ap length f) laws mid new e d (λ x. subst P (ap length f) x) in
+      let s : Stopped bytes_write mid new v (writing.Io e) = sequence.encoding_stopped bytes_write v bytes f (ap length f) laws mid new e d
+      (λ x. subst P (ap length f) x) in
       sequence.stopped_behind (length_write_laws (bincode preallocation_limit)) laws bytes_write (str_write prealloc) v v r s
       (λ x. behind_length v n is r.encoding (bincode_encoding_is preallocation_limit n r.encoding r.is_encoding).1 (room old.content) s.added (writing.Io e) x)

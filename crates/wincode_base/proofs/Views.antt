@@ -1,6 +1,25 @@
 -- What forms, views of them and lists that are lent read and write.
 use Rattle.std.proofs.Common.{◌≡◌, ◌∙◌, sym, ap, subst, cond, ℕ, ◌+◌, ◌-◌, ◌*◌, ◌<◌, ◌≤◌, ◌^◌, Bool, true, false, List, inl, inr}
-use Rattle.std.proofs.Common.{[], ◌∷◌, length, map, take, drop, refl, arith, zero, suc, Some, None, Option, length-append, length-take, length-drop, take-append-drop, nat_lt}
+use Rattle.std.proofs.Common.{
+  [],
+  ◌∷◌,
+  length,
+  map,
+  take,
+  drop,
+  refl,
+  arith,
+  zero,
+  suc,
+  Some,
+  None,
+  Option,
+  length-append,
+  length-take,
+  length-drop,
+  take-append-drop,
+  nat_lt,
+}
 use Rattle.std.specs.Prelude.{max, min}
 use Rattle.wincode_io.specs.Bytes.{IsBytes}
 use Rattle.wincode_io.specs.Forms.{IsByteForm, values}
@@ -19,13 +38,45 @@ use Rattle.wincode_base.specs.Lengths.{bincode}
 use Rattle.wincode_base.specs.LengthLaws.{bincode_encoding, bincode_encoding_is}
 use Rattle.wincode_base.specs.Lengths.{bincode}
 use Rattle.wincode_base.specs.ItemSizes.{item_size}
-use Rattle.wincode_base.specs.Lists.{items_write, parts_write, list_bytes, ItemsWriteRefused, ListWriteRefused, WholeWriteRefused, InnerWriteRefused, SpanWriteRefused, SizesRefused, reads_list}
-use Rattle.wincode_base.specs.Outcomes.{Gives, Accepts, ReadRefused, ReaderDue, ReadDue, PieceReadRefused, Wrote, WriteRefused, Stopped, PieceWriteRefused, IsSizeError}
+use Rattle.wincode_base.specs.Lists.{
+  items_write,
+  parts_write,
+  list_bytes,
+  ItemsWriteRefused,
+  ListWriteRefused,
+  WholeWriteRefused,
+  InnerWriteRefused,
+  SpanWriteRefused,
+  SizesRefused,
+  reads_list,
+}
+use Rattle.wincode_base.specs.Outcomes.{
+  Gives,
+  Accepts,
+  ReadRefused,
+  ReaderDue,
+  ReadDue,
+  PieceReadRefused,
+  Wrote,
+  WriteRefused,
+  Stopped,
+  PieceWriteRefused,
+  IsSizeError,
+}
 use Rattle.wincode_base.specs.AsForms.{reads_form}
 use Rattle.wincode_base.specs.Sequences.{Then, gives_map, refuses_map, then_gives, then_first, then_second}
 use Rattle.wincode_base.specs.FixedSizeLaws.{takes_gives}
 use Rattle.wincode_base.specs.ViewLaws.{same_items}
-use Rattle.wincode_base.specs.WriteSequences.{encoding_wrote, encoding_unwritten, encoding_stopped, nothing_stopped, piece_denied, wrote_map, unwritten_map, stopped_map}
+use Rattle.wincode_base.specs.WriteSequences.{
+  encoding_wrote,
+  encoding_unwritten,
+  encoding_stopped,
+  nothing_stopped,
+  piece_denied,
+  wrote_map,
+  unwritten_map,
+  stopped_map,
+}
 use Rattle.wincode_base.specs.Views.{form_item_read, form_meta, form_write, forms_read, lent_read, lent_write, IsLentRun, ViewReadRefused, LentRunReadRefused}
 use Rattle.std.proofs.lemmas.Bool.{lt-ltb}
 use Rattle.wincode_base.specs.declared.meta.TypeMeta.TheVariants.{Dynamic}
@@ -60,21 +111,24 @@ module _ {V : Type 0} (reads : List ℕ → V → Type 0) (n : ℕ) (sized : (b 
       absurd (omega (arith, short a.is_known few, sized f.encoding a.front.value f.is_read, ap length f.joins, length-append f.encoding a.front.rest))
 
   -- it was refused for its reason
-  lend_due : (borrow m : ℕ) (old new : ReaderState) (e : IoReadError) → Stays old new → ReadRefusedFor (IsShortOfForm n old) (old.lends < borrow) m new e → ReaderDue (Accepts reads old) borrow new e
+  lend_due : (borrow m : ℕ) (old new : ReaderState) (e : IoReadError) → Stays old new → ReadRefusedFor (IsShortOfForm n old) (old.lends < borrow) m new e
+      → ReaderDue (Accepts reads old) borrow new e
   lend_due borrow m old new (reader.ReadSizeLimit k) s d = λ a. too_short old d.0 a
   lend_due borrow m old new reader.UnsupportedZeroCopy s d = λ a. rw s.kept.lends d
   lend_due borrow m old new reader.OutOfMemory s d = unsteady new d
   lend_due borrow m old new (reader.Io e) s d = d
 
 -- what n bytes are too few for is so among at most `usize::MAX` too
-short_of_form : (n m : ℕ) (unlent : Type 0) (old new : ReaderState) (e : IoReadError) → ReadRefusedFor (IsShort n old) unlent m new e → ReadRefusedFor (IsShortOfForm n old) unlent m new e
+short_of_form : (n m : ℕ) (unlent : Type 0) (old new : ReaderState) (e : IoReadError) → ReadRefusedFor (IsShort n old) unlent m new e
+    → ReadRefusedFor (IsShortOfForm n old) unlent m new e
 short_of_form n m unlent old new (reader.ReadSizeLimit k) d = (λ t few. d.0 t, d.1)
 short_of_form n m unlent old new reader.UnsupportedZeroCopy d = d
 short_of_form n m unlent old new reader.OutOfMemory d = d
 short_of_form n m unlent old new (reader.Io e) d = d
 
 -- a form of s bytes was refused by a reader that was asked for s bytes
-pub form_denied : (borrow s : ℕ) (old new : ReaderState) (e : IoReadError) → s ≤ byte_limit → BytesReadRefused (IsShort s old) (old.lends < borrow) s old new e → ViewReadRefused borrow s old new (reading.Io e)
+pub form_denied : (borrow s : ℕ) (old new : ReaderState) (e : IoReadError) → s ≤ byte_limit → BytesReadRefused (IsShort s old) (old.lends < borrow) s old new e
+    → ViewReadRefused borrow s old new (reading.Io e)
 form_denied borrow s old new e within d =
     let same : s ≡ min s byte_limit = omega (arith, within) in
     (d.0, subst (λ m. ReadRefusedFor (IsShortOfForm s old) (old.lends < borrow) m new e) same (short_of_form s s (old.lends < borrow) old new e d.1))
@@ -85,15 +139,18 @@ counts_within n (suc s) few within = let e : max (suc s) 1 ≡ suc s = omega ari
 
 counts_over : (n s : ℕ) → 2 ^ 64 ≤ n * s → n * max s 1 ≤ byte_limit → ⊥
 counts_over n zero over within = absurd (omega (arith, over))
-counts_over n (suc s) over within = let e : max (suc s) 1 ≡ suc s = omega arith in let h : n * suc s ≤ byte_limit = rw (← e) within in absurd (omega (arith, over, h))
+counts_over n (suc s) over within = let e : max (suc s) 1 ≡ suc s = omega arith in let h : n * suc s ≤ byte_limit = rw (← e) within in
+    absurd (omega (arith, over, h))
 
 module _ {X : Type 0} {is_valid : X → Type 0} {s : ℕ} {form : X → List ℕ} {value : List ℕ → X} (law : IsByteForm is_valid s form value) where
   -- ---- one form
 
   pub form_gives : (old new : ReaderState) (bytes : List ℕ) → Takes s old new bytes → IsBytes bytes → Gives (reads_form is_valid form) old new (value bytes)
-  form_gives old new bytes t all = takes_gives (reads_form is_valid form) s old new bytes (value bytes) t (law.valid_value bytes all t.size, sym (law.form_value bytes all t.size))
+  form_gives old new bytes t all = takes_gives (reads_form is_valid form) s old new bytes (value bytes) t
+      (law.valid_value bytes all t.size, sym (law.form_value bytes all t.size))
 
-  pub form_refuses : (borrow : ℕ) (old new : ReaderState) (e : ReadError) → ViewReadRefused borrow s old new e → ReadRefused (reads_form is_valid form) borrow true old new e
+  pub form_refuses : (borrow : ℕ) (old new : ReaderState) (e : ReadError) → ViewReadRefused borrow s old new e
+      → ReadRefused (reads_form is_valid form) borrow true old new e
   form_refuses borrow old new (reading.Io e) d = record {
     kept = d.0.kept;
     left = λ t. record { front = []; joins = sym (d.0.rest t) };
@@ -110,8 +167,13 @@ module _ {X : Type 0} {is_valid : X → Type 0} {s : ℕ} {form : X → List ℕ
   items_of (suc n) b all e =
       let all_first = IsBytes-take s b all in
       let long : length (take s b) ≡ s = omega (arith, length-take s b, e) in
-      let rest : length (drop s b) ≡ n * s = omega (arith, length-drop s b, e) in
-      (take s b, drop s b, (law.valid_value (take s b) all_first long, sym (law.form_value (take s b) all_first long)), items_of n (drop s b) (IsBytes-drop s b all) rest, sym (take-append-drop s b))
+      let rest : length (drop s b) ≡ n * s = omega (arith, length-drop s b, e) in (
+        take s b,
+        drop s b,
+        (law.valid_value (take s b) all_first long, sym (law.form_value (take s b) all_first long)),
+        items_of n (drop s b) (IsBytes-drop s b all) rest,
+        sym (take-append-drop s b),
+      )
 
   items_sized : (vs : List X) (b : List ℕ) → Joined (λ v t. (form_item_read is_valid s form).reads t v) vs b → length b ≡ length vs * s
   items_sized [] b j = omega (arith, ap length j)
@@ -129,9 +191,11 @@ module _ {X : Type 0} {is_valid : X → Type 0} {s : ℕ} {form : X → List ℕ
   run_sized : (n : ℕ) (b : List ℕ) (vs : List X) → IsLentRun (form_item_read is_valid s form) n b vs → length b ≡ n * s
   run_sized n b vs r = items_sized vs b r.1.1 ∙ ap (λ m. m * s) r.1.0
 
-  run_due : (borrow n : ℕ) (old new : ReaderState) (e : ReadError) → LentRunReadRefused borrow s n old new e → ReadDue (Accepts (IsLentRun (form_item_read is_valid s form) n) old) borrow true new e
+  run_due : (borrow n : ℕ) (old new : ReaderState) (e : ReadError) → LentRunReadRefused borrow s n old new e
+      → ReadDue (Accepts (IsLentRun (form_item_read is_valid s form) n) old) borrow true new e
   run_due borrow n old new (reading.Io e) d =
-      lend_due (IsLentRun (form_item_read is_valid s form) n) (n * s) (run_sized n) borrow (n * s) old new e d.0 (short_of_form (n * s) (n * s) (old.lends < borrow) old new e d.1)
+      lend_due (IsLentRun (form_item_read is_valid s form) n) (n * s) (run_sized n) borrow (n * s) old new e d.0
+      (short_of_form (n * s) (n * s) (old.lends < borrow) old new e d.1)
   run_due borrow n old new (reading.LengthEncodingOverflow t) d = λ a. counts_over n s d.1 a.front.found.is_read.0
   run_due borrow n old new _ d = absurd d
 
@@ -140,16 +204,31 @@ module _ {X : Type 0} {is_valid : X → Type 0} {s : ℕ} {form : X → List ℕ
   run_stays borrow n old new (reading.LengthEncodingOverflow t) d = d.0
   run_stays borrow n old new _ d = absurd d
 
-  pub run_refuses : (borrow n : ℕ) (old new : ReaderState) (e : ReadError) → LentRunReadRefused borrow s n old new e → ReadRefused (IsLentRun (form_item_read is_valid s form) n) borrow true old new e
+  pub run_refuses : (borrow n : ℕ) (old new : ReaderState) (e : ReadError) → LentRunReadRefused borrow s n old new e
+      → ReadRefused (IsLentRun (form_item_read is_valid s form) n) borrow true old new e
   run_refuses borrow n old new e d =
       let stays = run_stays borrow n old new e d in
-      record { kept = stays.kept; left = λ t. record { front = []; joins = sym (stays.rest t) }; place = stays_onward old new stays; due = run_due borrow n old new e d }
+      record {
+        kept = stays.kept;
+        left = λ t. record { front = []; joins = sym (stays.rest t) };
+        place = stays_onward old new stays;
+        due =
+            run_due borrow n old new e d;
+      }
 
 -- ---- items behind their number
 
 module _ {V : Type 0} (g : ReadGrammar V) where
   lent_then : (b : List ℕ) (vs : List V) → reads_list (bincode byte_limit) g b vs → Then (number_read 8 true).reads (IsLentRun g) b vs
-  lent_then b vs r = record { before = length vs; x = r.1.0; y = r.1.1; one = bincode_encoding_is byte_limit (length vs) r.1.0 r.1.2; two = (r.0.1, (refl, r.1.3)); joins = r.1.4 }
+  lent_then b vs r = record {
+    before = length vs;
+    x = r.1.0;
+    y = r.1.1;
+    one = bincode_encoding_is byte_limit (length vs) r.1.0 r.1.2;
+    two =
+        (r.0.1, (refl, r.1.3));
+    joins = r.1.4;
+  }
 
   then_lent : (b : List ℕ) (vs : List V) → Then (number_read 8 true).reads (IsLentRun g) b vs → reads_list (bincode byte_limit) g b vs
   then_lent b vs t =
@@ -158,21 +237,25 @@ module _ {V : Type 0} (g : ReadGrammar V) where
       let within : length vs * g.prealloc ≤ byte_limit = rw n t.two.0 in
       ((few, within), (t.x, t.y, bincode_encoding byte_limit (length vs) few ∙ ap Some (ap (le 8) n ∙ sym t.one.1), t.two.1.1, t.joins))
 
-  pub lent_gives : (old mid new : ReaderState) (n : ℕ) (vs : List V) → TakesNumber 8 old mid n → Gives (IsLentRun g n) mid new vs → Gives (reads_list (bincode byte_limit) g) old new vs
+  pub lent_gives : (old mid new : ReaderState) (n : ℕ) (vs : List V) → TakesNumber 8 old mid n → Gives (IsLentRun g n) mid new vs
+      → Gives (reads_list (bincode byte_limit) g) old new vs
   lent_gives old mid new n vs t h =
       gives_map (Then (number_read 8 true).reads (IsLentRun g)) (reads_list (bincode byte_limit) g) old new vs vs (λ b p. then_lent b vs p)
       (then_gives (number_read 8 true).reads (IsLentRun g) old mid new n vs (number_gives 8 true old mid n t) h)
 
-  pub lent_first : (borrow : ℕ) (old new : ReaderState) (e : ReadError) → PieceReadRefused 8 old new e → ReadRefused (reads_list (bincode byte_limit) g) borrow true old new e
+  pub lent_first : (borrow : ℕ) (old new : ReaderState) (e : ReadError) → PieceReadRefused 8 old new e
+      → ReadRefused (reads_list (bincode byte_limit) g) borrow true old new e
   lent_first borrow old new e d =
       refuses_map (Then (number_read 8 true).reads (IsLentRun g)) (reads_list (bincode byte_limit) g) borrow true old new e (λ b vs p. (vs, lent_then b vs p))
       (then_first (number_read 8 true).reads (IsLentRun g) 0 borrow true true old new e (omega arith) (λ h. h) (number_refuses 8 true old new e d))
 
-  pub lent_second : (borrow : ℕ) (old mid new : ReaderState) (n : ℕ) (e : ReadError) → TakesNumber 8 old mid n → ReadRefused (IsLentRun g n) borrow true mid new e
+  pub lent_second : (borrow : ℕ) (old mid new : ReaderState) (n : ℕ) (e : ReadError) → TakesNumber 8 old mid n
+      → ReadRefused (IsLentRun g n) borrow true mid new e
       → ReadRefused (reads_list (bincode byte_limit) g) borrow true old new e
   lent_second borrow old mid new n e t r =
       refuses_map (Then (number_read 8 true).reads (IsLentRun g)) (reads_list (bincode byte_limit) g) borrow true old new e (λ b vs p. (vs, lent_then b vs p))
-      (then_second (number_read 8 true).reads (IsLentRun g) (number_read_laws 8 true (omega arith)).one_front borrow borrow true true old mid new n e (omega arith) (λ h. h)
+      (then_second (number_read 8 true).reads (IsLentRun g) (number_read_laws 8 true (omega arith)).one_front borrow borrow true true old mid new n e
+      (omega arith) (λ h. h)
       (number_gives 8 true old mid n t) r)
 
 -- ---- writing
@@ -202,23 +285,30 @@ total_alike s [] = omega arith
 total_alike s (v ∷ vs) = omega (arith, total_alike s vs)
 
 -- room for a form was refused
-pub form_room_halted : {X : Type 0} (is_valid : X → Type 0) (s : ℕ) (form : X → List ℕ) (any : Bool) (prealloc : ℕ) (v : X) {S K : Type 0} {put : S → List ℕ → S} {room : S → ℕ} {old new : WriterState put room K}
-    → WriterLaws put room → (n : ℕ) → n ≡ s → (x : IoWriteError) → BytesWriteRefused n old new x → Stopped (form_write is_valid s form any prealloc) old new v (writing.Io x)
+pub form_room_halted : {X : Type 0} (is_valid : X → Type 0) (s : ℕ) (form : X → List ℕ) (any : Bool) (prealloc : ℕ) (v : X)
+    {S K : Type 0} {put : S → List ℕ → S} {room : S → ℕ} {old new : WriterState put room K}
+    → WriterLaws put room → (n : ℕ) → n ≡ s → (x : IoWriteError) → BytesWriteRefused n old new x
+    → Stopped (form_write is_valid s form any prealloc) old new v (writing.Io x)
 form_room_halted is_valid s form any prealloc v {room = room} {old = old} {new = new} laws n is x d =
-    nothing_stopped laws old new (writing.Io x) d.0.content (inl (subst (λ k. PieceWriteRefused k (room old.content) [] (writing.Io x)) is (piece_denied n old new x d)))
+    nothing_stopped laws old new (writing.Io x) d.0.content (inl
+    (subst (λ k. PieceWriteRefused k (room old.content) [] (writing.Io x)) is (piece_denied n old new x d)))
 
-module _ {X : Type 0} {is_valid : X → Type 0} {s : ℕ} {form : X → List ℕ} {value : List ℕ → X} (law : IsByteForm is_valid s form value) (any : Bool) (prealloc : ℕ) where
+module _ {X : Type 0} {is_valid : X → Type 0} {s : ℕ} {form : X → List ℕ} {value : List ℕ → X} (law : IsByteForm is_valid s form value) (any : Bool)
+    (prealloc : ℕ) where
   -- ---- one form
 
   form_is : (b : List ℕ) → IsBytes b → length b ≡ s → (form_write is_valid s form any prealloc).writes (value b) b
   form_is b all e = (e, λ p. sym (law.form_value b all e))
 
   module _ {S K : Type 0} {put : S → List ℕ → S} {room : S → ℕ} {old new : WriterState put room K} (b : List ℕ) (all : IsBytes b) (e : length b ≡ s) where
-    pub form_unwritten : WriterLaws put room → (x : IoWriteError) → BytesWriteRefused (length b) old new x → WriteRefused (form_write is_valid s form any prealloc) old new (value b) (writing.Io x)
+    pub form_unwritten : WriterLaws put room → (x : IoWriteError) → BytesWriteRefused (length b) old new x
+        → WriteRefused (form_write is_valid s form any prealloc) old new (value b) (writing.Io x)
     form_unwritten laws x d = encoding_unwritten (form_write is_valid s form any prealloc) (value b) b (form_is b all e) e laws old new x d
 
-    pub form_halted : WriterLaws put room → (x : IoWriteError) → BytesWriteRefused (length b) old new x → Stopped (form_write is_valid s form any prealloc) old new (value b) (writing.Io x)
-    form_halted laws x d = encoding_stopped (form_write is_valid s form any prealloc) (value b) b (form_is b all e) e laws old new x d (λ p. inl (subst (λ n. PieceWriteRefused n (room old.content) [] (writing.Io x)) e p))
+    pub form_halted : WriterLaws put room → (x : IoWriteError) → BytesWriteRefused (length b) old new x
+        → Stopped (form_write is_valid s form any prealloc) old new (value b) (writing.Io x)
+    form_halted laws x d = encoding_stopped (form_write is_valid s form any prealloc) (value b) b (form_is b all e) e laws old new x d
+        (λ p. inl (subst (λ n. PieceWriteRefused n (room old.content) [] (writing.Io x)) e p))
 
   -- ---- forms one after another
 
@@ -252,29 +342,43 @@ module _ {X : Type 0} {is_valid : X → Type 0} {s : ℕ} {form : X → List ℕ
       → Forms.can (map (λ v. v) (values value s n b)) × (sum ≡ before + Forms.size (map (λ v. v) (values value s n b)))
   forms_summed before sum n b e is = (each_free (map (λ v. v) (values value s n b)), omega (arith, e, is, forms_size n b))
 
-  pub forms_over : (before n : ℕ) (b : List ℕ) (x : WriteError) → length b ≡ n * s → 2 ^ 64 ≤ before + length b → IsSizeError true (Each (form_write is_valid s form any prealloc).can (map (λ v. v) (values value s n b))) x
+  pub forms_over : (before n : ℕ) (b : List ℕ) (x : WriteError) → length b ≡ n * s → 2 ^ 64 ≤ before + length b
+      → IsSizeError true (Each (form_write is_valid s form any prealloc).can (map (λ v. v) (values value s n b))) x
       → SizesRefused before (form_write is_valid s form any prealloc) (map (λ v. v) (values value s n b)) x
   forms_over before n b x e over unfit = (λ c small. absurd (omega (arith, e, over, small, forms_size n b)), unfit)
 
   joined : (n : ℕ) (b : List ℕ) → IsBytes b → length b ≡ n * s → Forms.writes (map (λ v. v) (values value s n b)) b
   joined n b all e = subst (λ vs. Forms.writes vs b) (sym (same_items (values value s n b))) (forms_are n b all e)
 
-  module _ {S K : Type 0} {put : S → List ℕ → S} {room : S → ℕ} {old new : WriterState put room K} (n : ℕ) (b : List ℕ) (all : IsBytes b) (e : length b ≡ n * s) where
+  module _ {S K : Type 0} {put : S → List ℕ → S} {room : S → ℕ} {old new : WriterState put room K} (n : ℕ) (b : List ℕ) (all : IsBytes b)
+      (e : length b ≡ n * s) where
     pub forms_wrote : Added b old new → Wrote Forms old new (map (λ v. v) (values value s n b))
-    forms_wrote a = encoding_wrote Forms (map (λ v. v) (values value s n b)) b (joined n b all e) (e ∙ sym (forms_size n b)) old new (each_free (map (λ v. v) (values value s n b))) a
+    forms_wrote a = encoding_wrote Forms (map (λ v. v) (values value s n b)) b (joined n b all e) (e ∙ sym (forms_size n b)) old new
+        (each_free (map (λ v. v) (values value s n b))) a
 
     -- there are none
     pub none_wrote : WriterLaws put room → n ≡ 0 → new ≡ old → Wrote Forms old new (map (λ v. v) (values value s n b))
     none_wrote laws none same =
         let empty : b ≡ [] = nothing_left b (e ∙ ap (λ m. m * s) none ∙ omega arith) in
-        encoding_wrote Forms (map (λ v. v) (values value s n b)) b (joined n b all e) (e ∙ sym (forms_size n b)) old new (each_free (map (λ v. v) (values value s n b)))
-        (record { fits = omega (arith, ap length empty); took = record { same = record { kept = ap (λ w. w.kept) same; never_fails = ap (λ w. w.never_fails) same }; content = ap (λ w. w.content) same ∙ sym (ap (put old.content) empty ∙ laws.nil old.content) } })
+        encoding_wrote Forms (map (λ v. v) (values value s n b)) b (joined n b all e) (e ∙ sym (forms_size n b)) old new
+        (each_free (map (λ v. v) (values value s n b)))
+        (record {
+          fits = omega (arith, ap length empty);
+          took =
+              record {
+                same = record { kept = ap (λ w. w.kept) same; never_fails = ap (λ w. w.never_fails) same };
+                content =
+                    ap (λ w. w.content) same ∙ sym (ap (put old.content) empty ∙ laws.nil old.content);
+              };
+        })
 
-    pub forms_unwritten : WriterLaws put room → (x : IoWriteError) → BytesWriteRefused (length b) old new x → WriteRefused Forms old new (map (λ v. v) (values value s n b)) (writing.Io x)
+    pub forms_unwritten : WriterLaws put room → (x : IoWriteError) → BytesWriteRefused (length b) old new x
+        → WriteRefused Forms old new (map (λ v. v) (values value s n b)) (writing.Io x)
     forms_unwritten laws x d = encoding_unwritten Forms (map (λ v. v) (values value s n b)) b (joined n b all e) (e ∙ sym (forms_size n b)) laws old new x d
 
     -- there are some, so that one has no more bytes than there can be
-    pub forms_halted : 0 < n → length b < 2 ^ 64 → WriterLaws put room → (x : IoWriteError) → BytesWriteRefused (length b) old new x → Stopped Forms old new (map (λ v. v) (values value s n b)) (writing.Io x)
+    pub forms_halted : 0 < n → length b < 2 ^ 64 → WriterLaws put room → (x : IoWriteError) → BytesWriteRefused (length b) old new x
+        → Stopped Forms old new (map (λ v. v) (values value s n b)) (writing.Io x)
     forms_halted some fits laws x d = nothing_stopped laws old new (writing.Io x) d.0.content
         (λ dynamic. let none = few_vast n s (vast_form s any dynamic) (omega (arith, e, fits)) in absurd (omega (arith, none, some)))
 
@@ -289,9 +393,20 @@ module _ {X : Type 0} (is_valid : X → Type 0) (s : ℕ) (form : X → List ℕ
       let P : List X → Type 0 = λ ws. WriteRefused (Listed p) old new ws e in
       unwritten_map (Listed p) (Listed q) vs vs (λ c. c) refl (λ b w. w) (subst P (same_items vs) u)
 
-  items_alike : (vs : List X) (room : ℕ) (added : List ℕ) (e : WriteError) → ItemsWriteRefused (form_write is_valid s form any p) vs room added e → ItemsWriteRefused (form_write is_valid s form any q) vs room added e
+  items_alike : (vs : List X) (room : ℕ) (added : List ℕ) (e : WriteError) → ItemsWriteRefused (form_write is_valid s form any p) vs room added e
+      → ItemsWriteRefused (form_write is_valid s form any q) vs room added e
   items_alike vs room added e d = λ dynamic. let i = d dynamic in
-      record { before = i.before; item = i.item; after = i.after; encoding = i.encoding; rest = i.rest; is = i.is; written = i.written; joins = i.joins; refused = i.refused }
+      record {
+        before = i.before;
+        item = i.item;
+        after = i.after;
+        encoding = i.encoding;
+        rest = i.rest;
+        is = i.is;
+        written = i.written;
+        joins = i.joins;
+        refused = i.refused;
+      }
 
   abbrev Parts : ℕ → WriteGrammar (List X)
   Parts prealloc = parts_write (bincode byte_limit) 16 (form_write is_valid s form any prealloc)
@@ -303,24 +418,29 @@ module _ {X : Type 0} (is_valid : X → Type 0) (s : ℕ) (form : X → List ℕ
   abbrev Inner : ℕ → List X → List ℕ → WriteError → Type 0
   Inner prealloc = InnerWriteRefused (bincode byte_limit) (form_write is_valid s form any prealloc)
 
-  span_alike : (bytes : Option ℕ) (vs : List X) (room : ℕ) (added : List ℕ) (e : WriteError) → SpanWriteRefused bytes (Inner p vs) room added e → SpanWriteRefused bytes (Inner q vs) room added e
+  span_alike : (bytes : Option ℕ) (vs : List X) (room : ℕ) (added : List ℕ) (e : WriteError) → SpanWriteRefused bytes (Inner p vs) room added e
+      → SpanWriteRefused bytes (Inner q vs) room added e
   span_alike None vs room added e d = d
   span_alike (Some n) vs room added e (inl d) = inl d
   span_alike (Some n) vs room added e (inr d) = inr (d.0, (d.1.0, parts_alike vs d.1.0 added e d.1.1))
 
-  whole_alike : (size : ItemSize) (vs : List X) (room : ℕ) (added : List ℕ) (e : WriteError) → WholeWriteRefused (bincode byte_limit) size (form_write is_valid s form any p) vs room added e
+  whole_alike : (size : ItemSize) (vs : List X) (room : ℕ) (added : List ℕ) (e : WriteError)
+      → WholeWriteRefused (bincode byte_limit) size (form_write is_valid s form any p) vs room added e
       → WholeWriteRefused (bincode byte_limit) size (form_write is_valid s form any q) vs room added e
   whole_alike size vs room added e (inl d) = inl d
   whole_alike size vs room added e (inr d) = inr (d.0, span_alike (list_bytes (bincode byte_limit) size (length vs)) vs room added e d.1)
 
-  list_alike : (size : ItemSize) (vs : List X) (room : ℕ) (added : List ℕ) (e : WriteError) → ListWriteRefused (bincode byte_limit) size (form_write is_valid s form any p) vs room added e
+  list_alike : (size : ItemSize) (vs : List X) (room : ℕ) (added : List ℕ) (e : WriteError)
+      → ListWriteRefused (bincode byte_limit) size (form_write is_valid s form any p) vs room added e
       → ListWriteRefused (bincode byte_limit) size (form_write is_valid s form any q) vs room added e
   list_alike Unknown vs room added e d = parts_alike vs room added e d
   list_alike (Bytes k) vs room added e d = whole_alike (Bytes k) vs room added e d
   list_alike Vast vs room added e d = whole_alike Vast vs room added e d
 
-  pub listed_wrote : {S K : Type 0} {put : S → List ℕ → S} {room : S → ℕ} {old new : WriterState put room K} (vs : List X) → Wrote (Listed p) old new (map (λ v. v) vs) → Wrote (Listed q) old new vs
-  listed_wrote {old = old} {new = new} vs r = wrote_map (Listed p) (Listed q) vs vs (λ c. c) refl (λ b w. w) (subst (Wrote (Listed p) old new) (same_items vs) r)
+  pub listed_wrote : {S K : Type 0} {put : S → List ℕ → S} {room : S → ℕ} {old new : WriterState put room K} (vs : List X)
+      → Wrote (Listed p) old new (map (λ v. v) vs) → Wrote (Listed q) old new vs
+  listed_wrote {old = old} {new = new} vs r = wrote_map (Listed p) (Listed q) vs vs (λ c. c) refl (λ b w. w)
+      (subst (Wrote (Listed p) old new) (same_items vs) r)
 
   pub listed_halted : {S K : Type 0} {put : S → List ℕ → S} {room : S → ℕ} {old new : WriterState put room K} (vs : List X) (e : WriteError)
       → Stopped (Listed p) old new (map (λ v. v) vs) e → Stopped (Listed q) old new vs e
@@ -336,7 +456,8 @@ bytes_given borrow old new n b e g = subst (Gives (lent_read borrow 1 (number_re
 
 -- ---- one form, copied
 
-pub fill_denied : (s : ℕ) (old new : ReaderState) (e : IoReadError) → s ≤ byte_limit → Stays old new → ReadRefusedFor (IsShort s old) ⊥ s new e → ViewReadRefused 0 s old new (reading.Io e)
+pub fill_denied : (s : ℕ) (old new : ReaderState) (e : IoReadError) → s ≤ byte_limit → Stays old new → ReadRefusedFor (IsShort s old) ⊥ s new e
+    → ViewReadRefused 0 s old new (reading.Io e)
 fill_denied s old new e within stays d = form_denied 0 s old new e within (stays, never_unlent e d) where
   never_unlent : (e : IoReadError) → ReadRefusedFor (IsShort s old) ⊥ s new e → ReadRefusedFor (IsShort s old) (old.lends < 0) s new e
   never_unlent (reader.ReadSizeLimit k) d = d

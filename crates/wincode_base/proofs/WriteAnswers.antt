@@ -10,11 +10,15 @@ use Rattle.wincode_base.specs.WriteSequences.{wrote_map, unwritten_map, stopped_
 use Rattle.wincode_base.specs.declared.error.WriteError.{WriteError}
 
 module _ {A S K V : Type 0} {put : S → List ℕ → S} {room : S → ℕ} (g : WriteGrammar V) {old new : WriterState put room K} (v : V) (is_valid : Type 0) where
-  pub write_refused : (r : Result A WriteError) (e : WriteError) → IsPassed r e → WriteRefused g old new v e → Stopped g old new v e → WriteOutcome g old new v is_valid r
+  pub write_refused : (r : Result A WriteError) (e : WriteError) → IsPassed r e → WriteRefused g old new v e → Stopped g old new v e
+      → WriteOutcome g old new v is_valid r
   write_refused (Ok x) e h u s = absurd h.1
-  write_refused (Err x) e h u s = let P : WriteError → Type 0 = λ w. WriteRefused g old new v w × Stopped g old new v w in let k = subst P (sym h.1) (u, s) in record { ok = tt; value = tt; refused = k.0; place = k.1 }
+  write_refused (Err x) e h u s = let P : WriteError → Type 0 = λ w. WriteRefused g old new v w × Stopped g old new v w in let k = subst P (sym h.1) (u, s) in
+      record { ok = tt; value = tt; refused = k.0; place = k.1 }
 
-  pub write_map : {W : Type 0} (h : WriteGrammar W) {start : WriterState put room K} (w : W) (q : Type 0) (r : Result A WriteError) → (Wrote g old new v → Wrote h start new w) → (is_valid → q) → ((e : WriteError) → WriteRefused g old new v e → WriteRefused h start new w e) → ((e : WriteError) → Stopped g old new v e → Stopped h start new w e) → WriteOutcome g old new v is_valid r → WriteOutcome h start new w q r
+  pub write_map : {W : Type 0} (h : WriteGrammar W) {start : WriterState put room K} (w : W) (q : Type 0) (r : Result A WriteError)
+      → (Wrote g old new v → Wrote h start new w) → (is_valid → q) → ((e : WriteError) → WriteRefused g old new v e → WriteRefused h start new w e)
+      → ((e : WriteError) → Stopped g old new v e → Stopped h start new w e) → WriteOutcome g old new v is_valid r → WriteOutcome h start new w q r
   write_map h w q (Ok x) m p n s o = record { ok = m o.ok; value = p o.value; refused = tt; place = tt }
   write_map h w q (Err e) m p n s o = record { ok = tt; value = tt; refused = n e o.refused; place = s e o.place }
 

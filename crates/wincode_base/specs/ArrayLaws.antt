@@ -1,5 +1,31 @@
 -- The laws of arrays, from those of their items.
-use Rattle.std.proofs.Common.{◌≡◌, ◌∙◌, sym, ap, ℕ, zero, suc, ◌<◌, ◌^◌, ◌*◌, Bool, true, false, cond, nat_lt, List, [], ◌∷◌, length, map, refl, arith, length-append, take, drop}
+use Rattle.std.proofs.Common.{
+  ◌≡◌,
+  ◌∙◌,
+  sym,
+  ap,
+  ℕ,
+  zero,
+  suc,
+  ◌<◌,
+  ◌^◌,
+  ◌*◌,
+  Bool,
+  true,
+  false,
+  cond,
+  nat_lt,
+  List,
+  [],
+  ◌∷◌,
+  length,
+  map,
+  refl,
+  arith,
+  length-append,
+  take,
+  drop,
+}
 use Rattle.std.proofs.lemmas.List.{take-append-drop, length-take, length-drop, length-map}
 use Rattle.std.proofs.lemmas.List.Elements.{All-take, All-drop}
 use Rattle.wincode_io.specs.Bytes.{IsBytes}
@@ -20,7 +46,8 @@ module _ {V : Type 0} (reads : List ℕ → V → Type 0) (s : ℕ) where
       ap length p.4 ∙ length-append p.0 p.1 ∙ omega arith
 
   -- so many bytes are an encoding of each item in turn
-  joined_any : ((b : List ℕ) → IsBytes b → length b ≡ s → (v : V) × reads b v) → (n : ℕ) (b : List ℕ) → IsBytes b → length b ≡ n * s → (vs : List V) × AreItems n reads b vs
+  joined_any : ((b : List ℕ) → IsBytes b → length b ≡ s → (v : V) × reads b v) → (n : ℕ) (b : List ℕ) → IsBytes b → length b ≡ n * s → (vs : List V)
+      × AreItems n reads b vs
   joined_any any zero [] all e = ([], (refl, refl))
   joined_any any zero (c ∷ b) all e = absurd (omega arith)
   joined_any any (suc n) b all e =
@@ -49,24 +76,30 @@ array_read_laws n is_valid g laws = record {
 
 -- ---- writing
 
-each_can : {X V : Type 0} (is_valid : X → Type 0) (model : X → V) (can : V → Type 0) → ((x : X) → is_valid x → can (model x)) → (xs : List X) → Each is_valid xs → Each can (map model xs)
+each_can : {X V : Type 0} (is_valid : X → Type 0) (model : X → V) (can : V → Type 0) → ((x : X) → is_valid x → can (model x)) → (xs : List X)
+    → Each is_valid xs → Each can (map model xs)
 each_can is_valid model can h [] p = tt
 each_can is_valid model can h (x ∷ xs) p = (h x p.0, each_can is_valid model can h xs p.1)
 
-each_size : {V : Type 0} (can : V → Type 0) (size : V → ℕ) (s : ℕ) → ((v : V) → can v → size v ≡ s) → (vs : List V) → Each can vs → total size vs ≡ length vs * s
+each_size : {V : Type 0} (can : V → Type 0) (size : V → ℕ) (s : ℕ) → ((v : V) → can v → size v ≡ s) → (vs : List V) → Each can vs → total size vs
+    ≡ length vs * s
 each_size can size s h [] c = omega arith
 each_size can size s h (v ∷ vs) c = omega (arith, h v c.0, each_size can size s h vs c.1)
 
-write_static_if : {X V : Type 0} (is_valid : X → Type 0) (model : X → V) (can : V → Type 0) (size : V → ℕ) (b : Bool) (m : TypeMeta) → IsWriteStatic is_valid model can size m → IsWriteStatic is_valid model can size (cond b m Dynamic)
+write_static_if : {X V : Type 0} (is_valid : X → Type 0) (model : X → V) (can : V → Type 0) (size : V → ℕ) (b : Bool) (m : TypeMeta)
+    → IsWriteStatic is_valid model can size m → IsWriteStatic is_valid model can size (cond b m Dynamic)
 write_static_if is_valid model can size true m h = h
 write_static_if is_valid model can size false m h = tt
 
-write_statics : {X V : Type 0} (n : ℕ) (is_valid : X → Type 0) (model : X → V) (can : V → Type 0) (size : V → ℕ) (m : TypeMeta) → IsWriteStatic is_valid model can size m → IsWriteStatic {X = List X} (IsArray n is_valid) (map model) (IsArray n can) (total size) (times_meta n m)
+write_statics : {X V : Type 0} (n : ℕ) (is_valid : X → Type 0) (model : X → V) (can : V → Type 0) (size : V → ℕ) (m : TypeMeta)
+    → IsWriteStatic is_valid model can size m → IsWriteStatic {X = List X} (IsArray n is_valid) (map model) (IsArray n can) (total size) (times_meta n m)
 write_statics n is_valid model can size Dynamic h = tt
-write_statics n is_valid model can size (Static s z) h = write_static_if (IsArray n is_valid) (map model) (IsArray n can) (total size) (nat_lt (n * s) (2 ^ 64)) (Static (n * s) z)
+write_statics n is_valid model can size (Static s z) h = write_static_if (IsArray n is_valid) (map model) (IsArray n can) (total size)
+    (nat_lt (n * s) (2 ^ 64)) (Static (n * s) z)
     ((λ xs p. (length-map xs model ∙ p.0, each_can is_valid model can h.0 xs p.1)), (λ vs c. each_size can size s h.1 vs c.1 ∙ ap (λ k. k * s) c.0))
 
-pub array_write_laws : {X V : Type 0} (n : ℕ) (is_valid : X → Type 0) (model : X → V) (g : WriteGrammar V) → WriteLaws is_valid model g → WriteLaws {X = List X} (IsArray n is_valid) (map model) (array_write n g)
+pub array_write_laws : {X V : Type 0} (n : ℕ) (is_valid : X → Type 0) (model : X → V) (g : WriteGrammar V) → WriteLaws is_valid model g
+    → WriteLaws {X = List X} (IsArray n is_valid) (map model) (array_write n g)
 array_write_laws n is_valid model g laws =
     let items = items_write_laws is_valid model g laws in record {
       has_encoding = λ vs c. let r = items.has_encoding vs c.1 in (r.0, (c.0, r.1));
@@ -77,7 +110,8 @@ array_write_laws n is_valid model g laws =
 
 -- ---- reading back what was written
 
-pub array_reads_back : {X V W : Type 0} (n : ℕ) (is_valid : X → Type 0) (ws : X → W) (w : WriteGrammar W) (rs : X → V) (r : ReadGrammar V) → ReadsBack is_valid ws w rs r
+pub array_reads_back : {X V W : Type 0} (n : ℕ) (is_valid : X → Type 0) (ws : X → W) (w : WriteGrammar W) (rs : X → V) (r : ReadGrammar V)
+    → ReadsBack is_valid ws w rs r
     → ReadsBack {X = List X} (IsArray n is_valid) (map ws) (array_write n w) (map rs) (array_read n r)
 array_reads_back n is_valid ws w rs r law = record {
   back = λ xs b p t f. (length-map xs rs ∙ p.0, each_back is_valid ws w rs r law xs b p.1 t.1 f.1);

@@ -38,7 +38,8 @@ BulkReadRefused n old new (reading.LengthEncodingOverflow t) = Stays old new × 
 BulkReadRefused n old new _ = ⊥
 
 -- What a read of n values at once, in n * s bytes, answers: what reading them one after another does; refused, all bytes stay.
-pub record ReadAtOnce {A D V : Type 0} (s n : ℕ) (g : ReadGrammar V) (model : D → V) (old new : ReaderState) (before after : List D) (r : Result A ReadError) : Type 0 where
+pub record ReadAtOnce {A D V : Type 0} (s n : ℕ) (g : ReadGrammar V) (model : D → V) (old new : ReaderState) (before after : List D)
+    (r : Result A ReadError) : Type 0 where
   pub each : AddOutcome n g model old new before after r
   pub at_once : IfErr r (BulkReadRefused (n * s) old new)
 
@@ -49,6 +50,7 @@ BulkWriteRefused n old new _ = ⊥
 
 -- What a write of n values at once, in n * s bytes, answers: what writing them one after another does; refused, nothing was
 -- added.
-pub record WrittenAtOnce {A S K V : Type 0} {put : S → List ℕ → S} {room : S → ℕ} (s n : ℕ) (g : WriteGrammar V) (old new : WriterState put room K) (vs : List V) (are_valid : Type 0) (r : Result A WriteError) : Type 0 where
+pub record WrittenAtOnce {A S K V : Type 0} {put : S → List ℕ → S} {room : S → ℕ} (s n : ℕ) (g : WriteGrammar V) (old new : WriterState put room K)
+    (vs : List V) (are_valid : Type 0) (r : Result A WriteError) : Type 0 where
   pub each : WriteOutcome (items_write g) old new vs are_valid r
   pub at_once : IfErr r (BulkWriteRefused (n * s) old new)

@@ -37,32 +37,50 @@ use Rattle.wincode_base.specs.Keys.{IsDecidable}
 use Rattle.wincode_base.specs.Gathered.{gathered_read, scattered_write_of, scattered_write}
 use Rattle.wincode_base.specs.ItemSizes.{item_size, pair_size}
 use Rattle.wincode_base.specs.declared.sizes.ItemSize.{ItemSize}
-use Rattle.wincode_base.specs.GatheredLaws.{map_each, set_each, each_found, each_of_see, each_see, each_reverse, IfSome-map, IfSome-unmap, IfSome-first, IfSome-second, IfSome-both}
+use Rattle.wincode_base.specs.GatheredLaws.{
+  map_each,
+  set_each,
+  each_found,
+  each_of_see,
+  each_see,
+  each_reverse,
+  IfSome-map,
+  IfSome-unmap,
+  IfSome-first,
+  IfSome-second,
+  IfSome-both,
+}
 use Rattle.wincode_base.specs.ScatteredLaws.{each_permutation, order_model}
 
 admits_less : (limit p m n : ℕ) → m ≤ n → (bincode limit).admits n p → (bincode limit).admits m p
 admits_less limit p m n l h = let k : m * p ≤ n * p = mul-le m p n p l (omega arith) in (omega (arith, h.0), omega (arith, k, h.1))
 
-fits_permutation : {V : Type 0} (s : Scheme) (w : WriteGrammar V) (vs us : List V) → IsPermutation vs us → (list_write s 24 w).fits vs → (list_write s 24 w).fits us
+fits_permutation : {V : Type 0} (s : Scheme) (w : WriteGrammar V) (vs us : List V) → IsPermutation vs us → (list_write s 24 w).fits vs
+    → (list_write s 24 w).fits us
 fits_permutation s w vs us p f =
     let l = sym (length_permutation vs us p) in (subst (HasEncoding s) l f.0, subst (λ n. s.admits n w.prealloc) l f.1, each_permutation w.fits vs us p f.2)
 
 -- ---- a collection that is written in an order, and one that is written in any
 
-module _ {X E V W U : Type 0} (s : Scheme) (scheme : SchemeLaws s) (size : ItemSize) (items : X → List E) (sound : X → Type 0) (P : E → Type 0) (ws : E → W) (w : WriteGrammar W) (rs : E → V) (r : ReadGrammar V) (law : ReadsBack P ws w rs r)
+module _ {X E V W U : Type 0} (s : Scheme) (scheme : SchemeLaws s) (size : ItemSize) (items : X → List E) (sound : X → Type 0) (P : E → Type 0) (ws : E → W)
+    (w : WriteGrammar W) (rs : E → V) (r : ReadGrammar V) (law : ReadsBack P ws w rs r)
     (written_size : ItemSize) (made : List E → List E → Type 0) (show : List E → U)
     (admitted : (ds : List E) (x : X) (p : ℕ) → Made made show ds (show (items x)) → s.admits (length ds) p → s.admits (length (items x)) p)
-    (holds : (ds : List E) (x : X) (b : List ℕ) → Joined (λ v t. r.reads t v) (map rs ds) b → Made made show ds (show (items x)) → Each w.fits (map ws (items x))) where
+    (holds : (ds : List E) (x : X) (b : List ℕ) → Joined (λ v t. r.reads t v) (map rs ds) b → Made made show ds (show (items x))
+    → Each w.fits (map ws (items x))) where
   lists : ReadsBack (λ es. Each P es) (λ es. map ws es) (list_write s 24 w) (λ es. map rs es) (list_read s 24 r)
   lists = list_reads_back s scheme 24 (λ es. es) P ws w rs r law
 
   all_within : (b : List ℕ) (x : X) → (gathered_read rs (Made made show) s size r).reads b (show (items x)) → (list_write s 24 w).fits (map ws (items x))
   all_within b x h =
       let n = length (map ws (items x)) in
-      let admits : s.admits n r.prealloc = subst (λ k. s.admits k r.prealloc) (sym (length-map (items x) ws)) (admitted h.0 x r.prealloc h.2 (subst (λ k. s.admits k r.prealloc) (length-map h.0 rs) h.1.0)) in
+      let admits : s.admits n r.prealloc = subst (λ k. s.admits k r.prealloc) (sym (length-map (items x) ws))
+      (admitted h.0 x r.prealloc h.2 (subst (λ k. s.admits k r.prealloc) (length-map h.0 rs) h.1.0)) in
       (scheme.admitted n r.prealloc admits, subst (λ k. s.admits n k) (sym law.same_prealloc) admits, holds h.0 x h.1.1.1 h.1.1.3 h.2)
 
-  pub ordered_reads_back : ((x : X) → sound x → made (items x) (items x)) → ReadsBack (λ x. sound x × Each P (items x)) (λ x. map ws (items x)) (list_write_of s 24 written_size w) (λ x. show (items x)) (gathered_read rs (Made made show) s size r)
+  pub ordered_reads_back : ((x : X) → sound x → made (items x) (items x))
+      → ReadsBack (λ x. sound x × Each P (items x)) (λ x. map ws (items x)) (list_write_of s 24 written_size w) (λ x. show (items x))
+      (gathered_read rs (Made made show) s size r)
   ordered_reads_back builtin = record {
     back = λ x b h j f. (items x, lists.back (items x) b h.1 j f, (items x, builtin x h.0, refl));
     within = all_within;
@@ -70,7 +88,9 @@ module _ {X E V W U : Type 0} (s : Scheme) (scheme : SchemeLaws s) (size : ItemS
     same_meta = refl;
   }
 
-  pub scattered_reads_back : ((x : X) (es : List E) → sound x → IsPermutation (items x) es → made es (items x)) → ReadsBack (λ x. sound x × Each P (items x)) (λ x. map ws (items x)) (scattered_write_of s written_size w) (λ x. show (items x)) (gathered_read rs (Made made show) s size r)
+  pub scattered_reads_back : ((x : X) (es : List E) → sound x → IsPermutation (items x) es → made es (items x))
+      → ReadsBack (λ x. sound x × Each P (items x)) (λ x. map ws (items x)) (scattered_write_of s written_size w) (λ x. show (items x))
+      (gathered_read rs (Made made show) s size r)
   scattered_reads_back builtin = record {
     back = λ x b h j f.
         let o = order_model ws (items x) j.0 j.1 in
@@ -84,17 +104,21 @@ module _ {X E V W U : Type 0} (s : Scheme) (scheme : SchemeLaws s) (size : ItemS
 
 -- ---- what a list that was read says of each value of which the same is seen
 
-key_within : {K A A' : Type 0} (p : K → Type 0) (wf : K → A') (w : WriteGrammar A') (rf : K → A) (r : ReadGrammar A) → ReadsBack p wf w rf r → (vs : List A) (b : List ℕ) → Joined (λ v t. r.reads t v) vs b
+key_within : {K A A' : Type 0} (p : K → Type 0) (wf : K → A') (w : WriteGrammar A') (rf : K → A) (r : ReadGrammar A) → ReadsBack p wf w rf r
+    → (vs : List A) (b : List ℕ) → Joined (λ v t. r.reads t v) vs b
     → Each (λ v. (k : K) → v ≡ rf k → w.fits (wf k)) vs
 key_within p wf w rf r a [] b j = tt
 key_within p wf w rf r a (v ∷ vs) b j = (λ k s. a.within j.0 k (subst (λ u. r.reads j.0 u) s j.2), key_within p wf w rf r a vs j.1 j.3)
 
-pair_within : {K X A B A' B' : Type 0} (p : K → Type 0) (q : X → Type 0) (wf : K → A') (w : WriteGrammar A') (rf : K → A) (r : ReadGrammar A) (wg : X → B') (x : WriteGrammar B') (rg : X → B) (t : ReadGrammar B)
+pair_within : {K X A B A' B' : Type 0} (p : K → Type 0) (q : X → Type 0) (wf : K → A') (w : WriteGrammar A') (rf : K → A) (r : ReadGrammar A) (wg : X → B')
+    (x : WriteGrammar B') (rg : X → B) (t : ReadGrammar B)
     → ReadsBack p wf w rf r → ReadsBack q wg x rg t → (vs : List (A × B)) (b : List ℕ) → Joined (λ v t'. (pair_read r t).reads t' v) vs b
     → Each (λ v. ((k : K) → v.0 ≡ rf k → w.fits (wf k)) × ((y : X) → v.1 ≡ rg y → x.fits (wg y))) vs
 pair_within p q wf w rf r wg x rg t a c [] b j = tt
-pair_within p q wf w rf r wg x rg t a c (v ∷ vs) b j =
-    (((λ k s. a.within j.2.0 k (subst (λ u. r.reads j.2.0 u) s j.2.2)), (λ y s. c.within j.2.1 y (subst (λ u. t.reads j.2.1 u) s j.2.3))), pair_within p q wf w rf r wg x rg t a c vs j.1 j.3)
+pair_within p q wf w rf r wg x rg t a c (v ∷ vs) b j = (
+  ((λ k s. a.within j.2.0 k (subst (λ u. r.reads j.2.0 u) s j.2.2)), (λ y s. c.within j.2.1 y (subst (λ u. t.reads j.2.1 u) s j.2.3))),
+  pair_within p q wf w rf r wg x rg t a c vs j.1 j.3,
+)
 
 each_zip : {E V : Type 0} (f : E → V) (P : V → Type 0) (Q : E → Type 0) → ((e : E) → P (f e) → Q e) → (es : List E) → Each P (map f es) → Each Q es
 each_zip f P Q h [] a = tt
@@ -102,26 +126,38 @@ each_zip f P Q h (e ∷ es) a = (h e a.0, each_zip f P Q h es a.1)
 
 -- ---- ordered maps and sets
 
-pub map_reads_back : {K X A B A' B' : Type 0} (size : ItemSize) (cmp : K → K → Ordering) → IsTotalOrder cmp → (p : K → Type 0) (q : X → Type 0) (wf : K → A') (w : WriteGrammar A') (rf : K → A) (r : ReadGrammar A) (wg : X → B') (x : WriteGrammar B') (rg : X → B) (t : ReadGrammar B)
+pub map_reads_back : {K X A B A' B' : Type 0} (size : ItemSize) (cmp : K → K → Ordering) → IsTotalOrder cmp
+    → (p : K → Type 0) (q : X → Type 0) (wf : K → A') (w : WriteGrammar A') (rf : K → A) (r : ReadGrammar A) (wg : X → B') (x : WriteGrammar B') (rg : X → B)
+    (t : ReadGrammar B)
     → ReadsBack p wf w rf r → ReadsBack q wg x rg t
-    → ReadsBack {X = BTreeMap K X} (λ m. IsOrdered cmp m × Each (λ e. p e.0 × q e.1) m.entries) (λ m. map (sees wf wg) m.entries) (list_write_of (bincode preallocation_limit) 24 (pair_size w.meta x.meta) (pair_write w x))
+    → ReadsBack {X = BTreeMap K X} (λ m. IsOrdered cmp m × Each (λ e. p e.0 × q e.1) m.entries) (λ m. map (sees wf wg) m.entries)
+    (list_write_of (bincode preallocation_limit) 24 (pair_size w.meta x.meta) (pair_write w x))
     (λ m. map (sees rf rg) m.entries) (gathered_read (sees rf rg) (Made (IsMapOf cmp) (map (sees rf rg))) (bincode preallocation_limit) size (pair_read r t))
 map_reads_back {K = K} {X = X} {A = A} {B = B} size cmp o p q wf w rf r wg x rg t a c =
-    ordered_reads_back {X = BTreeMap K X} (bincode preallocation_limit) (bincode_laws preallocation_limit) size (λ m. m.entries) (IsOrdered cmp) (λ e. p e.0 × q e.1) (sees wf wg) (pair_write w x) (sees rf rg) (pair_read r t) (pair_reads_back a c)
+    ordered_reads_back {X = BTreeMap K X} (bincode preallocation_limit) (bincode_laws preallocation_limit) size (λ m. m.entries) (IsOrdered cmp)
+    (λ e. p e.0 × q e.1) (sees wf wg) (pair_write w x) (sees rf rg) (pair_read r t) (pair_reads_back a c)
     (pair_size w.meta x.meta) (IsMapOf cmp) (map (sees rf rg))
-    (λ ds m n h. admits_less preallocation_limit n _ _ (let l = map_shorter cmp o ds h.0 h.1 in let i = length-map m.entries (sees rf rg) in let j = length-map h.0 (sees rf rg) in let k = ap length h.2 in omega (arith, l, i, j, k)))
+    (λ ds m n h. admits_less preallocation_limit n _ _ (let l = map_shorter cmp o ds h.0 h.1 in let i = length-map m.entries (sees rf rg) in let j =
+    length-map h.0 (sees rf rg) in let k = ap length h.2 in omega (arith, l, i, j, k)))
     (λ ds m b j h.
     let P : A × B → Type 0 = λ v. ((k : K) → v.0 ≡ rf k → w.fits (wf k)) × ((y : X) → v.1 ≡ rg y → x.fits (wg y)) in
-    let each = map_each cmp o rf rg (λ v. (k : K) → v ≡ rf k → w.fits (wf k)) (λ v. (y : X) → v ≡ rg y → x.fits (wg y)) ds h.0 h.1 (pair_within p q wf w rf r wg x rg t a c (map (sees rf rg) ds) b j) in
-    each_see (sees wf wg) (pair_write w x).fits m.entries (each_zip (sees rf rg) P (λ e. w.fits (wf e.0) × x.fits (wg e.1)) (λ e u. (u.0 e.0 refl, u.1 e.1 refl)) m.entries (subst (Each P) (sym h.2) each)))
+    let each = map_each cmp o rf rg (λ v. (k : K) → v ≡ rf k → w.fits (wf k)) (λ v. (y : X) → v ≡ rg y → x.fits (wg y)) ds h.0 h.1
+    (pair_within p q wf w rf r wg x rg t a c (map (sees rf rg) ds) b j) in
+    each_see (sees wf wg) (pair_write w x).fits m.entries (each_zip (sees rf rg) P (λ e. w.fits (wf e.0) × x.fits (wg e.1))
+    (λ e u. (u.0 e.0 refl, u.1 e.1 refl)) m.entries (subst (Each P) (sym h.2) each)))
     (λ m s. own_map cmp o m.entries s)
 
-pub set_reads_back : {K A A' : Type 0} (size : ItemSize) (cmp : K → K → Ordering) → IsTotalOrder cmp → (p : K → Type 0) (wf : K → A') (w : WriteGrammar A') (rf : K → A) (r : ReadGrammar A) → ReadsBack p wf w rf r
-    → ReadsBack {X = BTreeSet K} (λ m. IsStrictlySortedBy cmp m.keys × Each p m.keys) (λ m. map wf m.keys) (list_write (bincode preallocation_limit) 24 w) (λ m. map rf m.keys) (gathered_read rf (Made (IsSetOf cmp) (map rf)) (bincode preallocation_limit) size r)
+pub set_reads_back : {K A A' : Type 0} (size : ItemSize) (cmp : K → K → Ordering) → IsTotalOrder cmp
+    → (p : K → Type 0) (wf : K → A') (w : WriteGrammar A') (rf : K → A) (r : ReadGrammar A) → ReadsBack p wf w rf r
+    → ReadsBack {X = BTreeSet K} (λ m. IsStrictlySortedBy cmp m.keys × Each p m.keys) (λ m. map wf m.keys) (list_write (bincode preallocation_limit) 24 w)
+    (λ m. map rf m.keys) (gathered_read rf (Made (IsSetOf cmp) (map rf)) (bincode preallocation_limit) size r)
 set_reads_back {K = K} {A = A} size cmp o p wf w rf r a =
     let P : A → Type 0 = λ v. (k : K) → v ≡ rf k → w.fits (wf k) in
-    ordered_reads_back {X = BTreeSet K} (bincode preallocation_limit) (bincode_laws preallocation_limit) size (λ m. m.keys) (λ m. IsStrictlySortedBy cmp m.keys) p wf w rf r a (item_size w.meta) (IsSetOf cmp) (map rf)
-    (λ ds m n h. admits_less preallocation_limit n _ _ (let l = keys_fewer (eq_by_cmp cmp) (eq_by_cmp_equiv o) ds h.0 (IsDistinct-from_sorted cmp _ h.1.ordered) h.1.firsts in let i = length-map m.keys rf in let j = length-map h.0 rf in let k = ap length h.2 in omega (arith, l, i, j, k)))
+    ordered_reads_back {X = BTreeSet K} (bincode preallocation_limit) (bincode_laws preallocation_limit) size (λ m. m.keys)
+    (λ m. IsStrictlySortedBy cmp m.keys) p wf w rf r a (item_size w.meta) (IsSetOf cmp) (map rf)
+    (λ ds m n h. admits_less preallocation_limit n _ _ (let l =
+    keys_fewer (eq_by_cmp cmp) (eq_by_cmp_equiv o) ds h.0 (IsDistinct-from_sorted cmp _ h.1.ordered) h.1.firsts in let i = length-map m.keys rf in let j =
+    length-map h.0 rf in let k = ap length h.2 in omega (arith, l, i, j, k)))
     (λ ds m b j h.
     let each = set_each cmp o rf P ds h.0 h.1 (key_within p wf w rf r a (map rf ds) b j) in
     each_see wf w.fits m.keys (each_zip rf P (λ k. w.fits (wf k)) (λ k u. u k refl) m.keys (subst (Each P) (sym h.2) each)))
@@ -147,17 +183,24 @@ module _ {E K : Type 0} (eq : K → K → Bool) (laws : IsEquivalence eq) (key :
         none_all q [] a = refl
         none_all q (y ∷ ys) a = rw a.0 (none_all q ys a.1)
 
-        none_keyed : (q : K) (e : E) (ys : List E) → AllByRecursion (λ y. eq (key e) y ≡ false) (map key ys) → eq q (key e) ≡ true → find (λ y. eq q (key y)) ys ≡ None
+        none_keyed : (q : K) (e : E) (ys : List E) → AllByRecursion (λ y. eq (key e) y ≡ false) (map key ys) → eq q (key e) ≡ true
+            → find (λ y. eq q (key y)) ys ≡ None
         none_keyed q e ys a b = ap (λ t. find (λ y. t (key y)) ys) (same_hash_test eq laws q (key e) b) ∙ none_all (key e) ys a
 
-pub hash_map_reads_back : {K X A B A' B' : Type 0} (size : ItemSize) (eq : K → K → Bool) → IsEquivalence eq → (p : K → Type 0) (q : X → Type 0) (wf : K → A') (w : WriteGrammar A') (rf : K → A) (r : ReadGrammar A) (wg : X → B') (x : WriteGrammar B') (rg : X → B) (t : ReadGrammar B)
+pub hash_map_reads_back : {K X A B A' B' : Type 0} (size : ItemSize) (eq : K → K → Bool) → IsEquivalence eq
+    → (p : K → Type 0) (q : X → Type 0) (wf : K → A') (w : WriteGrammar A') (rf : K → A) (r : ReadGrammar A) (wg : X → B') (x : WriteGrammar B') (rg : X → B)
+    (t : ReadGrammar B)
     → ReadsBack p wf w rf r → ReadsBack q wg x rg t → {S : Type 0}
-    → ReadsBack {X = HashMap K X S} (λ m. IsUnique eq m × Each (λ e. p e.0 × q e.1) m.entries) (λ m. map (sees wf wg) m.entries) (scattered_write_of (bincode preallocation_limit) (pair_size w.meta x.meta) (pair_write w x))
-    (λ m. hash_map_sees eq rf rg m.entries) (gathered_read (sees rf rg) (Made (IsHashMapOf eq) (hash_map_sees eq rf rg)) (bincode preallocation_limit) size (pair_read r t))
+    → ReadsBack {X = HashMap K X S} (λ m. IsUnique eq m × Each (λ e. p e.0 × q e.1) m.entries) (λ m. map (sees wf wg) m.entries)
+    (scattered_write_of (bincode preallocation_limit) (pair_size w.meta x.meta) (pair_write w x))
+    (λ m. hash_map_sees eq rf rg m.entries) (gathered_read (sees rf rg) (Made (IsHashMapOf eq) (hash_map_sees eq rf rg)) (bincode preallocation_limit) size
+    (pair_read r t))
 hash_map_reads_back {K = K} {X = X} {A = A} {B = B} size eq laws p q wf w rf r wg x rg t a c {S} =
-    scattered_reads_back {X = HashMap K X S} (bincode preallocation_limit) (bincode_laws preallocation_limit) size (λ m. m.entries) (IsUnique eq) (λ e. p e.0 × q e.1) (sees wf wg) (pair_write w x) (sees rf rg) (pair_read r t) (pair_reads_back a c)
+    scattered_reads_back {X = HashMap K X S} (bincode preallocation_limit) (bincode_laws preallocation_limit) size (λ m. m.entries) (IsUnique eq)
+    (λ e. p e.0 × q e.1) (sees wf wg) (pair_write w x) (sees rf rg) (pair_read r t) (pair_reads_back a c)
     (pair_size w.meta x.meta) (IsHashMapOf eq) (hash_map_sees eq rf rg)
-    (λ ds m n h. admits_less preallocation_limit n _ _ (let l = keys_fewer eq laws (keys_of ds) (keys_of h.0) h.1.keys.once h.1.keys.firsts in let i = length-keys_of ds in let j = length-keys_of h.0 in let k = ap (λ v. v.2) h.2 in omega (arith, l, i, j, k)))
+    (λ ds m n h. admits_less preallocation_limit n _ _ (let l = keys_fewer eq laws (keys_of ds) (keys_of h.0) h.1.keys.once h.1.keys.firsts in let i =
+    length-keys_of ds in let j = length-keys_of h.0 in let k = ap (λ v. v.2) h.2 in omega (arith, l, i, j, k)))
     (λ ds m b j h.
     let firsts : (y : K) → option_map rf (find (eq y) (keys_of m.entries)) ≡ option_map rf (find (eq y) (keys_of h.0)) = λ y. ap (λ v. v.0 y) h.2 in
     let lasts : (y : K) → option_map rg (lookup (eq y) m.entries) ≡ option_map rg (lookup (eq y) h.0) = λ y. ap (λ v. v.1 y) h.2 in
@@ -171,26 +214,33 @@ hash_map_reads_back {K = K} {X = X} {A = A} {B = B} size eq laws p q wf w rf r w
     let first = each_found (λ e. P (rf e.0) × Q (rg e.1)) (λ e. test e.0) ds each in
     let last = each_found (λ e. P (rf e.0) × Q (rg e.1)) (λ e. test e.0) (reverse ds) (each_reverse (λ e. P (rf e.0) × Q (rg e.1)) ds each) in
     let k = IfSome-map rf P _ (IfSome-map (λ e. e.0) (λ u. P (rf u)) (find (λ e. test e.0) ds) (IfSome-first (λ e. P (rf e.0)) (λ e. Q (rg e.1)) _ first)) in
-    let v = IfSome-map rg Q _ (IfSome-map (λ e. e.1) (λ u. Q (rg u)) (find (λ e. test e.0) (reverse ds)) (IfSome-second (λ e. P (rf e.0)) (λ e. Q (rg e.1)) _ last)) in
+    let v = IfSome-map rg Q _ (IfSome-map (λ e. e.1) (λ u. Q (rg u)) (find (λ e. test e.0) (reverse ds))
+    (IfSome-second (λ e. P (rf e.0)) (λ e. Q (rg e.1)) _ last)) in
     let keys : option_map rf (option_map (λ e. e.0) (find (λ e. test e.0) ds)) ≡ option_map rf (option_map (λ e. e.0) (find (λ e. test e.0) m.entries)) =
     ap (option_map rf) (sym (find_keys test ds) ∙ sym (h.1.keys.firsts y)) ∙ sym (firsts y) ∙ ap (option_map rf) (find_keys test m.entries) in
-    let values : option_map rg (option_map (λ e. e.1) (find (λ e. test e.0) (reverse ds))) ≡ option_map rg (option_map (λ e. e.1) (find (λ e. test e.0) m.entries)) =
+    let values : option_map rg (option_map (λ e. e.1) (find (λ e. test e.0) (reverse ds)))
+    ≡ option_map rg (option_map (λ e. e.1) (find (λ e. test e.0) m.entries)) =
     ap (option_map rg) (sym (find_values test (reverse ds)) ∙ sym (h.1.lasts y)) ∙ sym (lasts y) ∙ ap (option_map rg) (find_values test m.entries) in
     IfSome-both (λ e. P (rf e.0)) (λ e. Q (rg e.1)) (find (λ e. test e.0) m.entries)
     (IfSome-unmap (λ e. e.0) (λ u. P (rf u)) (find (λ e. test e.0) m.entries) (IfSome-unmap rf P _ (subst (λ z. IfSome z P) keys k)))
     (IfSome-unmap (λ e. e.1) (λ u. Q (rg u)) (find (λ e. test e.0) m.entries) (IfSome-unmap rg Q _ (subst (λ z. IfSome z Q) values v)))) in
-    each_see (sees wf wg) (pair_write w x).fits m.entries (each_zip (λ e. e) (λ e. P (rf e.0) × Q (rg e.1)) (λ e. w.fits (wf e.0) × x.fits (wg e.1)) (λ e u. (u.0 e.0 refl, u.1 e.1 refl)) m.entries (subst (Each (λ e. P (rf e.0) × Q (rg e.1))) (sym (map-id m.entries)) all)))
+    each_see (sees wf wg) (pair_write w x).fits m.entries (each_zip (λ e. e) (λ e. P (rf e.0) × Q (rg e.1)) (λ e. w.fits (wf e.0) × x.fits (wg e.1))
+    (λ e u. (u.0 e.0 refl, u.1 e.1 refl)) m.entries (subst (Each (λ e. P (rf e.0) × Q (rg e.1))) (sym (map-id m.entries)) all)))
     (λ m es d z. record {
       keys = record { once = d; firsts = λ y. sym (perm_find eq laws y (keys_of m.entries) (keys_of es) (IsPermutation-map (λ e. e.0) m.entries es z) d) };
       lasts = λ y. sym (perm_lookup eq laws y m.entries (reverse es) (IsPermutation-trans m.entries es (reverse es) z (IsPermutation-reverse es)) d);
     })
 
-pub hash_set_reads_back : {K A A' : Type 0} (size : ItemSize) (eq : K → K → Bool) → IsEquivalence eq → (p : K → Type 0) (wf : K → A') (w : WriteGrammar A') (rf : K → A) (r : ReadGrammar A) → ReadsBack p wf w rf r → {S : Type 0}
-    → ReadsBack {X = HashSet K S} (λ m. IsDistinct eq m.keys × Each p m.keys) (λ m. map wf m.keys) (scattered_write (bincode preallocation_limit) w) (λ m. hash_set_sees eq rf m.keys) (gathered_read rf (Made (IsHashSetOf eq) (hash_set_sees eq rf)) (bincode preallocation_limit) size r)
+pub hash_set_reads_back : {K A A' : Type 0} (size : ItemSize) (eq : K → K → Bool) → IsEquivalence eq
+    → (p : K → Type 0) (wf : K → A') (w : WriteGrammar A') (rf : K → A) (r : ReadGrammar A) → ReadsBack p wf w rf r → {S : Type 0}
+    → ReadsBack {X = HashSet K S} (λ m. IsDistinct eq m.keys × Each p m.keys) (λ m. map wf m.keys) (scattered_write (bincode preallocation_limit) w)
+    (λ m. hash_set_sees eq rf m.keys) (gathered_read rf (Made (IsHashSetOf eq) (hash_set_sees eq rf)) (bincode preallocation_limit) size r)
 hash_set_reads_back {K = K} {A = A} size eq laws p wf w rf r a {S} =
     let P : A → Type 0 = λ v. (k : K) → v ≡ rf k → w.fits (wf k) in
-    scattered_reads_back {X = HashSet K S} (bincode preallocation_limit) (bincode_laws preallocation_limit) size (λ m. m.keys) (λ m. IsDistinct eq m.keys) p wf w rf r a (item_size w.meta) (IsHashSetOf eq) (hash_set_sees eq rf)
-    (λ ds m n h. admits_less preallocation_limit n _ _ (let l = keys_fewer eq laws ds h.0 h.1.once h.1.firsts in let k = ap (λ v. v.1) h.2 in omega (arith, l, k)))
+    scattered_reads_back {X = HashSet K S} (bincode preallocation_limit) (bincode_laws preallocation_limit) size (λ m. m.keys) (λ m. IsDistinct eq m.keys)
+    p wf w rf r a (item_size w.meta) (IsHashSetOf eq) (hash_set_sees eq rf)
+    (λ ds m n h. admits_less preallocation_limit n _ _ (let l = keys_fewer eq laws ds h.0 h.1.once h.1.firsts in let k = ap (λ v. v.1) h.2 in
+    omega (arith, l, k)))
     (λ ds m b j h.
     let firsts : (y : K) → option_map rf (find (eq y) m.keys) ≡ option_map rf (find (eq y) h.0) = λ y. ap (λ v. v.0 y) h.2 in
     let once = once_too eq laws rf m.keys h.0 h.1.once (ap (λ v. v.1) h.2) firsts in
@@ -199,7 +249,8 @@ hash_set_reads_back {K = K} {A = A} size eq laws p wf w rf r a {S} =
     let k = IfSome-map rf P (find (eq y) ds) (each_found (λ k. P (rf k)) (eq y) ds each) in
     let keys : option_map rf (find (eq y) ds) ≡ option_map rf (find (eq y) m.keys) = ap (option_map rf) (sym (h.1.firsts y)) ∙ sym (firsts y) in
     IfSome-unmap rf P (find (eq y) m.keys) (subst (λ z. IfSome z P) keys k)) in
-    each_see wf w.fits m.keys (each_zip (λ k. k) (λ k. P (rf k)) (λ k. w.fits (wf k)) (λ k u. u k refl) m.keys (subst (Each (λ k. P (rf k))) (sym (map-id m.keys)) all)))
+    each_see wf w.fits m.keys (each_zip (λ k. k) (λ k. P (rf k)) (λ k. w.fits (wf k)) (λ k u. u k refl) m.keys
+    (subst (Each (λ k. P (rf k))) (sym (map-id m.keys)) all)))
     (λ m es d z. record { once = d; firsts = λ y. sym (perm_find eq laws y m.keys es z d) })
 
 -- ---- heaps
@@ -212,7 +263,8 @@ module _ {A : Type 0} (P : A → Type 0) where
   counted t [] e l = absurd (omega arith)
   counted t (x ∷ xs) e l = elim (cases_Bool (t x)) [
     | inl b ↦ (x, b, e.0)
-    | inr b ↦ let c : count_by t (x ∷ xs) ≡ count_by t xs = count_cons t x xs ∙ ap (λ k. cond k 1 0 + count_by t xs) b ∙ omega arith in counted t xs e.1 (omega (arith, l, c))
+    | inr b ↦ let c : count_by t (x ∷ xs) ≡ count_by t xs = count_cons t x xs ∙ ap (λ k. cond k 1 0 + count_by t xs) b ∙ omega arith in
+        counted t xs e.1 (omega (arith, l, c))
   ]
 
   -- what holds of each of a bag holds of each of a list whose items are in the bag
@@ -225,13 +277,16 @@ module _ {A : Type 0} (P : A → Type 0) where
       let x = counted same xs e (omega (arith, one, l)) in
       (subst P (sym ((told y x.0).1.0 x.1)) x.2, each_counted told xs ys e (λ t. let c = count_cons t y ys in let k = h t in omega (arith, c, k)))
 
-pub heap_reads_back : {H K A A' : Type 0} (size : ItemSize) (s : Scheme) → SchemeLaws s → (items : H → List K) → IsDecidable A → (p : K → Type 0) (wf : K → A') (w : WriteGrammar A') (rf : K → A) (r : ReadGrammar A) → ReadsBack p wf w rf r
-    → ReadsBack {X = H} (λ h. Each p (items h)) (λ h. map wf (items h)) (scattered_write s w) (λ h. heap_sees rf (items h)) (gathered_read rf (Made IsPermutation (heap_sees rf)) s size r)
+pub heap_reads_back : {H K A A' : Type 0} (size : ItemSize) (s : Scheme) → SchemeLaws s → (items : H → List K) → IsDecidable A
+    → (p : K → Type 0) (wf : K → A') (w : WriteGrammar A') (rf : K → A) (r : ReadGrammar A) → ReadsBack p wf w rf r
+    → ReadsBack {X = H} (λ h. Each p (items h)) (λ h. map wf (items h)) (scattered_write s w) (λ h. heap_sees rf (items h))
+    (gathered_read rf (Made IsPermutation (heap_sees rf)) s size r)
 heap_reads_back {H = H} {K = K} {A = A} size s scheme items told p wf w rf r a =
     let P : A → Type 0 = λ v. (k : K) → v ≡ rf k → w.fits (wf k) in
     let law = scattered_reads_back {X = H} s scheme size items (λ h. Unit {0}) p wf w rf r a (item_size w.meta) IsPermutation (heap_sees rf)
     (λ ds h n m a.
-    let e = ap (λ v. v (λ x. true)) m.2 in let i = count_all (map rf (items h)) in let j = count_all (map rf m.0) in let k = length-map (items h) rf in let l = length-map m.0 rf in let o = length_permutation ds m.0 m.1 in
+    let e = ap (λ v. v (λ x. true)) m.2 in let i = count_all (map rf (items h)) in let j = count_all (map rf m.0) in let k = length-map (items h) rf in let l =
+    length-map m.0 rf in let o = length_permutation ds m.0 m.1 in
     subst (λ k. s.admits k n) (omega (arith, e, i, j, k, l, o)) a)
     (λ ds h b j m.
     let each = key_within p wf w rf r a (map rf ds) b j in

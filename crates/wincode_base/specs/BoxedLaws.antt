@@ -15,12 +15,14 @@ pub boxed_read_laws : {V : Type 0} (p : V → Type 0) (g : ReadGrammar V) → Re
 boxed_read_laws p g l = record { one_front = l.one_front; reads_valid = l.reads_valid; statics = boxed_static g.reads g.meta l.statics; prealloc = omega arith }
 
 -- `value` is what a box holds
-pub boxed_write_laws : {X Y V : Type 0} (is_valid : X → Type 0) (model : X → V) (value : Y → X) (g : WriteGrammar V) → WriteLaws is_valid model g → WriteLaws (λ y. is_valid (value y)) (λ y. model (value y)) (boxed_write g)
+pub boxed_write_laws : {X Y V : Type 0} (is_valid : X → Type 0) (model : X → V) (value : Y → X) (g : WriteGrammar V) → WriteLaws is_valid model g
+    → WriteLaws (λ y. is_valid (value y)) (λ y. model (value y)) (boxed_write g)
 boxed_write_laws is_valid model value g l =
     let r = reference_write_laws is_valid model value g l in
     record { has_encoding = r.has_encoding; encoding_size = r.encoding_size; can_fit = r.can_fit; statics = r.statics }
 
-pub boxed_reads_back : {X Y V W : Type 0} (value : Y → X) (p : X → Type 0) (ws : X → W) (w : WriteGrammar W) (rs : X → V) (r : ReadGrammar V) → ReadsBack p ws w rs r → ReadsBack (λ y. p (value y)) (λ y. ws (value y)) (boxed_write w) (λ y. rs (value y)) (boxed_read r)
+pub boxed_reads_back : {X Y V W : Type 0} (value : Y → X) (p : X → Type 0) (ws : X → W) (w : WriteGrammar W) (rs : X → V) (r : ReadGrammar V)
+    → ReadsBack p ws w rs r → ReadsBack (λ y. p (value y)) (λ y. ws (value y)) (boxed_write w) (λ y. rs (value y)) (boxed_read r)
 boxed_reads_back value p ws w rs r l = record {
   back = λ y b c t f. l.back (value y) b c t f;
   within = λ b y t. l.within b (value y) t;

@@ -27,7 +27,8 @@ module _ {V : Type 0} (reads : List ℕ → V → Type 0) (n : ℕ) (sized : (b 
   window_due borrow old new reader.OutOfMemory d = d
   window_due borrow old new (reader.Io e) d = d
 
-  stayed_refuses : (borrow : ℕ) (takes_no_memory : Bool) (old new : ReaderState) (e : IoReadError) → Stays old new → ReaderDue (Accepts reads old) borrow new e → ReadRefused reads borrow takes_no_memory old new (reading.Io e)
+  stayed_refuses : (borrow : ℕ) (takes_no_memory : Bool) (old new : ReaderState) (e : IoReadError) → Stays old new → ReaderDue (Accepts reads old) borrow new e
+      → ReadRefused reads borrow takes_no_memory old new (reading.Io e)
   stayed_refuses borrow takes_no_memory old new e stays due = record {
     kept = stays.kept;
     left = λ t. record { front = []; joins = sym (stays.rest t) };
@@ -36,12 +37,14 @@ module _ {V : Type 0} (reads : List ℕ → V → Type 0) (n : ℕ) (sized : (b 
   }
 
   -- the reader refused n bytes
-  pub denied_refuses : (borrow : ℕ) (takes_no_memory : Bool) (old new : ReaderState) (e : ReadError) → PieceReadRefused n old new e → ReadRefused reads borrow takes_no_memory old new e
+  pub denied_refuses : (borrow : ℕ) (takes_no_memory : Bool) (old new : ReaderState) (e : ReadError) → PieceReadRefused n old new e
+      → ReadRefused reads borrow takes_no_memory old new e
   denied_refuses borrow takes_no_memory old new (reading.Io e) d = stayed_refuses borrow takes_no_memory old new e d.0 (denied_due borrow old new e d.1)
   denied_refuses borrow takes_no_memory old new _ d = absurd d
 
   -- the reader refused a window of n bytes
-  pub window_denied_refuses : (borrow : ℕ) (takes_no_memory : Bool) (old new : ReaderState) (e : ReadError) → NoWindow n old new e → ReadRefused reads borrow takes_no_memory old new e
+  pub window_denied_refuses : (borrow : ℕ) (takes_no_memory : Bool) (old new : ReaderState) (e : ReadError) → NoWindow n old new e
+      → ReadRefused reads borrow takes_no_memory old new e
   window_denied_refuses borrow takes_no_memory old new (reading.Io e) d = stayed_refuses borrow takes_no_memory old new e d.0 (window_due borrow old new e d.1)
   window_denied_refuses borrow takes_no_memory old new _ d = absurd d
 
@@ -63,7 +66,8 @@ pub takes_joins : {n : ℕ} {old new : ReaderState} {bytes : List ℕ} → Takes
 takes_joins {n} {old} {new} {bytes} t told = (t.loses.rest told).1 ∙ ap (λ b. b ++ new.rest) (sym (t.front told))
 
 -- the bytes that were taken read as v
-pub takes_gives : {V : Type 0} (reads : List ℕ → V → Type 0) (n : ℕ) (old new : ReaderState) (bytes : List ℕ) (v : V) → Takes n old new bytes → reads bytes v → Gives reads old new v
+pub takes_gives : {V : Type 0} (reads : List ℕ → V → Type 0) (n : ℕ) (old new : ReaderState) (bytes : List ℕ) (v : V) → Takes n old new bytes → reads bytes v
+    → Gives reads old new v
 takes_gives reads n old new bytes v t r = record {
   kept = t.loses.kept;
   found = λ told. record { encoding = bytes; is_read = r; joins = takes_joins t told };
@@ -71,5 +75,6 @@ takes_gives reads n old new bytes v t r = record {
 }
 
 -- the destination has a value that reading gave
-pub puts : {D V : Type 0} (reads : List ℕ → V → Type 0) (model : D → V) (old new : ReaderState) (v : D) → Gives reads old new (model v) → Puts reads model old new (Some v)
+pub puts : {D V : Type 0} (reads : List ℕ → V → Type 0) (model : D → V) (old new : ReaderState) (v : D) → Gives reads old new (model v)
+    → Puts reads model old new (Some v)
 puts reads model old new v g = g

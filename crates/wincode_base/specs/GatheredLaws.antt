@@ -31,7 +31,8 @@ use Rattle.wincode_base.specs.declared.error.ReadError.{ReadError}
 use Rattle.wincode_base.specs.declared.sizes.ItemSize.{ItemSize}
 
 -- what is made of a list by a relation that tells only what is seen of it
-pub gathered_laws : {D V W : Type 0} (see : D → V) (makes : List D → W → Type 0) → ((ds es : List D) (v w : W) → map see ds ≡ map see es → makes ds v → makes es w → v ≡ w)
+pub gathered_laws : {D V W : Type 0} (see : D → V) (makes : List D → W → Type 0)
+    → ((ds es : List D) (v w : W) → map see ds ≡ map see es → makes ds v → makes es w → v ≡ w)
     → (p : V → Type 0) (q : W → Type 0) → ((ds : List D) (w : W) → Each p (map see ds) → makes ds w → q w)
     → (s : Scheme) → SchemeLaws s → (size : ItemSize) → (g : ReadGrammar V) → ReadLaws p g → ReadLaws q (gathered_read see makes s size g)
 gathered_laws see makes one p q kept s scheme size g laws =
@@ -106,41 +107,60 @@ module _ {K X A B : Type 0} (cmp : K → K → Ordering) (o : IsTotalOrder cmp) 
       let last = each_found (λ e. P (f e.0) × Q (g e.1)) (λ e. t e.0) (reverse ds) (each_reverse (λ e. P (f e.0) × Q (g e.1)) ds each) in
       let k = IfSome-map (λ e. e.0) (λ x. P (f x)) (find (λ e. t e.0) ds) (IfSome-first (λ e. P (f e.0)) (λ e. Q (g e.1)) _ first) in
       let v = IfSome-map (λ e. e.1) (λ x. Q (g x)) (find (λ e. t e.0) (reverse ds)) (IfSome-second (λ e. P (f e.0)) (λ e. Q (g e.1)) _ last) in
-      let keys : option_map (λ e. e.0) (find (λ e. t e.0) ds) ≡ option_map (λ e. e.0) (find (λ e. t e.0) fs) = sym (find_keys t ds) ∙ sym (m.keys.firsts q) ∙ find_keys t fs in
-      let values : option_map (λ e. e.1) (find (λ e. t e.0) (reverse ds)) ≡ option_map (λ e. e.1) (find (λ e. t e.0) fs) = sym (find_values t (reverse ds)) ∙ sym (m.lasts q) ∙ find_values t fs in
+      let keys : option_map (λ e. e.0) (find (λ e. t e.0) ds) ≡ option_map (λ e. e.0) (find (λ e. t e.0) fs) =
+      sym (find_keys t ds) ∙ sym (m.keys.firsts q) ∙ find_keys t fs in
+      let values : option_map (λ e. e.1) (find (λ e. t e.0) (reverse ds)) ≡ option_map (λ e. e.1) (find (λ e. t e.0) fs) =
+      sym (find_values t (reverse ds)) ∙ sym (m.lasts q) ∙ find_values t fs in
       IfSome-both (λ e. P (f e.0)) (λ e. Q (g e.1)) (find (λ e. t e.0) fs)
       (IfSome-unmap (λ e. e.0) (λ x. P (f x)) (find (λ e. t e.0) fs) (subst (λ o. IfSome o (λ x. P (f x))) keys k))
       (IfSome-unmap (λ e. e.1) (λ x. Q (g x)) (find (λ e. t e.0) fs) (subst (λ o. IfSome o (λ x. Q (g x))) values v))))
 
 -- what holds of the list that was read holds of the set
-pub set_each : {K A : Type 0} (cmp : K → K → Ordering) (o : IsTotalOrder cmp) (f : K → A) (P : A → Type 0) (ds fs : List K) → IsSetOf cmp ds fs → Each P (map f ds) → Each P (map f fs)
-set_each cmp o f P ds fs m a = each_see f P fs (each_at cmp o (λ k. k) (λ k. P (f k)) fs (subst (IsStrictlySortedBy cmp) (sym (map-id fs)) m.ordered) (λ q. subst (λ x. IfSome x (λ k. P (f k))) (sym (m.firsts q)) (each_found (λ k. P (f k)) (is_at (cmp q)) ds (each_of_see f P ds a))))
+pub set_each : {K A : Type 0} (cmp : K → K → Ordering) (o : IsTotalOrder cmp) (f : K → A) (P : A → Type 0) (ds fs : List K) → IsSetOf cmp ds fs
+    → Each P (map f ds) → Each P (map f fs)
+set_each cmp o f P ds fs m a = each_see f P fs (each_at cmp o (λ k. k) (λ k. P (f k)) fs (subst (IsStrictlySortedBy cmp) (sym (map-id fs)) m.ordered)
+    (λ q. subst (λ x. IfSome x (λ k. P (f k))) (sym (m.firsts q)) (each_found (λ k. P (f k)) (is_at (cmp q)) ds (each_of_see f P ds a))))
 
 -- ---- the laws of each
 
 module _ {K A : Type 0} (s : Scheme) (scheme : SchemeLaws s) (size : ItemSize) (f : K → A) {p : A → Type 0} {g : ReadGrammar A} (l : ReadLaws p g) where
-  pub set_read_laws : (cmp : K → K → Ordering) → IsTotalOrder cmp → (eq : K → K → Bool) → ((x y : K) → eq x y ≡ is_eq (cmp x y)) → ((x y : K) → f x ≡ f y → eq x y ≡ true) → ReadLaws (Each p) (gathered_read f (Made (IsSetOf cmp) (map f)) s size g)
-  set_read_laws cmp o eq match alike = gathered_laws f (Made (IsSetOf cmp) (map f)) (set_one cmp o eq match f alike) p (Each p) (λ ds w a h. subst (Each p) (sym h.2) (set_each cmp o f p ds h.0 h.1 a)) s scheme size g l
+  pub set_read_laws : (cmp : K → K → Ordering) → IsTotalOrder cmp → (eq : K → K → Bool) → ((x y : K) → eq x y ≡ is_eq (cmp x y))
+      → ((x y : K) → f x ≡ f y → eq x y ≡ true) → ReadLaws (Each p) (gathered_read f (Made (IsSetOf cmp) (map f)) s size g)
+  set_read_laws cmp o eq match alike = gathered_laws f (Made (IsSetOf cmp) (map f)) (set_one cmp o eq match f alike) p (Each p)
+      (λ ds w a h. subst (Each p) (sym h.2) (set_each cmp o f p ds h.0 h.1 a)) s scheme size g l
 
-  pub hash_set_read_laws : (eq : K → K → Bool) → IsEquivalence eq → ((x y : K) → f x ≡ f y → eq x y ≡ true) → ReadLaws (λ v. Unit {0}) (gathered_read f (Made (IsHashSetOf eq) (hash_set_sees eq f)) s size g)
-  hash_set_read_laws eq laws alike = gathered_laws f (Made (IsHashSetOf eq) (hash_set_sees eq f)) (hash_set_one eq laws f alike) p (λ v. Unit {0}) (λ ds w a h. tt) s scheme size g l
+  pub hash_set_read_laws : (eq : K → K → Bool) → IsEquivalence eq → ((x y : K) → f x ≡ f y → eq x y ≡ true)
+      → ReadLaws (λ v. Unit {0}) (gathered_read f (Made (IsHashSetOf eq) (hash_set_sees eq f)) s size g)
+  hash_set_read_laws eq laws alike = gathered_laws f (Made (IsHashSetOf eq) (hash_set_sees eq f)) (hash_set_one eq laws f alike) p (λ v. Unit {0})
+      (λ ds w a h. tt) s scheme size g l
 
   pub bag_read_laws : ReadLaws (λ v. Unit {0}) (gathered_read f (Made IsPermutation (heap_sees f)) s size g)
   bag_read_laws = gathered_laws f (Made IsPermutation (heap_sees f)) (bag_one f) p (λ v. Unit {0}) (λ ds w a h. tt) s scheme size g l
 
-module _ {K X A B : Type 0} (s : Scheme) (scheme : SchemeLaws s) (size : ItemSize) (f : K → A) (g : X → B) {p : A → Type 0} {q : B → Type 0} {r : ReadGrammar A} {t : ReadGrammar B} (l : ReadLaws p r) (m : ReadLaws q t) where
-  pub map_read_laws : (cmp : K → K → Ordering) → IsTotalOrder cmp → (eq : K → K → Bool) → ((x y : K) → eq x y ≡ is_eq (cmp x y)) → ((x y : K) → f x ≡ f y → eq x y ≡ true)
+module _ {K X A B : Type 0} (s : Scheme) (scheme : SchemeLaws s) (size : ItemSize) (f : K → A) (g : X → B)
+    {p : A → Type 0} {q : B → Type 0} {r : ReadGrammar A} {t : ReadGrammar B} (l : ReadLaws p r) (m : ReadLaws q t) where
+  pub map_read_laws : (cmp : K → K → Ordering) → IsTotalOrder cmp → (eq : K → K → Bool) → ((x y : K) → eq x y ≡ is_eq (cmp x y))
+      → ((x y : K) → f x ≡ f y → eq x y ≡ true)
       → ReadLaws (Each (λ v. p v.0 × q v.1)) (gathered_read (sees f g) (Made (IsMapOf cmp) (map (sees f g))) s size (pair_read r t))
-  map_read_laws cmp o eq match alike = gathered_laws (sees f g) (Made (IsMapOf cmp) (map (sees f g))) (map_one cmp o eq match f g alike) (λ v. p v.0 × q v.1) (Each (λ v. p v.0 × q v.1))
+  map_read_laws cmp o eq match alike = gathered_laws (sees f g) (Made (IsMapOf cmp) (map (sees f g))) (map_one cmp o eq match f g alike) (λ v. p v.0 × q v.1)
+      (Each (λ v. p v.0 × q v.1))
       (λ ds w a h. subst (Each (λ v. p v.0 × q v.1)) (sym h.2) (map_each cmp o f g p q ds h.0 h.1 a)) s scheme size (pair_read r t) (pair_read_laws l m)
 
-  pub hash_map_read_laws : (eq : K → K → Bool) → IsEquivalence eq → ((x y : K) → f x ≡ f y → eq x y ≡ true) → ReadLaws (λ v. Unit {0}) (gathered_read (sees f g) (Made (IsHashMapOf eq) (hash_map_sees eq f g)) s size (pair_read r t))
-  hash_map_read_laws eq laws alike = gathered_laws (sees f g) (Made (IsHashMapOf eq) (hash_map_sees eq f g)) (hash_map_one eq laws f alike g) (λ v. p v.0 × q v.1) (λ v. Unit {0}) (λ ds w a h. tt) s scheme size (pair_read r t) (pair_read_laws l m)
+  pub hash_map_read_laws : (eq : K → K → Bool) → IsEquivalence eq → ((x y : K) → f x ≡ f y → eq x y ≡ true)
+      → ReadLaws (λ v. Unit {0}) (gathered_read (sees f g) (Made (IsHashMapOf eq) (hash_map_sees eq f g)) s size (pair_read r t))
+  hash_map_read_laws eq laws alike = gathered_laws (sees f g) (Made (IsHashMapOf eq) (hash_map_sees eq f g)) (hash_map_one eq laws f alike g)
+      (λ v. p v.0 × q v.1) (λ v. Unit {0}) (λ ds w a h. tt) s scheme size (pair_read r t) (pair_read_laws l m)
 
 module _ {D V W : Type 0} (see : D → V) (makes : List D → W → Type 0) (s : Scheme) (size : ItemSize) (g : ReadGrammar V) where
   -- the list was refused, and so is what is made of it
-  pub gathered_refused : (count : ℕ) (old new : ReaderState) (e : ReadError) → SchemaReadRefused (list_read_of s count size g) old new e → SchemaReadRefused (gathered_read see makes s size g) old new e
-  gathered_refused count old new e r = (refuses_map (reads_list s g) (gathered_read see makes s size g).reads g.borrow false old new e (λ b w t. (map see t.0, t.1)) r.0, r.1)
+  pub gathered_refused : (count : ℕ) (old new : ReaderState) (e : ReadError) → SchemaReadRefused (list_read_of s count size g) old new e
+      → SchemaReadRefused (gathered_read see makes s size g) old new e
+  gathered_refused count old new e r = (
+    refuses_map (reads_list s g) (gathered_read see makes s size g).reads g.borrow false old new e
+        (λ b w t. (map see t.0, t.1)) r.0,
+    r.1,
+  )
 
-  pub gathered_gives : (old new : ReaderState) (ds : List D) (w : W) → Gives (reads_list s g) old new (map see ds) → makes ds w → Gives (gathered_read see makes s size g).reads old new w
+  pub gathered_gives : (old new : ReaderState) (ds : List D) (w : W) → Gives (reads_list s g) old new (map see ds) → makes ds w
+      → Gives (gathered_read see makes s size g).reads old new w
   gathered_gives old new ds w r m = gives_map (reads_list s g) (gathered_read see makes s size g).reads old new (map see ds) w (λ b t. (ds, t, m)) r

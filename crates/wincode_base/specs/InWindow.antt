@@ -9,7 +9,8 @@ use Rattle.wincode_base.specs.declared.meta.TypeMeta.TheVariants.{Static, Dynami
 -- What is read through a window of n bytes was refused: the window was, and nothing is gone; or all n bytes are gone,
 -- and what is in them was refused as `inside` says.
 abbrev pub WindowReadRefused : ℕ → ReadRefusal → ReadRefusal
-WindowReadRefused n inside old new e = NoWindow n old new e ⊎ ((window : ReaderState) × (after : ReaderState) × Windowed n old new window × inside window after e)
+WindowReadRefused n inside old new e = NoWindow n old new e ⊎
+    ((window : ReaderState) × (after : ReaderState) × Windowed n old new window × inside window after e)
 
 -- What has one size is read through a window of it; the parts of what has none are refused as they say.
 abbrev pub StaticReadRefused : TypeMeta → ReadRefusal → ReadRefusal

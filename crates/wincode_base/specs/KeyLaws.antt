@@ -24,7 +24,8 @@ bool_alike x y = (booleans_Decides x y).1
 pub str_alike : IsAlike (pointwise nat_eq) (λ bytes. bytes)
 str_alike x y = (pointwise_decides unsigned_Decides x y).1
 
-pub pair_alike : {A B V W : Type 0} {E : A → A → Bool} {F : B → B → Bool} {f : A → V} {g : B → W} → IsAlike E f → IsAlike F g → IsAlike {K = A × B} (λ p q. E p.0 q.0 && F p.1 q.1) (sees f g)
+pub pair_alike : {A B V W : Type 0} {E : A → A → Bool} {F : B → B → Bool} {f : A → V} {g : B → W} → IsAlike E f → IsAlike F g
+    → IsAlike {K = A × B} (λ p q. E p.0 q.0 && F p.1 q.1) (sees f g)
 pair_alike {F = F} a b p q e = let m = a p.0 q.0 (ap (λ t. t.0) e) in let n = b p.1 q.1 (ap (λ t. t.1) e) in ap (λ t. t && F p.1 q.1) m ∙ n
 
 pub option_alike : {A V : Type 0} {E : A → A → Bool} {f : A → V} → IsAlike E f → IsAlike (option_eq E) (option_map f)
@@ -36,7 +37,8 @@ option_alike a (Some x) (Some y) e = a x y (cc)
 pub both_true : {a b : Bool} → a ≡ true → b ≡ true → (a && b) ≡ true
 both_true {b = b} p q = ap (λ t. t && b) p ∙ q
 
-pub result_alike : {A B V W : Type 0} {E : A → A → Bool} {F : B → B → Bool} {f : A → V} {g : B → W} → IsAlike E f → IsAlike F g → IsAlike (result_eq E F) (result_map_both f g)
+pub result_alike : {A B V W : Type 0} {E : A → A → Bool} {F : B → B → Bool} {f : A → V} {g : B → W} → IsAlike E f → IsAlike F g
+    → IsAlike (result_eq E F) (result_map_both f g)
 result_alike a b (Ok x) (Ok y) e = a x y (cc)
 result_alike a b (Ok x) (Err y) e = absurd (true≢false (ap is_ok e))
 result_alike a b (Err x) (Ok y) e = absurd (true≢false (ap is_ok (sym e)))

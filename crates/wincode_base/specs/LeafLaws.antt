@@ -22,7 +22,8 @@ same_front (c ∷ a) (d ∷ b) x y l e =
     let m : length a ≡ length b = omega arith in
     let r = same_front a b x y m h in cc
 
-pub number_one : (k : ℕ) (any : Bool) (a b x y : List ℕ) (v w : ℕ) → (number_read k any).reads a v → (number_read k any).reads b w → a ++ x ≡ b ++ y → (a ≡ b) × (v ≡ w)
+pub number_one : (k : ℕ) (any : Bool) (a b x y : List ℕ) (v w : ℕ) → (number_read k any).reads a v → (number_read k any).reads b w → a ++ x ≡ b ++ y → (a ≡ b)
+    × (v ≡ w)
 number_one k any a b x y v w p q e =
     let size : length a ≡ length b = ap length p.1 ∙ length-le k v ∙ sym (ap length q.1 ∙ length-le k w) in
     let same = same_front a b x y size e in
@@ -81,7 +82,11 @@ module _ (w : Width) (pow : 256 ^ byte_len w ≡ 2 ^ bits w) where
   signed_read_laws any some = record {
     one_front = signed_one any;
     reads_valid = λ b z r. r.0;
-    statics = (λ b z r. ap length r.1 ∙ length-le (byte_len w) (cast_unsigned w z), λ t b all e. let n = number_of (byte_len w) b all e in (cast_signed w n.0, signed_of any b n.0 n.1));
+    statics = (
+      λ b z r. ap length r.1 ∙ length-le (byte_len w) (cast_unsigned w z),
+      λ t b all e. let n = number_of (byte_len w) b all e in
+          (cast_signed w n.0, signed_of any b n.0 n.1),
+    );
     prealloc = some;
   }
 

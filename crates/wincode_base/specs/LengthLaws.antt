@@ -17,7 +17,8 @@ bincode_encoding_is limit n a e = let h = cond_some (nat_lt n (2 ^ 64)) (le 8 n)
 pub bincode_laws : (limit : ℕ) → SchemeLaws (bincode limit)
 bincode_laws limit = record {
   admitted = λ n p h. (le 8 n, bincode_encoding limit n h.0);
-  one_length = λ a b x y m n p q e. let f = bincode_encoding_is limit m a p in let g = bincode_encoding_is limit n b q in number_one 8 true a b x y m n (f.0, f.1) (g.0, g.1) e;
+  one_length = λ a b x y m n p q e. let f = bincode_encoding_is limit m a p in let g = bincode_encoding_is limit n b q in
+      number_one 8 true a b x y m n (f.0, f.1) (g.0, g.1) e;
 }
 
 -- a length that is read is the only one

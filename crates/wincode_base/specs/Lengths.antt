@@ -43,7 +43,8 @@ LengthSizeRefused s n e = (HasEncoding s n → ⊥) × IsValueError s.builtin e 
 -- A length was refused: it has an encoding, which is written in one piece, and that was refused; or it has none, and nothing
 -- was added.
 abbrev pub LengthWriteRefused : Scheme → WriteRefusal ℕ
-LengthWriteRefused s n room added e = (HasEncoding s n × PieceWriteRefused (encoding_len (s.encoding n)) room added e) ⊎ ((added ≡ []) × LengthSizeRefused s n e)
+LengthWriteRefused s n room added e = (HasEncoding s n × PieceWriteRefused (encoding_len (s.encoding n)) room added e)
+    ⊎ ((added ≡ []) × LengthSizeRefused s n e)
 
 -- a length alone, of items that count p
 abbrev pub length_read : Scheme → ℕ → ReadGrammar ℕ

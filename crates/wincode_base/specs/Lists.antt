@@ -154,7 +154,8 @@ abbrev pub run_read : {V : Type 0} → ℕ → ItemSize → ReadGrammar V → Re
 run_read n size g = record (items_read n g) { refused = RunReadRefused n size g }
 
 -- What a read answers that adds n values to a list: they are there; or it was refused, and the list is as it was.
-pub record AddOutcome {A D V : Type 0} (n : ℕ) (g : ReadGrammar V) (model : D → V) (old new : ReaderState) (before after : List D) (r : Result A ReadError) : Type 0 where
+pub record AddOutcome {A D V : Type 0} (n : ℕ) (g : ReadGrammar V) (model : D → V) (old new : ReaderState) (before after : List D)
+    (r : Result A ReadError) : Type 0 where
   pub ok : OnOk r (Adds n g.reads model old new before after)
   pub refused : IfErr r (ReadRefused (AreItems n g.reads) g.borrow false old new)
   pub place : IfErr r (ItemsReadRefused n g old new)

@@ -1,5 +1,30 @@
 -- What reading and writing a value answer, said once for lengths, leaves and compounds.
-use Rattle.std.specs.Prelude.{⊤, ◌≡◌, ◌⊎◌, ℕ, ◌^◌, ◌<◌, ◌≤◌, min, Bool, false, ◌&&◌, List, [], ◌++◌, length, map, codes, IsTrue, Option, Result, OnOk, IfErr, OnErr, IfOk}
+use Rattle.std.specs.Prelude.{
+  ⊤,
+  ◌≡◌,
+  ◌⊎◌,
+  ℕ,
+  ◌^◌,
+  ◌<◌,
+  ◌≤◌,
+  min,
+  Bool,
+  false,
+  ◌&&◌,
+  List,
+  [],
+  ◌++◌,
+  length,
+  map,
+  codes,
+  IsTrue,
+  Option,
+  Result,
+  OnOk,
+  IfErr,
+  OnErr,
+  IfOk,
+}
 use Rattle.std.specs.Option.{IsSomeAnd}
 use Rattle.wincode_io.specs.Joins.{AreItems}
 use Rattle.wincode_io.specs.Readers.{ReaderState, Kept, IsOnward, IsShort, BytesReadRefused, WindowRefused, is_steady}
@@ -106,7 +131,8 @@ FrontReadRefused g old e = (left : ReaderState) × SchemaReadRefused g old left 
 
 -- What a read into a destination answers: a value that it gave is there; or it was refused, as the grammar says, and the
 -- destination is as it was.
-pub record ReadOutcome {A D V : Type 0} (g : ReadGrammar V) (model : D → V) (old new : ReaderState) (before after : Option D) (r : Result A ReadError) : Type 0 where
+pub record ReadOutcome {A D V : Type 0} (g : ReadGrammar V) (model : D → V) (old new : ReaderState) (before after : Option D)
+    (r : Result A ReadError) : Type 0 where
   pub ok : OnOk r (Puts g.reads model old new after)
   pub refused : IfErr r (ReadRefused g.reads g.borrow g.takes_no_memory old new)
   pub place : IfErr r (g.refused old new)
@@ -119,7 +145,8 @@ pub record GetOutcome {D V : Type 0} (g : ReadGrammar V) (model : D → V) (old 
   pub place : IfErr r (g.refused old new)
 
 -- What a read answers that gives what is made of values, where `made` says what is made of which.
-pub record MakeOutcome {C D V : Type 0} (g : ReadGrammar (List V)) (model : D → V) (made : List D → C → Type 0) (old new : ReaderState) (r : Result C ReadError) : Type 0 where
+pub record MakeOutcome {C D V : Type 0} (g : ReadGrammar (List V)) (model : D → V) (made : List D → C → Type 0) (old new : ReaderState)
+    (r : Result C ReadError) : Type 0 where
   pub ok : IfOk r (λ c. (ds : List D) × Gives g.reads old new (map model ds) × made ds c)
   pub refused : IfErr r (ReadRefused g.reads g.borrow g.takes_no_memory old new)
   pub place : IfErr r (g.refused old new)
@@ -166,7 +193,8 @@ abbrev pub IsAble : {S K V : Type 0} {put : S → List ℕ → S} {room : S → 
 IsAble {room = room} g old v = g.can v × (g.size v ≤ min (room old.content) byte_limit)
 
 -- Writing was refused: a front of an encoding was added, where v can be written, and the error is due.
-pub record WriteRefused {S K V : Type 0} {put : S → List ℕ → S} {room : S → ℕ} (g : WriteGrammar V) (old new : WriterState put room K) (v : V) (e : WriteError) : Type 0 where
+pub record WriteRefused {S K V : Type 0} {put : S → List ℕ → S} {room : S → ℕ} (g : WriteGrammar V) (old new : WriterState put room K) (v : V)
+    (e : WriteError) : Type 0 where
   pub same : IsSameWriter old new
   pub began : g.can v → Began g old new v
   pub due : WriteDue (IsAble g old v) new e
@@ -178,14 +206,16 @@ PieceWriteRefused n room added (writing.Io e) = added ≡ []
 PieceWriteRefused n room added _ = ⊥
 
 -- A refused write has added these bytes, and is refused as the grammar says. It holds of what can't be written too.
-pub record Stopped {S K V : Type 0} {put : S → List ℕ → S} {room : S → ℕ} (g : WriteGrammar V) (old new : WriterState put room K) (v : V) (e : WriteError) : Type 0 where
+pub record Stopped {S K V : Type 0} {put : S → List ℕ → S} {room : S → ℕ} (g : WriteGrammar V) (old new : WriterState put room K) (v : V)
+    (e : WriteError) : Type 0 where
   pub added : List ℕ
   pub within : length added ≤ room old.content
   pub content : new.content ≡ put old.content added
   pub refused : g.refused v (room old.content) added e
 
 -- What a write answers: it added an encoding of one of the values, or it was refused and has added what the grammar says.
-pub record WriteOutcome {A S K V : Type 0} {put : S → List ℕ → S} {room : S → ℕ} (g : WriteGrammar V) (old new : WriterState put room K) (v : V) (is_valid : Type 0) (r : Result A WriteError) : Type 0 where
+pub record WriteOutcome {A S K V : Type 0} {put : S → List ℕ → S} {room : S → ℕ} (g : WriteGrammar V) (old new : WriterState put room K) (v : V)
+    (is_valid : Type 0) (r : Result A WriteError) : Type 0 where
   pub ok : OnOk r (Wrote g old new v)
   pub value : OnOk r is_valid
   pub refused : IfErr r (WriteRefused g old new v)
@@ -193,7 +223,8 @@ pub record WriteOutcome {A S K V : Type 0} {put : S → List ℕ → S} {room : 
 
 -- Writing the value and ending it was refused: the writing was; or all was written, and then a writer that keeps bytes
 -- back was refused its memory or by its device.
-abbrev pub SerializeIntoRefused : {S K V : Type 0} {put : S → List ℕ → S} {room : S → ℕ} → Bool → WriteGrammar V → WriterState put room K → WriterState put room K → V → WriteError → Type 0
+abbrev pub SerializeIntoRefused : {S K V : Type 0} {put : S → List ℕ → S} {room : S → ℕ} → Bool → WriteGrammar V → WriterState put room K
+    → WriterState put room K → V → WriteError → Type 0
 SerializeIntoRefused buffers g old new v e = (WriteRefused g old new v e × Stopped g old new v e)
     ⊎ (Wrote g old new v × IsTrue buffers × IsOfTheWriter new e)
 

@@ -20,7 +20,8 @@ overflow_unfit builtin (LengthEncodingOverflow s) o = (tt, λ x. inl o)
 overflow_unfit builtin _ o = absurd o
 
 -- the error of the size of a part that can be written where the whole can
-unsized_by : {P Q : Type 0} (e : WriteError) → (Q → P) → IsOverflow past_usize e ⊎ ((P → ⊥) × IsOverflow past_u16 e) → IsOverflow past_usize e ⊎ ((Q → ⊥) × IsOverflow past_u16 e)
+unsized_by : {P Q : Type 0} (e : WriteError) → (Q → P) → IsOverflow past_usize e ⊎ ((P → ⊥) × IsOverflow past_u16 e) → IsOverflow past_usize e
+    ⊎ ((Q → ⊥) × IsOverflow past_u16 e)
 unsized_by e f (inl o) = inl o
 unsized_by e f (inr o) = inr ((λ q. o.0 (f q)), o.1)
 
@@ -42,7 +43,8 @@ pub overflow_refused : (builtin : Bool) {P Q : Type 0} (e : WriteError) → (P �
 overflow_refused builtin e past o = (past, overflow_unsized builtin e o)
 
 -- so is the error of a value that can't be written
-pub unwritable : {Q : Type 0} (e : WriteError) → (Q → ⊥) → IsOverflow past_usize e ⊎ IsOverflow past_u16 e → IsOverflow past_usize e ⊎ ((Q → ⊥) × IsOverflow past_u16 e)
+pub unwritable : {Q : Type 0} (e : WriteError) → (Q → ⊥) → IsOverflow past_usize e ⊎ IsOverflow past_u16 e → IsOverflow past_usize e
+    ⊎ ((Q → ⊥) × IsOverflow past_u16 e)
 unwritable e none (inl o) = inl o
 unwritable e none (inr o) = inr (none, o)
 

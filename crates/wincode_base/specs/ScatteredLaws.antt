@@ -22,13 +22,16 @@ use Rattle.wincode_base.specs.Gathered.{scattered_write_of, scattered_write}
 use Rattle.wincode_base.specs.ItemSizes.{item_size}
 use Rattle.wincode_base.specs.declared.sizes.ItemSize.{ItemSize}
 
-sound_statics : {X V : Type 0} (sound p : X → Type 0) (model : X → V) (can : V → Type 0) (size : V → ℕ) (m : TypeMeta) → IsWriteStatic p model can size m → IsWriteStatic (λ x. sound x × p x) model can size m
+sound_statics : {X V : Type 0} (sound p : X → Type 0) (model : X → V) (can : V → Type 0) (size : V → ℕ) (m : TypeMeta) → IsWriteStatic p model can size m
+    → IsWriteStatic (λ x. sound x × p x) model can size m
 sound_statics sound p model can size Dynamic h = tt
 sound_statics sound p model can size (Static s z) h = (λ x y. h.0 x y.1, h.1)
 
 -- the laws hold where more is known of the values
-pub sounder_laws : {X V : Type 0} (sound : X → Type 0) {p : X → Type 0} {model : X → V} {g : WriteGrammar V} → WriteLaws p model g → WriteLaws (λ x. sound x × p x) model g
-sounder_laws sound {p = p} {model = model} {g = g} l = record { has_encoding = l.has_encoding; encoding_size = l.encoding_size; can_fit = l.can_fit; statics = sound_statics sound p model g.can g.size g.meta l.statics }
+pub sounder_laws : {X V : Type 0} (sound : X → Type 0) {p : X → Type 0} {model : X → V} {g : WriteGrammar V} → WriteLaws p model g
+    → WriteLaws (λ x. sound x × p x) model g
+sounder_laws sound {p = p} {model = model} {g = g} l = record
+    { has_encoding = l.has_encoding; encoding_size = l.encoding_size; can_fit = l.can_fit; statics = sound_statics sound p model g.can g.size g.meta l.statics }
 
 pub total-sum_by : {V : Type 0} (size : V → ℕ) (vs : List V) → total size vs ≡ sum_by size vs
 total-sum_by size [] = refl
@@ -49,10 +52,13 @@ pub each_permutation : {A : Type 0} (P : A → Type 0) (xs ys : List A) → IsPe
 each_permutation P xs ys p e = each_all P ys (All-permutation P xs ys p (all_each P xs e))
 
 -- the size of a list is that of each order of it
-pub scattered_size : {V : Type 0} (s : Scheme) (g : WriteGrammar V) (vs us : List V) → IsPermutation vs us → (parts_write s 24 g).size us ≡ (parts_write s 24 g).size vs
-scattered_size s g vs us p = ap (λ n. encoding_len (s.encoding n) + total g.size us) (length_permutation vs us p) ∙ ap (λ n. encoding_len (s.encoding (length vs)) + n) (total_permutation g.size vs us p)
+pub scattered_size : {V : Type 0} (s : Scheme) (g : WriteGrammar V) (vs us : List V) → IsPermutation vs us → (parts_write s 24 g).size us
+    ≡ (parts_write s 24 g).size vs
+scattered_size s g vs us p = ap (λ n. encoding_len (s.encoding n) + total g.size us) (length_permutation vs us p)
+    ∙ ap (λ n. encoding_len (s.encoding (length vs)) + n) (total_permutation g.size vs us p)
 
-pub scattered_write_laws_of : {X Y V : Type 0} (s : Scheme) (size : ItemSize) (items : X → List Y) {is_valid : Y → Type 0} {model : Y → V} {g : WriteGrammar V} → WriteLaws is_valid model g → WriteLaws (λ x. Each is_valid (items x)) (λ x. map model (items x)) (scattered_write_of s size g)
+pub scattered_write_laws_of : {X Y V : Type 0} (s : Scheme) (size : ItemSize) (items : X → List Y) {is_valid : Y → Type 0} {model : Y → V} {g : WriteGrammar V}
+    → WriteLaws is_valid model g → WriteLaws (λ x. Each is_valid (items x)) (λ x. map model (items x)) (scattered_write_of s size g)
 scattered_write_laws_of s size items {is_valid = is_valid} {model = model} {g = g} laws =
     let l = list_write_laws_of s 24 size items is_valid model g laws in record {
       has_encoding = λ vs c. let t = l.has_encoding vs c in (t.0, (vs, IsPermutation-refl vs, t.1));
@@ -61,11 +67,13 @@ scattered_write_laws_of s size items {is_valid = is_valid} {model = model} {g = 
       statics = tt;
     }
 
-pub scattered_write_laws : {X Y V : Type 0} (s : Scheme) (items : X → List Y) {is_valid : Y → Type 0} {model : Y → V} {g : WriteGrammar V} → WriteLaws is_valid model g → WriteLaws (λ x. Each is_valid (items x)) (λ x. map model (items x)) (scattered_write s g)
+pub scattered_write_laws : {X Y V : Type 0} (s : Scheme) (items : X → List Y) {is_valid : Y → Type 0} {model : Y → V} {g : WriteGrammar V}
+    → WriteLaws is_valid model g → WriteLaws (λ x. Each is_valid (items x)) (λ x. map model (items x)) (scattered_write s g)
 scattered_write_laws s items {g = g} laws = scattered_write_laws_of s (item_size g.meta) items laws
 
 -- what is written in the order in which it is gone over is written in some order
-module _ {S K V : Type 0} {put : S → List ℕ → S} {room : S → ℕ} (s : Scheme) (size : ItemSize) (g : WriteGrammar V) (vs : List V) {old new : WriterState put room K} where
+module _ {S K V : Type 0} {put : S → List ℕ → S} {room : S → ℕ} (s : Scheme) (size : ItemSize) (g : WriteGrammar V) (vs : List V)
+    {old new : WriterState put room K} where
   pub scattered_wrote : Wrote (list_write_of s 24 size g) old new vs → Wrote (scattered_write_of s size g) old new vs
   scattered_wrote r = wrote_map (list_write_of s 24 size g) (scattered_write_of s size g) vs vs (λ c. c) refl (λ b t. (vs, IsPermutation-refl vs, t)) r
 
@@ -75,7 +83,8 @@ module _ {S K V : Type 0} {put : S → List ℕ → S} {room : S → ℕ} (s : S
   pub scattered_halted : {e : WriteError} → Stopped (list_write_of s 24 size g) old new vs e → Stopped (scattered_write_of s size g) old new vs e
   scattered_halted h = stopped_map (list_write_of s 24 size g) (scattered_write_of s size g) vs vs (λ a r. (vs, IsPermutation-refl vs, r)) h
 
-  pub scattered_outcome : {A : Type 0} {is_valid : Type 0} (r : Result A WriteError) → WriteOutcome (list_write_of s 24 size g) old new vs is_valid r → WriteOutcome (scattered_write_of s size g) old new vs is_valid r
+  pub scattered_outcome : {A : Type 0} {is_valid : Type 0} (r : Result A WriteError) → WriteOutcome (list_write_of s 24 size g) old new vs is_valid r
+      → WriteOutcome (scattered_write_of s size g) old new vs is_valid r
   scattered_outcome (Ok x) o = record { ok = scattered_wrote o.ok; value = o.value; refused = tt; place = tt }
   scattered_outcome (Err e) o = record { ok = tt; value = tt; refused = scattered_unwritten o.refused; place = scattered_halted o.place }
 
@@ -95,4 +104,8 @@ map_swaps f xs [] = refl
 map_swaps f xs (m ∷ ms) = map_swap f (apply_swaps xs ms) m.0 m.1 ∙ ap (λ l. swap l m.0 m.1) (map_swaps f xs ms)
 
 pub order_model : {A B : Type 0} (f : A → B) (xs : List A) (us : List B) → IsPermutation (map f xs) us → (es : List A) × IsPermutation xs es × (us ≡ map f es)
-order_model f xs us p = (apply_swaps xs p.moves, record { moves = p.moves; below = subst (λ n. SwapsInRange n p.moves) (length-map xs f) p.below; is = refl }, p.is ∙ sym (map_swaps f xs p.moves))
+order_model f xs us p = (
+  apply_swaps xs p.moves,
+  record { moves = p.moves; below = subst (λ n. SwapsInRange n p.moves) (length-map xs f) p.below; is = refl },
+  p.is ∙ sym (map_swaps f xs p.moves),
+)

@@ -1,5 +1,27 @@
 -- One encoding after another, and how what each call of a sequence answers makes what the whole answers.
-use Rattle.std.proofs.Common.{◌≡◌, ◌∙◌, sym, ap, ℕ, ◌<◌, ◌≤◌, Bool, true, false, ◌&&◌, List, ◌++◌, length, refl, arith, append_assoc, IsTrue, subst, ◌^◌, length-append}
+use Rattle.std.proofs.Common.{
+  ◌≡◌,
+  ◌∙◌,
+  sym,
+  ap,
+  ℕ,
+  ◌<◌,
+  ◌≤◌,
+  Bool,
+  true,
+  false,
+  ◌&&◌,
+  List,
+  ◌++◌,
+  length,
+  refl,
+  arith,
+  append_assoc,
+  IsTrue,
+  subst,
+  ◌^◌,
+  length-append,
+}
 use Rattle.wincode_io.specs.Readers.{ReaderState, IsOnward}
 use Rattle.wincode_io.specs.PlaceLaws.{kept_trans, known_kept, onward_trans}
 use Rattle.wincode_base.specs.Outcomes.{IsEnd, Gives, ReadDue, ReaderDue, Accepts, ReadRefused}
@@ -30,45 +52,65 @@ weaken false s s' h e = refl
 weaken true s s' h e = h e
 
 -- a refusal that is due where more is accepted is due where less is
-reader_due_map : (f f' : Type 0) (borrow borrow' : ℕ) (new : ReaderState) → (f' → f) → borrow ≤ borrow' → (e : IoReadError) → ReaderDue f borrow new e → ReaderDue f' borrow' new e
+reader_due_map : (f f' : Type 0) (borrow borrow' : ℕ) (new : ReaderState) → (f' → f) → borrow ≤ borrow' → (e : IoReadError) → ReaderDue f borrow new e
+    → ReaderDue f' borrow' new e
 reader_due_map f f' borrow borrow' new m a (reader.ReadSizeLimit n) d = λ x. d (m x)
 reader_due_map f f' borrow borrow' new m a reader.UnsupportedZeroCopy d = λ x. let h : new.lends < borrow = d (m x) in omega arith
 reader_due_map f f' borrow borrow' new m a reader.OutOfMemory d = d
 reader_due_map f f' borrow borrow' new m a (reader.Io e) d = d
 
-pub due_map : (f f' : Type 0) (borrow borrow' : ℕ) (takes_no_memory takes_no_memory' : Bool) (new : ReaderState) → (f' → f) → borrow ≤ borrow' → (takes_no_memory ≡ false → takes_no_memory' ≡ false) → (e : ReadError) → ReadDue f borrow takes_no_memory new e → ReadDue f' borrow' takes_no_memory' new e
+pub due_map : (f f' : Type 0) (borrow borrow' : ℕ) (takes_no_memory takes_no_memory' : Bool) (new : ReaderState) → (f' → f) → borrow ≤ borrow'
+    → (takes_no_memory ≡ false → takes_no_memory' ≡ false) → (e : ReadError) → ReadDue f borrow takes_no_memory new e
+    → ReadDue f' borrow' takes_no_memory' new e
 due_map f f' borrow borrow' takes_no_memory takes_no_memory' new m a s (reading.Io e) d = reader_due_map f f' borrow borrow' new m a e d
 due_map f f' borrow borrow' takes_no_memory takes_no_memory' new m a s reading.OutOfMemory d = weaken new.never_fails takes_no_memory takes_no_memory' s d
 due_map f f' borrow borrow' takes_no_memory takes_no_memory' new m a s _ d = λ x. d (m x)
 
 -- Reading by one relation is reading by another that has its encodings.
-pub gives_map : {U V : Type 0} (R : List ℕ → U → Type 0) (S : List ℕ → V → Type 0) (old new : ReaderState) (u : U) (v : V) → ((b : List ℕ) → R b u → S b v) → Gives R old new u → Gives S old new v
+pub gives_map : {U V : Type 0} (R : List ℕ → U → Type 0) (S : List ℕ → V → Type 0) (old new : ReaderState) (u : U) (v : V) → ((b : List ℕ) → R b u → S b v)
+    → Gives R old new u → Gives S old new v
 gives_map R S old new u v m g = record {
   kept = g.kept;
   found = λ t. let f = g.found t in record { encoding = f.encoding; is_read = m f.encoding f.is_read; joins = f.joins };
   place = g.place;
 }
 
-pub refuses_map : {U V : Type 0} (R : List ℕ → U → Type 0) (S : List ℕ → V → Type 0) (borrow : ℕ) (takes_no_memory : Bool) (old new : ReaderState) (e : ReadError) → ((b : List ℕ) (v : V) → S b v → (u : U) × R b u) → ReadRefused R borrow takes_no_memory old new e → ReadRefused S borrow takes_no_memory old new e
+pub refuses_map : {U V : Type 0} (R : List ℕ → U → Type 0) (S : List ℕ → V → Type 0) (borrow : ℕ) (takes_no_memory : Bool) (old new : ReaderState)
+    (e : ReadError) → ((b : List ℕ) (v : V) → S b v → (u : U) × R b u) → ReadRefused R borrow takes_no_memory old new e
+    → ReadRefused S borrow takes_no_memory old new e
 refuses_map R S borrow takes_no_memory old new e m r = record {
   kept = r.kept;
   left = r.left;
   place = r.place;
   due = due_map (Accepts R old) (Accepts S old) borrow borrow takes_no_memory takes_no_memory new
-      (λ a. let f = a.front.found in let p = m f.encoding a.front.value f.is_read in record { is_known = a.is_known; fits = a.fits; front = record { value = p.0; rest = a.front.rest; found = record { encoding = f.encoding; is_read = p.1; joins = f.joins } } })
+      (λ a. let f = a.front.found in let p = m f.encoding a.front.value f.is_read in
+      record {
+        is_known = a.is_known;
+        fits = a.fits;
+        front =
+            record { value = p.0; rest = a.front.rest; found = record { encoding = f.encoding; is_read = p.1; joins = f.joins } };
+      })
       (omega arith) (λ h. h) e r.due;
 }
 
 -- what was read in two parts stands behind both
-pub gives_onward : {U V : Type 0} (R : List ℕ → U → Type 0) (S : List ℕ → V → Type 0) (old mid new : ReaderState) (u : U) (v : V) → Gives R old mid u → Gives S mid new v → IsTrue old.is_known → IsOnward old new
+pub gives_onward : {U V : Type 0} (R : List ℕ → U → Type 0) (S : List ℕ → V → Type 0) (old mid new : ReaderState) (u : U) (v : V) → Gives R old mid u
+    → Gives S mid new v → IsTrue old.is_known → IsOnward old new
 gives_onward R S old mid new u v g h t =
     let f = g.found t in let s = known_kept g.kept t in let k = h.found s in
     onward_trans old mid new f.encoding k.encoding f.joins k.joins (g.place t) (h.place s)
 
 -- what is refused for a schema that takes no memory is refused for one that may
-pub refuses_unspared : {V : Type 0} {R : List ℕ → V → Type 0} {borrow : ℕ} {takes_no_memory : Bool} {old new : ReaderState} {e : ReadError} → ReadRefused R borrow takes_no_memory old new e → ReadRefused R borrow false old new e
+pub refuses_unspared : {V : Type 0} {R : List ℕ → V → Type 0} {borrow : ℕ} {takes_no_memory : Bool} {old new : ReaderState} {e : ReadError}
+    → ReadRefused R borrow takes_no_memory old new e → ReadRefused R borrow false old new e
 refuses_unspared {R = R} {borrow = borrow} {takes_no_memory = takes_no_memory} {old = old} {new = new} {e = e} r =
-    record { kept = r.kept; left = r.left; place = r.place; due = due_map (Accepts R old) (Accepts R old) borrow borrow takes_no_memory false new (λ x. x) (omega arith) (λ x. refl) e r.due }
+    record {
+      kept = r.kept;
+      left = r.left;
+      place = r.place;
+      due =
+          due_map (Accepts R old) (Accepts R old) borrow borrow takes_no_memory false new (λ x. x) (omega arith) (λ x. refl) e r.due;
+    }
 
 module _ {U V : Type 0} (R : List ℕ → U → Type 0) (S : U → List ℕ → V → Type 0) where
   pub then_gives : (old mid new : ReaderState) (u : U) (v : V) → Gives R old mid u → Gives (S u) mid new v → Gives (Then R S) old new v
@@ -82,13 +124,24 @@ module _ {U V : Type 0} (R : List ℕ → U → Type 0) (S : U → List ℕ → 
     place = λ t. gives_onward R (S u) old mid new u v g h t;
   }
 
-  pub then_first : (borrow borrow' : ℕ) (takes_no_memory takes_no_memory' : Bool) (old new : ReaderState) (e : ReadError) → borrow ≤ borrow' → (takes_no_memory ≡ false → takes_no_memory' ≡ false) → ReadRefused R borrow takes_no_memory old new e → ReadRefused (Then R S) borrow' takes_no_memory' old new e
+  pub then_first : (borrow borrow' : ℕ) (takes_no_memory takes_no_memory' : Bool) (old new : ReaderState) (e : ReadError) → borrow ≤ borrow'
+      → (takes_no_memory ≡ false → takes_no_memory' ≡ false) → ReadRefused R borrow takes_no_memory old new e
+      → ReadRefused (Then R S) borrow' takes_no_memory' old new e
   then_first borrow borrow' takes_no_memory takes_no_memory' old new e a s r = record {
     kept = r.kept;
     left = r.left;
     place = r.place;
     due = due_map (Accepts R old) (Accepts (Then R S) old) borrow borrow' takes_no_memory takes_no_memory' new
-        (λ x. let f = x.front.found in let p = f.is_read in record { is_known = x.is_known; fits = x.fits; front = record { value = p.before; rest = p.y ++ x.front.rest; found = record { encoding = p.x; is_read = p.one; joins = f.joins ∙ ap (λ b. b ++ x.front.rest) p.joins ∙ append_assoc p.x p.y x.front.rest } } })
+        (λ x. let f = x.front.found in let p = f.is_read in record {
+          is_known = x.is_known;
+          fits = x.fits;
+          front = record {
+            value = p.before;
+            rest = p.y ++ x.front.rest;
+            found =
+                record { encoding = p.x; is_read = p.one; joins = f.joins ∙ ap (λ b. b ++ x.front.rest) p.joins ∙ append_assoc p.x p.y x.front.rest };
+          };
+        })
         a s e r.due;
   }
 
@@ -98,7 +151,8 @@ module _ {U V : Type 0} (R : List ℕ → U → Type 0) (S : U → List ℕ → 
       let f = g.found x.is_known in
       let k = x.front.found in
       let p = k.is_read in
-      let whole : p.x ++ (p.y ++ x.front.rest) ≡ f.encoding ++ mid.rest = sym (append_assoc p.x p.y x.front.rest) ∙ sym (ap (λ b. b ++ x.front.rest) p.joins) ∙ sym k.joins ∙ f.joins in
+      let whole : p.x ++ (p.y ++ x.front.rest) ≡ f.encoding ++ mid.rest =
+      sym (append_assoc p.x p.y x.front.rest) ∙ sym (ap (λ b. b ++ x.front.rest) p.joins) ∙ sym k.joins ∙ f.joins in
       let same = unambiguous p.x f.encoding (p.y ++ x.front.rest) mid.rest p.before u p.one f.is_read whole in
       record {
         is_known = known_kept g.kept x.is_known;
@@ -114,17 +168,21 @@ module _ {U V : Type 0} (R : List ℕ → U → Type 0) (S : U → List ℕ → 
         };
       }
 
-  pub then_second : (unambiguous : IsUnambiguous R) (borrow borrow' : ℕ) (takes_no_memory takes_no_memory' : Bool) (old mid new : ReaderState) (u : U) (e : ReadError) → borrow ≤ borrow' → (takes_no_memory ≡ false → takes_no_memory' ≡ false) → Gives R old mid u → ReadRefused (S u) borrow takes_no_memory mid new e → ReadRefused (Then R S) borrow' takes_no_memory' old new e
+  pub then_second : (unambiguous : IsUnambiguous R) (borrow borrow' : ℕ) (takes_no_memory takes_no_memory' : Bool) (old mid new : ReaderState) (u : U)
+      (e : ReadError) → borrow ≤ borrow' → (takes_no_memory ≡ false → takes_no_memory' ≡ false) → Gives R old mid u
+      → ReadRefused (S u) borrow takes_no_memory mid new e → ReadRefused (Then R S) borrow' takes_no_memory' old new e
   then_second unambiguous borrow borrow' takes_no_memory takes_no_memory' old mid new u e a s g r = record {
     kept = kept_trans g.kept r.kept;
     left = λ t. end_trans (let f = g.found t in record { front = f.encoding; joins = f.joins }) (r.left (known_kept g.kept t));
-    place = λ t. let f = g.found t in let k = known_kept g.kept t in let l = r.left k in onward_trans old mid new f.encoding l.front f.joins l.joins (g.place t) (r.place k);
+    place = λ t. let f = g.found t in let k = known_kept g.kept t in let l = r.left k in
+        onward_trans old mid new f.encoding l.front f.joins l.joins (g.place t) (r.place k);
     due = due_map (Accepts (S u) mid) (Accepts (Then R S) old) borrow borrow' takes_no_memory takes_no_memory' new (strip unambiguous old mid u g) a s e r.due;
   }
 
   pub then_unambiguous : IsUnambiguous R → ((u : U) → IsUnambiguous (S u)) → IsUnambiguous (Then R S)
   then_unambiguous one two a b x y v w p q e =
-      let whole : p.x ++ (p.y ++ x) ≡ q.x ++ (q.y ++ y) = sym (append_assoc p.x p.y x) ∙ ap (λ l. l ++ x) (sym p.joins) ∙ e ∙ ap (λ l. l ++ y) q.joins ∙ append_assoc q.x q.y y in
+      let whole : p.x ++ (p.y ++ x) ≡ q.x ++ (q.y ++ y) = sym (append_assoc p.x p.y x) ∙ ap (λ l. l ++ x) (sym p.joins) ∙ e ∙ ap (λ l. l ++ y) q.joins
+      ∙ append_assoc q.x q.y y in
       let same = one p.x q.x (p.y ++ x) (q.y ++ y) p.before q.before p.one q.one whole in
       let after = cancel p.x (p.y ++ x) (q.y ++ y) (whole ∙ sym (ap (λ l. l ++ (q.y ++ y)) same.0)) in
       let rest = two q.before p.y q.y x y v w (subst (λ u. S u p.y v) same.1 p.two) q.two after in

@@ -50,13 +50,23 @@ body_one : (n : ℕ) → IsUnambiguous (IsStrBytes n)
 body_one n a b x y v w p q e = let same = same_front a b x y (ap length p.2 ∙ p.0 ∙ sym (ap length q.2 ∙ q.0)) e in (same, sym p.2 ∙ same ∙ q.2)
 
 -- a text is its length, and then its bytes
-pub str_then : (prealloc borrow : ℕ) (takes_no_memory : Bool) (b v : List ℕ) → (str_read prealloc borrow takes_no_memory).reads b v → Then (IsLength (bincode preallocation_limit) 1) IsStrBytes b v
+pub str_then : (prealloc borrow : ℕ) (takes_no_memory : Bool) (b v : List ℕ) → (str_read prealloc borrow takes_no_memory).reads b v
+    → Then (IsLength (bincode preallocation_limit) 1) IsStrBytes b v
 str_then prealloc borrow takes_no_memory b v r =
     let within = r.0 in
     let small : length v < 2 ^ 64 = omega arith in
-    record { before = length v; x = le 8 (length v); y = v; one = ((small, omega arith), bincode_encoding preallocation_limit (length v) small); two = (refl, r.1, refl); joins = r.2 }
+    record {
+      before = length v;
+      x = le 8 (length v);
+      y = v;
+      one = ((small, omega arith), bincode_encoding preallocation_limit (length v) small);
+      two =
+          (refl, r.1, refl);
+      joins = r.2;
+    }
 
-pub then_encoding : (prealloc borrow : ℕ) (takes_no_memory : Bool) (b v : List ℕ) → Then (IsLength (bincode preallocation_limit) 1) IsStrBytes b v → (str_read prealloc borrow takes_no_memory).reads b v
+pub then_encoding : (prealloc borrow : ℕ) (takes_no_memory : Bool) (b v : List ℕ) → Then (IsLength (bincode preallocation_limit) 1) IsStrBytes b v
+    → (str_read prealloc borrow takes_no_memory).reads b v
 then_encoding prealloc borrow takes_no_memory b v t =
     let within = t.one.0.1 in
     let size = t.two.0 in
@@ -65,7 +75,9 @@ then_encoding prealloc borrow takes_no_memory b v t =
 
 pub str_read_laws : (prealloc borrow : ℕ) (takes_no_memory : Bool) → 1 ≤ prealloc → ReadLaws IsUtf8 (str_read prealloc borrow takes_no_memory)
 str_read_laws prealloc borrow takes_no_memory some = record {
-  one_front = λ a b x y v w p q e. then_unambiguous (IsLength (bincode preallocation_limit) 1) IsStrBytes (length_one (bincode preallocation_limit) (bincode_laws preallocation_limit) 1) body_one a b x y v w (str_then prealloc borrow takes_no_memory a v p) (str_then prealloc borrow takes_no_memory b w q) e;
+  one_front = λ a b x y v w p q e. then_unambiguous (IsLength (bincode preallocation_limit) 1) IsStrBytes
+      (length_one (bincode preallocation_limit) (bincode_laws preallocation_limit) 1) body_one a b x y v w (str_then prealloc borrow takes_no_memory a v p)
+      (str_then prealloc borrow takes_no_memory b w q) e;
   reads_valid = λ b v r. r.1;
   statics = tt;
   prealloc = some;
@@ -82,7 +94,8 @@ str_write_laws prealloc is_valid bytes = record {
   statics = tt;
 }
 
-pub str_reads_back : {X : Type 0} (prealloc borrow : ℕ) (takes_no_memory : Bool) (bytes : X → List ℕ) → ReadsBack (λ x. IsUtf8 (bytes x)) bytes (str_write prealloc) bytes (str_read prealloc borrow takes_no_memory)
+pub str_reads_back : {X : Type 0} (prealloc borrow : ℕ) (takes_no_memory : Bool) (bytes : X → List ℕ)
+    → ReadsBack (λ x. IsUtf8 (bytes x)) bytes (str_write prealloc) bytes (str_read prealloc borrow takes_no_memory)
 str_reads_back prealloc borrow takes_no_memory bytes = record {
   back = λ x b p t f. (f, p, t);
   within = λ b x r. r.0;
@@ -92,12 +105,14 @@ str_reads_back prealloc borrow takes_no_memory bytes = record {
 
 -- ---- references
 
-reference_static : {X Y V : Type 0} (is_valid : X → Type 0) (model : X → V) (value : Y → X) (can : V → Type 0) (size : V → ℕ) (m : TypeMeta) → IsWriteStatic is_valid model can size m → IsWriteStatic (λ y. is_valid (value y)) (λ y. model (value y)) can size (reference_meta m)
+reference_static : {X Y V : Type 0} (is_valid : X → Type 0) (model : X → V) (value : Y → X) (can : V → Type 0) (size : V → ℕ) (m : TypeMeta)
+    → IsWriteStatic is_valid model can size m → IsWriteStatic (λ y. is_valid (value y)) (λ y. model (value y)) can size (reference_meta m)
 reference_static is_valid model value can size Dynamic h = tt
 reference_static is_valid model value can size (Static s z) h = (λ y p. h.0 (value y) p, h.1)
 
 -- `value` is what a reference refers to
-pub reference_write_laws : {X Y V : Type 0} (is_valid : X → Type 0) (model : X → V) (value : Y → X) (g : WriteGrammar V) → WriteLaws is_valid model g → WriteLaws (λ y. is_valid (value y)) (λ y. model (value y)) (reference_write g)
+pub reference_write_laws : {X Y V : Type 0} (is_valid : X → Type 0) (model : X → V) (value : Y → X) (g : WriteGrammar V) → WriteLaws is_valid model g
+    → WriteLaws (λ y. is_valid (value y)) (λ y. model (value y)) (reference_write g)
 reference_write_laws is_valid model value g laws = record {
   has_encoding = laws.has_encoding;
   encoding_size = laws.encoding_size;

@@ -1,5 +1,41 @@
 -- The laws of a tag and then what it names.
-use Rattle.std.proofs.Common.{◌≡◌, ◌∙◌, sym, ap, ℕ, ◌+◌, ◌*◌, ◌<◌, ◌≤◌, ◌^◌, inl, inr, suc, zero, pow-suc, Bool, true, false, List, [], ◌++◌, length, max, nat_eq, nat_lt, cond, refl, arith, length-append, Option, Some, None, Result, Ok, Err}
+use Rattle.std.proofs.Common.{
+  ◌≡◌,
+  ◌∙◌,
+  sym,
+  ap,
+  ℕ,
+  ◌+◌,
+  ◌*◌,
+  ◌<◌,
+  ◌≤◌,
+  ◌^◌,
+  inl,
+  inr,
+  suc,
+  zero,
+  pow-suc,
+  Bool,
+  true,
+  false,
+  List,
+  [],
+  ◌++◌,
+  length,
+  max,
+  nat_eq,
+  nat_lt,
+  cond,
+  refl,
+  arith,
+  length-append,
+  Option,
+  Some,
+  None,
+  Result,
+  Ok,
+  Err,
+}
 use Rattle.std.proofs.lemmas.Bool.{eqb-true}
 use Rattle.std.specs.Option.{option_map}
 use Rattle.std.specs.Result.{result_map_both}
@@ -12,7 +48,34 @@ use Rattle.wincode_base.specs.LeafLaws.{number_one}
 use Rattle.wincode_base.specs.Pairs.{pair_meta}
 use Rattle.wincode_base.specs.Sequences.{Then, then_gives, then_first, then_second, then_unambiguous, strip, gives_map, refuses_map}
 use Rattle.wincode_base.specs.Outcomes.{Gives, ReadRefused, unsaid}
-use Rattle.wincode_base.specs.Tags.{IsTagSize, tagged_read, tagged_write, counted_read, counted_write, option_tag, OptionReads, option_part_read, option_read, OptionReadRefused, OptionWrites, IfPart, option_size, option_part_write, option_write, sides_tag, result_tag, sides_meta, SidesRead, sides_read, result_read, SidesWrite, IfSide, sides_size, sides_write, result_write}
+use Rattle.wincode_base.specs.Tags.{
+  IsTagSize,
+  tagged_read,
+  tagged_write,
+  counted_read,
+  counted_write,
+  option_tag,
+  OptionReads,
+  option_part_read,
+  option_read,
+  OptionReadRefused,
+  OptionWrites,
+  IfPart,
+  option_size,
+  option_part_write,
+  option_write,
+  sides_tag,
+  result_tag,
+  sides_meta,
+  SidesRead,
+  sides_read,
+  result_read,
+  SidesWrite,
+  IfSide,
+  sides_size,
+  sides_write,
+  result_write,
+}
 use Rattle.wincode_base.specs.declared.meta.TypeMeta.{TypeMeta}
 use Rattle.wincode_base.specs.declared.meta.TypeMeta.TheVariants.{Static, Dynamic}
 use Rattle.wincode_base.specs.declared.error.ReadError.{ReadError}
@@ -81,11 +144,18 @@ module _ {V : Type 0} (k : ℕ) (tag : V → ℕ) (small : (v : V) → tag v < 2
   tagged_static : (m : TypeMeta) → IsReadStatic part.reads m → IsReadStatic (tagged_read k tag unsaid part).reads (pair_meta (Static k true) m)
   tagged_static Dynamic h = tt
   tagged_static (Static s z) h =
-      elim (nat_lt (k + s) (2 ^ 64)) as (λ t. IsReadStatic {V = V} (tagged_read k tag unsaid part).reads (cond t (Static (k + s) false) Dynamic))
-      [ true ↦ (λ b v r. ap length r.2 ∙ length-append (le k (tag v)) r.0 ∙ ap (λ n. n + length r.0) (length-le k (tag v)) ∙ ap (λ n. k + n) (h.0 r.0 v r.1), λ z. absurd (cc z)) | false ↦ tt ]
+      elim (nat_lt (k + s) (2 ^ 64)) as (λ t. IsReadStatic {V = V} (tagged_read k tag unsaid part).reads (cond t (Static (k + s) false) Dynamic)) [
+        | true ↦ (
+          λ b v r. ap length r.2 ∙ length-append (le k (tag v)) r.0 ∙ ap (λ n. n + length r.0) (length-le k (tag v)) ∙ ap (λ n. k + n) (h.0 r.0 v r.1),
+          λ z. absurd (cc z),
+        )
+        | false ↦ tt
+      ]
 
   -- of what stands behind one tag, neither encoding begins the other
-  pub tagged_read_laws : (refusal : ReadRefusal) → (is_valid : V → Type 0) → ((t : ℕ) → IsUnambiguous (Case t)) → ((b : List ℕ) (v : V) → part.reads b v → is_valid v) → IsReadStatic part.reads part.meta → 1 ≤ part.prealloc → ReadLaws is_valid (tagged_read k tag refusal part)
+  pub tagged_read_laws : (refusal : ReadRefusal) → (is_valid : V → Type 0) → ((t : ℕ) → IsUnambiguous (Case t))
+      → ((b : List ℕ) (v : V) → part.reads b v → is_valid v) → IsReadStatic part.reads part.meta → 1 ≤ part.prealloc
+      → ReadLaws is_valid (tagged_read k tag refusal part)
   tagged_read_laws refusal is_valid one reads_valid statics prealloc = record {
     one_front = λ a b x y v w p q e. then_unambiguous Tag Case (number_one k true) one a b x y v w (tagged_then a v p) (tagged_then b w q) e;
     reads_valid = λ b v r. reads_valid r.0 v r.1;
@@ -94,27 +164,33 @@ module _ {V : Type 0} (k : ℕ) (tag : V → ℕ) (small : (v : V) → tag v < 2
   }
 
   -- the tag was read, and then what it names
-  pub tagged_gives : (old mid new : ReaderState) (t : ℕ) (v : V) → tag v ≡ t → Gives Tag old mid t → Gives part.reads mid new v → Gives (tagged_read k tag unsaid part).reads old new v
+  pub tagged_gives : (old mid new : ReaderState) (t : ℕ) (v : V) → tag v ≡ t → Gives Tag old mid t → Gives part.reads mid new v
+      → Gives (tagged_read k tag unsaid part).reads old new v
   tagged_gives old mid new t v e r s =
       gives_map (Then Tag Case) (tagged_read k tag unsaid part).reads old new v v (λ b w. then_tagged b v w)
       (then_gives Tag Case old mid new t v r (gives_map part.reads (Case t) mid new v v (λ b w. (e, w)) s))
 
   -- the tag was refused
-  pub tag_refused : (old new : ReaderState) (e : ReadError) → ReadRefused Tag 0 true old new e → ReadRefused (tagged_read k tag unsaid part).reads part.borrow part.takes_no_memory old new e
+  pub tag_refused : (old new : ReaderState) (e : ReadError) → ReadRefused Tag 0 true old new e
+      → ReadRefused (tagged_read k tag unsaid part).reads part.borrow part.takes_no_memory old new e
   tag_refused old new e r =
       refuses_map (Then Tag Case) (tagged_read k tag unsaid part).reads part.borrow part.takes_no_memory old new e (λ b v t. (v, tagged_then b v t))
       (then_first Tag Case 0 part.borrow true part.takes_no_memory old new e (omega arith) (spares part.takes_no_memory) r)
 
   -- what stands behind the tag was refused
-  pub case_refused : (borrow : ℕ) (takes_no_memory : Bool) (old mid new : ReaderState) (t : ℕ) (e : ReadError) → borrow ≤ part.borrow → (takes_no_memory ≡ false → part.takes_no_memory ≡ false) → Gives Tag old mid t → ReadRefused (Case t) borrow takes_no_memory mid new e → ReadRefused (tagged_read k tag unsaid part).reads part.borrow part.takes_no_memory old new e
+  pub case_refused : (borrow : ℕ) (takes_no_memory : Bool) (old mid new : ReaderState) (t : ℕ) (e : ReadError) → borrow ≤ part.borrow
+      → (takes_no_memory ≡ false → part.takes_no_memory ≡ false) → Gives Tag old mid t → ReadRefused (Case t) borrow takes_no_memory mid new e
+      → ReadRefused (tagged_read k tag unsaid part).reads part.borrow part.takes_no_memory old new e
   case_refused borrow takes_no_memory old mid new t e a s r u =
       refuses_map (Then Tag Case) (tagged_read k tag unsaid part).reads part.borrow part.takes_no_memory old new e (λ b v t. (v, tagged_then b v t))
       (then_second Tag Case (number_one k true) borrow part.borrow takes_no_memory part.takes_no_memory old mid new t e a s r u)
 
   -- the tag was read, and names nothing
-  pub bad_tag : (old new : ReaderState) (t n : ℕ) → ((v : V) → tag v ≡ t → ⊥) → Gives Tag old new t → ReadRefused (tagged_read k tag unsaid part).reads part.borrow part.takes_no_memory old new (reading.InvalidTagEncoding n)
+  pub bad_tag : (old new : ReaderState) (t n : ℕ) → ((v : V) → tag v ≡ t → ⊥) → Gives Tag old new t
+      → ReadRefused (tagged_read k tag unsaid part).reads part.borrow part.takes_no_memory old new (reading.InvalidTagEncoding n)
   bad_tag old new t n none r =
-      refuses_map (Then Tag Case) (tagged_read k tag unsaid part).reads part.borrow part.takes_no_memory old new (reading.InvalidTagEncoding n) (λ b v t. (v, tagged_then b v t))
+      refuses_map (Then Tag Case) (tagged_read k tag unsaid part).reads part.borrow part.takes_no_memory old new (reading.InvalidTagEncoding n)
+      (λ b v t. (v, tagged_then b v t))
       (record {
         kept = r.kept;
         left = λ told. let f = r.found told in record { front = f.encoding; joins = f.joins };
@@ -123,33 +199,45 @@ module _ {V : Type 0} (k : ℕ) (tag : V → ℕ) (small : (v : V) → tag v < 2
       })
 
 -- so, by the laws of what stands behind the tag
-pub cases_read_laws : {V : Type 0} {refusal : ReadRefusal} {k : ℕ} {tag : V → ℕ} {is_valid : V → Type 0} {part : ReadGrammar V} → CaseLaws k tag is_valid part → ReadLaws is_valid (tagged_read k tag refusal part)
+pub cases_read_laws : {V : Type 0} {refusal : ReadRefusal} {k : ℕ} {tag : V → ℕ} {is_valid : V → Type 0} {part : ReadGrammar V} → CaseLaws k tag is_valid part
+    → ReadLaws is_valid (tagged_read k tag refusal part)
 cases_read_laws {refusal = refusal} {k = k} {tag = tag} {is_valid = is_valid} {part = part} l =
     tagged_read_laws k tag l.small part refusal is_valid l.one l.reads_valid l.statics l.prealloc
 
 -- what has one tag alone
 pub one_case : {V : Type 0} {k : ℕ} {p : V → Type 0} {g : ReadGrammar V} (t : ℕ) → t < 256 ^ k → ReadLaws p g → CaseLaws k (λ v. t) p g
-one_case t small l = record { small = λ v. small; one = λ u a b x y v w i j e. l.one_front a b x y v w i.1 j.1 e; reads_valid = l.reads_valid; statics = l.statics; prealloc = l.prealloc }
+one_case t small l = record {
+  small = λ v. small;
+  one = λ u a b x y v w i j e. l.one_front a b x y v w i.1 j.1 e;
+  reads_valid = l.reads_valid;
+  statics =
+      l.statics;
+  prealloc = l.prealloc;
+}
 
 -- ---- writing a tag and then what it names
 
 module _ {X V : Type 0} (p : X → Type 0) (model : X → V) (k : ℕ) (tag : V → ℕ) (part : WriteGrammar V) where
-  tagged_write_static : (m : TypeMeta) → IsWriteStatic p model part.can part.size m → IsWriteStatic p model (tagged_write k tag part).can (tagged_write k tag part).size (pair_meta (Static k true) m)
+  tagged_write_static : (m : TypeMeta) → IsWriteStatic p model part.can part.size m
+      → IsWriteStatic p model (tagged_write k tag part).can (tagged_write k tag part).size (pair_meta (Static k true) m)
   tagged_write_static Dynamic h = tt
   tagged_write_static (Static s z) h =
-      elim (nat_lt (k + s) (2 ^ 64)) as (λ t. IsWriteStatic p model (tagged_write k tag part).can (tagged_write k tag part).size (cond t (Static (k + s) false) Dynamic))
+      elim (nat_lt (k + s) (2 ^ 64)) as (λ t. IsWriteStatic p model (tagged_write k tag part).can (tagged_write k tag part).size
+      (cond t (Static (k + s) false) Dynamic))
       [ true ↦ (λ x c. h.0 x c, λ v c. ap (λ n. k + n) (h.1 v c)) | false ↦ tt ]
 
   pub tagged_write_laws : WriteLaws p model part → WriteLaws p model (tagged_write k tag part)
   tagged_write_laws l = record {
     has_encoding = λ v c. let a = l.has_encoding v c in (le k (tag v) ++ a.0, (a.0, a.1, refl));
-    encoding_size = λ v b r. ap length r.2 ∙ length-append (le k (tag v)) r.0 ∙ ap (λ n. n + length r.0) (length-le k (tag v)) ∙ ap (λ n. k + n) (l.encoding_size v r.0 r.1);
+    encoding_size = λ v b r. ap length r.2 ∙ length-append (le k (tag v)) r.0 ∙ ap (λ n. n + length r.0) (length-le k (tag v))
+        ∙ ap (λ n. k + n) (l.encoding_size v r.0 r.1);
     can_fit = l.can_fit;
     statics = tagged_write_static part.meta l.statics;
   }
 
 -- writing and reading see the same tag of a value
-pub tagged_reads_back : {X V W : Type 0} {refusal : ReadRefusal} (p : X → Type 0) (ws : X → W) (w : WriteGrammar W) (rs : X → V) (r : ReadGrammar V) (k : ℕ) (wtag : W → ℕ) (rtag : V → ℕ) → ((x : X) → wtag (ws x) ≡ rtag (rs x))
+pub tagged_reads_back : {X V W : Type 0} {refusal : ReadRefusal} (p : X → Type 0) (ws : X → W) (w : WriteGrammar W) (rs : X → V) (r : ReadGrammar V) (k : ℕ)
+    (wtag : W → ℕ) (rtag : V → ℕ) → ((x : X) → wtag (ws x) ≡ rtag (rs x))
     → ReadsBack p ws w rs r → ReadsBack p ws (tagged_write k wtag w) rs (tagged_read k rtag refusal r)
 tagged_reads_back p ws w rs r k wtag rtag same l = record {
   back = λ x b c t f. (t.0, l.back x t.0 c t.1 f, t.2 ∙ ap (λ n. le k n ++ t.0) (same x));
@@ -176,7 +264,8 @@ option_valid p g l b (Some v) r = l.reads_valid b v r
 
 pub option_read_laws : {V : Type 0} (k : ℕ) → 1 ≤ k → (p : V → Type 0) (g : ReadGrammar V) → ReadLaws p g → ReadLaws (IfPart p) (option_read k g)
 option_read_laws k some p g l =
-    tagged_read_laws k option_tag (option_small k some) (option_part_read g) (OptionReadRefused k g) (IfPart p) (option_one g l.one_front) (option_valid p g l) tt l.prealloc
+    tagged_read_laws k option_tag (option_small k some) (option_part_read g) (OptionReadRefused k g) (IfPart p) (option_one g l.one_front) (option_valid p g l)
+    tt l.prealloc
 
 module _ {X V : Type 0} (p : X → Type 0) (model : X → V) (g : WriteGrammar V) (l : WriteLaws p model g) where
   option_encoding : (o : Option V) → IfPart g.can o → (b : List ℕ) × OptionWrites g.writes o b
@@ -195,11 +284,13 @@ module _ {X V : Type 0} (p : X → Type 0) (model : X → V) (g : WriteGrammar V
   pub option_part_laws : WriteLaws (IfPart p) (option_map model) (option_part_write g)
   option_part_laws = record { has_encoding = option_encoding; encoding_size = option_encoding_size; can_fit = option_fit; statics = tt }
 
-pub option_write_laws : {X V : Type 0} (k : ℕ) (p : X → Type 0) (model : X → V) (g : WriteGrammar V) → WriteLaws p model g → WriteLaws (IfPart p) (option_map model) (option_write k g)
+pub option_write_laws : {X V : Type 0} (k : ℕ) (p : X → Type 0) (model : X → V) (g : WriteGrammar V) → WriteLaws p model g
+    → WriteLaws (IfPart p) (option_map model) (option_write k g)
 option_write_laws k p model g l = tagged_write_laws (IfPart p) (option_map model) k option_tag (option_part_write g) (option_part_laws p model g l)
 
 module _ {X V W : Type 0} (p : X → Type 0) (ws : X → W) (w : WriteGrammar W) (rs : X → V) (r : ReadGrammar V) (l : ReadsBack p ws w rs r) where
-  option_back : (o : Option X) (b : List ℕ) → IfPart p o → OptionWrites w.writes (option_map ws o) b → IfPart w.fits (option_map ws o) → OptionReads r.reads b (option_map rs o)
+  option_back : (o : Option X) (b : List ℕ) → IfPart p o → OptionWrites w.writes (option_map ws o) b → IfPart w.fits (option_map ws o)
+      → OptionReads r.reads b (option_map rs o)
   option_back None b c t f = t
   option_back (Some x) b c t f = l.back x b c t f
 
@@ -214,9 +305,11 @@ module _ {X V W : Type 0} (p : X → Type 0) (ws : X → W) (w : WriteGrammar W)
   option_part_back : ReadsBack (IfPart p) (option_map ws) (option_part_write w) (option_map rs) (option_part_read r)
   option_part_back = record { back = option_back; within = option_within; same_prealloc = l.same_prealloc; same_meta = refl }
 
-pub option_reads_back : {X V W : Type 0} (k : ℕ) (p : X → Type 0) (ws : X → W) (w : WriteGrammar W) (rs : X → V) (r : ReadGrammar V) → ReadsBack p ws w rs r → ReadsBack (IfPart p) (option_map ws) (option_write k w) (option_map rs) (option_read k r)
+pub option_reads_back : {X V W : Type 0} (k : ℕ) (p : X → Type 0) (ws : X → W) (w : WriteGrammar W) (rs : X → V) (r : ReadGrammar V) → ReadsBack p ws w rs r
+    → ReadsBack (IfPart p) (option_map ws) (option_write k w) (option_map rs) (option_read k r)
 option_reads_back k p ws w rs r l =
-    tagged_reads_back (IfPart p) (option_map ws) (option_part_write w) (option_map rs) (option_part_read r) k option_tag option_tag (option_same_tag p ws w rs r l) (option_part_back p ws w rs r l)
+    tagged_reads_back (IfPart p) (option_map ws) (option_part_write w) (option_map rs) (option_part_read r) k option_tag option_tag
+    (option_same_tag p ws w rs r l) (option_part_back p ws w rs r l)
 
 -- ---- results
 
@@ -225,19 +318,22 @@ result_small k some (Ok v) = small_tag k some 0 (omega arith)
 result_small k some (Err w) = small_tag k some 1 (omega arith)
 
 -- the encodings of both sides have one size
-side_sizes : {V W : Type 0} (g : ReadGrammar V) (h : ReadGrammar W) (a b : ℕ) → a ≡ b → ((t : List ℕ) (v : V) → g.reads t v → length t ≡ a) → ((t : List ℕ) (w : W) → h.reads t w → length t ≡ b)
+side_sizes : {V W : Type 0} (g : ReadGrammar V) (h : ReadGrammar W) (a b : ℕ) → a ≡ b → ((t : List ℕ) (v : V) → g.reads t v → length t ≡ a)
+    → ((t : List ℕ) (w : W) → h.reads t w → length t ≡ b)
     → (t : List ℕ) (r : Result V W) → SidesRead g.reads h.reads t r → length t ≡ a
 side_sizes g h a b e i j t (Ok v) r = i t v r
 side_sizes g h a b e i j t (Err w) r = j t w r ∙ sym e
 
-pub sides_static : {V W : Type 0} (g : ReadGrammar V) (h : ReadGrammar W) (m n : TypeMeta) → IsReadStatic g.reads m → IsReadStatic h.reads n → IsReadStatic (SidesRead g.reads h.reads) (sides_meta m n)
+pub sides_static : {V W : Type 0} (g : ReadGrammar V) (h : ReadGrammar W) (m n : TypeMeta) → IsReadStatic g.reads m → IsReadStatic h.reads n
+    → IsReadStatic (SidesRead g.reads h.reads) (sides_meta m n)
 sides_static g h Dynamic n i j = tt
 sides_static g h (Static a x) Dynamic i j = tt
 sides_static {V} {W} g h (Static a x) (Static b y) i j =
     elim (nat_eq a b) as (λ t. (t ≡ true → a ≡ b) → IsReadStatic {V = Result V W} (SidesRead g.reads h.reads) (cond t (Static a false) Dynamic))
     [ true ↦ (λ e. (side_sizes g h a b (e refl) i.0 j.0, λ z. absurd (cc z))) | false ↦ (λ e. tt) ] (eqb-true a b)
 
-module _ {V W : Type 0} {k : ℕ} {tag : V → ℕ} {other : W → ℕ} {p : V → Type 0} {q : W → Type 0} {g : ReadGrammar V} {h : ReadGrammar W} (l : CaseLaws k tag p g) (m : CaseLaws k other q h) where
+module _ {V W : Type 0} {k : ℕ} {tag : V → ℕ} {other : W → ℕ} {p : V → Type 0} {q : W → Type 0} {g : ReadGrammar V} {h : ReadGrammar W}
+    (l : CaseLaws k tag p g) (m : CaseLaws k other q h) where
   sides_small : (r : Result V W) → sides_tag tag other r < 256 ^ k
   sides_small (Ok v) = l.small v
   sides_small (Err w) = m.small w
@@ -262,31 +358,37 @@ module _ {V W : Type 0} {k : ℕ} {tag : V → ℕ} {other : W → ℕ} {p : V �
     prealloc = let a = l.prealloc in omega arith;
   }
 
-pub result_read_laws : {V W : Type 0} (k : ℕ) → 1 ≤ k → (p : V → Type 0) (q : W → Type 0) (g : ReadGrammar V) (h : ReadGrammar W) → ReadLaws p g → ReadLaws q h → ReadLaws (IfSide p q) (result_read k g h)
+pub result_read_laws : {V W : Type 0} (k : ℕ) → 1 ≤ k → (p : V → Type 0) (q : W → Type 0) (g : ReadGrammar V) (h : ReadGrammar W) → ReadLaws p g → ReadLaws q h
+    → ReadLaws (IfSide p q) (result_read k g h)
 result_read_laws k some p q g h l m =
     cases_read_laws (sides_cases (one_case 0 (small_tag k some 0 (omega arith)) l) (one_case 1 (small_tag k some 1 (omega arith)) m) (λ v w e. omega arith))
 
 -- both sides of every value can be written
 sides_can : {X Y V W : Type 0} (p : X → Type 0) (q : Y → Type 0) (model : X → V) (model' : Y → W) (g : WriteGrammar V) (h : WriteGrammar W)
-    → ((x : X) → p x → g.can (model x)) → ((y : Y) → q y → h.can (model' y)) → (r : Result X Y) → IfSide p q r → IfSide g.can h.can (result_map_both model model' r)
+    → ((x : X) → p x → g.can (model x)) → ((y : Y) → q y → h.can (model' y)) → (r : Result X Y) → IfSide p q r
+    → IfSide g.can h.can (result_map_both model model' r)
 sides_can p q model model' g h i j (Ok x) c = i x c
 sides_can p q model model' g h i j (Err y) c = j y c
 
 -- what can be written has one size
-sides_write_size : {V W : Type 0} (g : WriteGrammar V) (h : WriteGrammar W) (a b : ℕ) → a ≡ b → ((v : V) → g.can v → g.size v ≡ a) → ((w : W) → h.can w → h.size w ≡ b)
+sides_write_size : {V W : Type 0} (g : WriteGrammar V) (h : WriteGrammar W) (a b : ℕ) → a ≡ b → ((v : V) → g.can v → g.size v ≡ a)
+    → ((w : W) → h.can w → h.size w ≡ b)
     → (r : Result V W) → IfSide g.can h.can r → sides_size g.size h.size r ≡ a
 sides_write_size g h a b e i j (Ok v) c = i v c
 sides_write_size g h a b e i j (Err w) c = j w c ∙ sym e
 
-sides_write_static : {X Y V W : Type 0} (p : X → Type 0) (q : Y → Type 0) (model : X → V) (model' : Y → W) (g : WriteGrammar V) (h : WriteGrammar W) (m n : TypeMeta) → IsWriteStatic p model g.can g.size m → IsWriteStatic q model' h.can h.size n
+sides_write_static : {X Y V W : Type 0} (p : X → Type 0) (q : Y → Type 0) (model : X → V) (model' : Y → W) (g : WriteGrammar V) (h : WriteGrammar W)
+    (m n : TypeMeta) → IsWriteStatic p model g.can g.size m → IsWriteStatic q model' h.can h.size n
     → IsWriteStatic (IfSide p q) (result_map_both model model') (IfSide g.can h.can) (sides_size g.size h.size) (sides_meta m n)
 sides_write_static p q model model' g h Dynamic n i j = tt
 sides_write_static p q model model' g h (Static a x) Dynamic i j = tt
 sides_write_static p q model model' g h (Static a x) (Static b y) i j =
-    elim (nat_eq a b) as (λ t. (t ≡ true → a ≡ b) → IsWriteStatic (IfSide p q) (result_map_both model model') (IfSide g.can h.can) (sides_size g.size h.size) (cond t (Static a false) Dynamic))
+    elim (nat_eq a b) as (λ t. (t ≡ true → a ≡ b) → IsWriteStatic (IfSide p q) (result_map_both model model') (IfSide g.can h.can) (sides_size g.size h.size)
+    (cond t (Static a false) Dynamic))
     [ true ↦ (λ e. (sides_can p q model model' g h i.0 j.0, sides_write_size g h a b (e refl) i.1 j.1)) | false ↦ (λ e. tt) ] (eqb-true a b)
 
-module _ {X Y V W : Type 0} (p : X → Type 0) (q : Y → Type 0) (model : X → V) (model' : Y → W) (g : WriteGrammar V) (h : WriteGrammar W) (l : WriteLaws p model g) (m : WriteLaws q model' h) where
+module _ {X Y V W : Type 0} (p : X → Type 0) (q : Y → Type 0) (model : X → V) (model' : Y → W) (g : WriteGrammar V) (h : WriteGrammar W)
+    (l : WriteLaws p model g) (m : WriteLaws q model' h) where
   sides_encoding : (r : Result V W) → IfSide g.can h.can r → (b : List ℕ) × SidesWrite g.writes h.writes r b
   sides_encoding (Ok v) c = l.has_encoding v c
   sides_encoding (Err w) c = m.has_encoding w c
@@ -301,14 +403,23 @@ module _ {X Y V W : Type 0} (p : X → Type 0) (q : Y → Type 0) (model : X →
 
   -- a result without its tag
   pub sides_laws : WriteLaws (IfSide p q) (result_map_both model model') (sides_write g h)
-  sides_laws = record { has_encoding = sides_encoding; encoding_size = sides_encoding_size; can_fit = sides_fit; statics = sides_write_static p q model model' g h g.meta h.meta l.statics m.statics }
+  sides_laws = record {
+    has_encoding = sides_encoding;
+    encoding_size = sides_encoding_size;
+    can_fit = sides_fit;
+    statics =
+        sides_write_static p q model model' g h g.meta h.meta l.statics m.statics;
+  }
 
-pub result_write_laws : {X Y V W : Type 0} (k : ℕ) (p : X → Type 0) (q : Y → Type 0) (model : X → V) (model' : Y → W) (g : WriteGrammar V) (h : WriteGrammar W) → WriteLaws p model g → WriteLaws q model' h → WriteLaws (IfSide p q) (result_map_both model model') (result_write k g h)
+pub result_write_laws : {X Y V W : Type 0} (k : ℕ) (p : X → Type 0) (q : Y → Type 0) (model : X → V) (model' : Y → W) (g : WriteGrammar V) (h : WriteGrammar W)
+    → WriteLaws p model g → WriteLaws q model' h → WriteLaws (IfSide p q) (result_map_both model model') (result_write k g h)
 result_write_laws k p q model model' g h l m =
     tagged_write_laws (IfSide p q) (result_map_both model model') k result_tag (sides_write g h) (sides_laws p q model model' g h l m)
 
-module _ {X Y V V' W W' : Type 0} (p : X → Type 0) (q : Y → Type 0) (ws : X → V') (w : WriteGrammar V') (rs : X → V) (r : ReadGrammar V) (ws' : Y → W') (w' : WriteGrammar W') (rs' : Y → W) (r' : ReadGrammar W) (l : ReadsBack p ws w rs r) (m : ReadsBack q ws' w' rs' r') where
-  sides_back : (o : Result X Y) (b : List ℕ) → IfSide p q o → SidesWrite w.writes w'.writes (result_map_both ws ws' o) b → IfSide w.fits w'.fits (result_map_both ws ws' o) → SidesRead r.reads r'.reads b (result_map_both rs rs' o)
+module _ {X Y V V' W W' : Type 0} (p : X → Type 0) (q : Y → Type 0) (ws : X → V') (w : WriteGrammar V') (rs : X → V) (r : ReadGrammar V) (ws' : Y → W')
+    (w' : WriteGrammar W') (rs' : Y → W) (r' : ReadGrammar W) (l : ReadsBack p ws w rs r) (m : ReadsBack q ws' w' rs' r') where
+  sides_back : (o : Result X Y) (b : List ℕ) → IfSide p q o → SidesWrite w.writes w'.writes (result_map_both ws ws' o) b
+      → IfSide w.fits w'.fits (result_map_both ws ws' o) → SidesRead r.reads r'.reads b (result_map_both rs rs' o)
   sides_back (Ok x) b c t f = l.back x b c t f
   sides_back (Err y) b c t f = m.back y b c t f
 
@@ -329,8 +440,10 @@ module _ {X Y V V' W W' : Type 0} (p : X → Type 0) (q : Y → Type 0) (ws : X 
     same_meta = ap (λ n. sides_meta n w'.meta) l.same_meta ∙ ap (λ n. sides_meta r.meta n) m.same_meta;
   }
 
-pub result_reads_back : {X Y V V' W W' : Type 0} (k : ℕ) (p : X → Type 0) (q : Y → Type 0) (ws : X → V') (w : WriteGrammar V') (rs : X → V) (r : ReadGrammar V) (ws' : Y → W') (w' : WriteGrammar W') (rs' : Y → W) (r' : ReadGrammar W)
-    → ReadsBack p ws w rs r → ReadsBack q ws' w' rs' r' → ReadsBack (IfSide p q) (result_map_both ws ws') (result_write k w w') (result_map_both rs rs') (result_read k r r')
+pub result_reads_back : {X Y V V' W W' : Type 0} (k : ℕ) (p : X → Type 0) (q : Y → Type 0) (ws : X → V') (w : WriteGrammar V') (rs : X → V) (r : ReadGrammar V)
+    (ws' : Y → W') (w' : WriteGrammar W') (rs' : Y → W) (r' : ReadGrammar W)
+    → ReadsBack p ws w rs r → ReadsBack q ws' w' rs' r' → ReadsBack (IfSide p q) (result_map_both ws ws') (result_write k w w') (result_map_both rs rs')
+    (result_read k r r')
 result_reads_back k p q ws w rs r ws' w' rs' r' l m =
     tagged_reads_back (IfSide p q) (result_map_both ws ws') (sides_write w w') (result_map_both rs rs') (sides_read r r') k result_tag result_tag
     (result_same_tag p q ws w rs r ws' w' rs' r' l m) (sides_reads_back p q ws w rs r ws' w' rs' r' l m)
@@ -340,5 +453,6 @@ result_reads_back k p q ws w rs r ws' w' rs' r' l m =
 pub counted_laws : {X V : Type 0} {p : X → Type 0} {model : X → V} {g : WriteGrammar V} (n : ℕ) → WriteLaws p model g → WriteLaws p model (counted_write n g)
 counted_laws n l = record { has_encoding = l.has_encoding; encoding_size = l.encoding_size; can_fit = l.can_fit; statics = l.statics }
 
-pub counted_reads_back : {X V W : Type 0} {p : X → Type 0} {ws : X → W} {w : WriteGrammar W} {rs : X → V} {r : ReadGrammar V} (n : ℕ) → ReadsBack p ws w rs r → ReadsBack p ws (counted_write n w) rs (counted_read n r)
+pub counted_reads_back : {X V W : Type 0} {p : X → Type 0} {ws : X → W} {w : WriteGrammar W} {rs : X → V} {r : ReadGrammar V} (n : ℕ) → ReadsBack p ws w rs r
+    → ReadsBack p ws (counted_write n w) rs (counted_read n r)
 counted_reads_back n l = record { back = l.back; within = l.within; same_prealloc = refl; same_meta = l.same_meta }

@@ -1,5 +1,31 @@
 -- The laws of byte forms, of views of them, and of lists that are lent where they lie.
-use Rattle.std.proofs.Common.{◌≡◌, ◌∙◌, sym, ap, subst, ℕ, ◌≤◌, ◌^◌, Bool, true, false, List, [], ◌∷◌, ◌++◌, length, map, take, refl, arith, nat_lt, zero, suc, length-append, length-take}
+use Rattle.std.proofs.Common.{
+  ◌≡◌,
+  ◌∙◌,
+  sym,
+  ap,
+  subst,
+  ℕ,
+  ◌≤◌,
+  ◌^◌,
+  Bool,
+  true,
+  false,
+  List,
+  [],
+  ◌∷◌,
+  ◌++◌,
+  length,
+  map,
+  take,
+  refl,
+  arith,
+  nat_lt,
+  zero,
+  suc,
+  length-append,
+  length-take,
+}
 use Rattle.std.specs.Prelude.{if◌then◌else◌, max, replicate}
 use Rattle.wincode_io.specs.Forms.{IsByteForm}
 use Rattle.wincode_io.specs.Joins.{IsUnambiguous, Each}
@@ -49,7 +75,8 @@ module _ {X : Type 0} {is_valid : X → Type 0} {s : ℕ} {form : X → List ℕ
   form_static true any = (λ b v r. ap length r.1 ∙ law.long v r.0, λ z b all e. (value b, (law.valid_value b all e, sym (law.form_value b all e))))
   form_static false any = tt
 
-  pub form_read_laws : {refusal : ReadRefusal} (any : Bool) (prealloc borrow : ℕ) → 1 ≤ prealloc → ReadLaws is_valid (form_read is_valid s form any prealloc borrow refusal)
+  pub form_read_laws : {refusal : ReadRefusal} (any : Bool) (prealloc borrow : ℕ) → 1 ≤ prealloc
+      → ReadLaws is_valid (form_read is_valid s form any prealloc borrow refusal)
   form_read_laws any prealloc borrow some = record {
     one_front = form_one;
     reads_valid = λ b v r. r.0;
@@ -61,7 +88,8 @@ module _ {X : Type 0} {is_valid : X → Type 0} {s : ℕ} {form : X → List ℕ
   form_encoding v = (as_long s (form v), (as_long_size s (form v), λ p. whole_front s (form v) (zeros s) (law.long v p)))
 
   -- `of` is the value that a Y has
-  form_sized : {Y : Type 0} (of : Y → X) (within any : Bool) → IsWriteStatic (λ y. is_valid (of y)) of (λ v. Unit {0}) (λ v. s) (if within then Static s any else Dynamic)
+  form_sized : {Y : Type 0} (of : Y → X) (within any : Bool) → IsWriteStatic (λ y. is_valid (of y)) of (λ v. Unit {0}) (λ v. s)
+      (if within then Static s any else Dynamic)
   form_sized of true any = (λ y p. tt, λ v c. refl)
   form_sized of false any = tt
 
@@ -84,7 +112,8 @@ form_reads_back of any prealloc borrow = record {
 
 -- ---- lists that are lent
 
-pub lent_read_laws : {V : Type 0} (borrow s : ℕ) (is_valid : V → Type 0) (g : ReadGrammar V) → ReadLaws is_valid g → ReadLaws (Each is_valid) (lent_read borrow s g)
+pub lent_read_laws : {V : Type 0} (borrow s : ℕ) (is_valid : V → Type 0) (g : ReadGrammar V) → ReadLaws is_valid g
+    → ReadLaws (Each is_valid) (lent_read borrow s g)
 lent_read_laws borrow s is_valid g laws =
     let l = list_read_laws (bincode byte_limit) (bincode_laws byte_limit) 16 (omega arith) is_valid g laws in
     record { one_front = l.one_front; reads_valid = l.reads_valid; statics = tt; prealloc = omega arith }
@@ -94,25 +123,29 @@ same_items [] = refl
 same_items (v ∷ vs) = ap (λ ws. v ∷ ws) (same_items vs)
 
 -- `items` are those that a Y has
-pub lent_write_laws : {Y V : Type 0} (items : Y → List V) (is_valid : V → Type 0) (g : WriteGrammar V) → WriteLaws is_valid (λ v. v) g → WriteLaws (λ y. Each is_valid (items y)) items (lent_write g)
+pub lent_write_laws : {Y V : Type 0} (items : Y → List V) (is_valid : V → Type 0) (g : WriteGrammar V) → WriteLaws is_valid (λ v. v) g
+    → WriteLaws (λ y. Each is_valid (items y)) items (lent_write g)
 lent_write_laws items is_valid g laws =
     let l = list_write_laws (bincode byte_limit) 16 items is_valid (λ v. v) g laws in
     record { has_encoding = l.has_encoding; encoding_size = l.encoding_size; can_fit = l.can_fit; statics = tt }
 
-pub lent_reads_back : {Y V : Type 0} (borrow s : ℕ) (items : Y → List V) (is_valid : V → Type 0) (w : WriteGrammar V) (r : ReadGrammar V) → ReadsBack is_valid (λ v. v) w (λ v. v) r
+pub lent_reads_back : {Y V : Type 0} (borrow s : ℕ) (items : Y → List V) (is_valid : V → Type 0) (w : WriteGrammar V) (r : ReadGrammar V)
+    → ReadsBack is_valid (λ v. v) w (λ v. v) r
     → ReadsBack (λ y. Each is_valid (items y)) items (lent_write w) items (lent_read borrow s r)
 lent_reads_back {Y} {V} borrow s items is_valid w r law =
     let l = list_reads_back (bincode byte_limit) (bincode_laws byte_limit) 16 items is_valid (λ v. v) w (λ v. v) r law in
     let g = lent_write w in let h = lent_read borrow s r in
     record {
-      back = λ y b p t f. subst (h.reads b) (same_items (items y)) (l.back y b p (subst (λ vs. g.writes vs b) (sym (same_items (items y))) t) (subst g.fits (sym (same_items (items y))) f));
+      back = λ y b p t f. subst (h.reads b) (same_items (items y))
+          (l.back y b p (subst (λ vs. g.writes vs b) (sym (same_items (items y))) t) (subst g.fits (sym (same_items (items y))) f));
       within = λ b y t. subst g.fits (same_items (items y)) (l.within b y (subst (h.reads b) (sym (same_items (items y))) t));
       same_prealloc = refl;
       same_meta = refl;
     }
 
 -- the same, of a list that contracts see by the values that its items are
-pub lent_reads_back_model : {Y V : Type 0} (borrow s : ℕ) (items : Y → List V) (is_valid : V → Type 0) (w : WriteGrammar V) (r : ReadGrammar V) → ReadsBack is_valid (λ v. v) w (λ v. v) r
+pub lent_reads_back_model : {Y V : Type 0} (borrow s : ℕ) (items : Y → List V) (is_valid : V → Type 0) (w : WriteGrammar V) (r : ReadGrammar V)
+    → ReadsBack is_valid (λ v. v) w (λ v. v) r
     → ReadsBack (λ y. Each is_valid (items y)) (λ y. map (λ v. v) (items y)) (lent_write w) items (lent_read borrow s r)
 lent_reads_back_model {Y} {V} borrow s items is_valid w r law =
     let l = list_reads_back (bincode byte_limit) (bincode_laws byte_limit) 16 items is_valid (λ v. v) w (λ v. v) r law in

@@ -112,7 +112,15 @@ IsLentRun g n b vs = (n * g.prealloc ≤ byte_limit) × AreItems n g.reads b vs
 
 -- so, as something to read, of s bytes each
 abbrev pub lent_run : {V : Type 0} → ℕ → ℕ → ReadGrammar V → ℕ → ReadGrammar (List V)
-lent_run borrow s g n = record { reads = IsLentRun g n; meta = Dynamic; prealloc = 1; borrow = borrow; takes_no_memory = true; refused = LentRunReadRefused borrow s n }
+lent_run borrow s g n = record {
+  reads = IsLentRun g n;
+  meta = Dynamic;
+  prealloc = 1;
+  borrow = borrow;
+  takes_no_memory = true;
+  refused =
+      LentRunReadRefused borrow s n;
+}
 
 -- a form among others, which counts its bytes, at least 1
 abbrev pub form_item_read : {X : Type 0} → (X → Type 0) → ℕ → (X → List ℕ) → ReadGrammar X

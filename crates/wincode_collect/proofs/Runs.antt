@@ -11,7 +11,8 @@ use Rattle.std.specs.Prelude.{Option, Some, None, Result, Ok}
 use Rattle.wincode_collect.specs.Calls.{GaveEach, Stops, Gave, Failed, Attempts}
 
 -- a run and one call more
-pub runs_more : {S A : Type 0} (R : S → Option A → S → Type 0) (s : S) (xs : List A) (j t : S) (x : A) → GaveEach R s xs j → R j (Some x) t → GaveEach R s (xs ++ x ∷ []) t
+pub runs_more : {S A : Type 0} (R : S → Option A → S → Type 0) (s : S) (xs : List A) (j t : S) (x : A) → GaveEach R s xs j → R j (Some x) t
+    → GaveEach R s (xs ++ x ∷ []) t
 runs_more R s [] j t x run step = (t, subst (λ u. R u (Some x) t) (sym run) step, refl)
 runs_more R s (y ∷ xs) j t x run step = (run.0, run.1, runs_more R run.0 xs j t x run.2 step)
 
@@ -75,8 +76,15 @@ module _ {S F A E Name : Type 0} (R : F → Result A E → F → Type 0) (ahead 
   broke s x n t e stops = broke_at s x n stops.items stops.at t e stops.fewer stops.run stops.stop
 
 -- a call that gave an item, and then a refusal
-pub failed_more : {S A E : Type 0} (R : S → Result A E → S → Type 0) (s : S) (x : A) (j : S) (n : ℕ) (e : E) (t : S) → R s (Ok x) j → Failed R j (n - 1) e t → Failed R s n e t
-failed_more R s x j n e t step failed = record { items = x ∷ failed.items; at = failed.at; fewer = omega (arith, failed.fewer); run = (j, step, failed.run); stop = failed.stop }
+pub failed_more : {S A E : Type 0} (R : S → Result A E → S → Type 0) (s : S) (x : A) (j : S) (n : ℕ) (e : E) (t : S) → R s (Ok x) j → Failed R j (n - 1) e t
+    → Failed R s n e t
+failed_more R s x j n e t step failed = record {
+  items = x ∷ failed.items;
+  at = failed.at;
+  fewer = omega (arith, failed.fewer);
+  run = (j, step, failed.run);
+  stop = failed.stop;
+}
 
 -- the first i items, and one more that was put after them
 pub placed : {A : Type 0} (xs ys : List A) (i : ℕ) (x : A) → ys ≡ set xs i x → i < length xs → take (i + 1) ys ≡ take i xs ++ x ∷ []

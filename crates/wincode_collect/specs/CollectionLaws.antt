@@ -46,7 +46,8 @@ module _ {K : Type 0} (cmp : K → K → Ordering) (o : IsTotalOrder cmp) where
 
   by_order : {X : Type 0} (q k : K) (v : X) (e : K × X) (es : List (K × X)) → IsStrictlySortedBy cmp (keys_of (e ∷ es))
       → find (is_at (cmp q)) (keys_of (insert_entry cmp es k v)) ≡ option_or (find (is_at (cmp q)) (keys_of es)) (find (is_at (cmp q)) (k ∷ []))
-      → (r : Ordering) → cmp k e.0 ≡ r → find (is_at (cmp q)) (keys_of (match_ordering r ((k, v) ∷ e ∷ es) ((e.0, v) ∷ es) (e ∷ insert_entry cmp es k v))) ≡ option_or (find (is_at (cmp q)) (keys_of (e ∷ es))) (find (is_at (cmp q)) (k ∷ []))
+      → (r : Ordering) → cmp k e.0 ≡ r → find (is_at (cmp q)) (keys_of (match_ordering r ((k, v) ∷ e ∷ es) ((e.0, v) ∷ es) (e ∷ insert_entry cmp es k v)))
+      ≡ option_or (find (is_at (cmp q)) (keys_of (e ∷ es))) (find (is_at (cmp q)) (k ∷ []))
   by_order q k v e es s rest Less p = elim (cases_Bool (is_eq (cmp q k))) [
     | inl b ↦ rw (ap (λ t. find t (e.0 ∷ keys_of es)) (same_test q k b) ∙ none_from k e.0 (keys_of es) s p) (rw b refl)
     | inr b ↦ rw b (sym (option_or_none _))
@@ -56,7 +57,8 @@ module _ {K : Type 0} (cmp : K → K → Ordering) (o : IsTotalOrder cmp) where
       elim (cases_Bool (is_eq (cmp q e.0))) [ inl b ↦ rw b refl | inr b ↦ rw (same ∙ b) (sym (option_or_none _)) ]
   by_order q k v e es s rest Greater p = elim (cases_Bool (is_eq (cmp q e.0))) [ inl b ↦ rw b refl | inr b ↦ rw b rest ]
 
-  pub insert_firsts : {X : Type 0} (q k : K) (v : X) (es : List (K × X)) → IsStrictlySortedBy cmp (keys_of es) → find (is_at (cmp q)) (keys_of (insert_entry cmp es k v)) ≡ option_or (find (is_at (cmp q)) (keys_of es)) (find (is_at (cmp q)) (k ∷ []))
+  pub insert_firsts : {X : Type 0} (q k : K) (v : X) (es : List (K × X)) → IsStrictlySortedBy cmp (keys_of es)
+      → find (is_at (cmp q)) (keys_of (insert_entry cmp es k v)) ≡ option_or (find (is_at (cmp q)) (keys_of es)) (find (is_at (cmp q)) (k ∷ []))
   insert_firsts q k v [] s = refl
   insert_firsts q k v (e ∷ es) s = by_order q k v e es s (insert_firsts q k v es (sorted_tail cmp e.0 (keys_of es) s)) (cmp k e.0) refl
 
@@ -70,20 +72,25 @@ module _ {K X : Type 0} (t : K → Bool) where
   find_values (e ∷ es) = elim (cases_Bool (t e.0)) [ inl b ↦ rw b refl | inr b ↦ rw b (find_values es) ]
 
 -- one more pair, inserted
-pub map_more : {K X : Type 0} (cmp : K → K → Ordering) → IsTotalOrder cmp → (ps es fs : List (K × X)) (k : K) (v : X) → IsMapOf cmp ps es → fs ≡ insert_entry cmp es k v → IsStrictlySortedBy cmp (keys_of fs)
+pub map_more : {K X : Type 0} (cmp : K → K → Ordering) → IsTotalOrder cmp → (ps es fs : List (K × X)) (k : K) (v : X) → IsMapOf cmp ps es → fs
+    ≡ insert_entry cmp es k v → IsStrictlySortedBy cmp (keys_of fs)
     → ((q : K) → lookup (is_at (cmp q)) fs ≡ cond (is_at (cmp k) q) (Some v) (lookup (is_at (cmp q)) es)) → IsMapOf cmp (ps ++ ((k, v) ∷ [])) fs
 map_more cmp o ps es fs k v m e s u = record {
   keys = record {
     ordered = s;
-    firsts = λ q. ap (λ l. find (is_at (cmp q)) (keys_of l)) e ∙ insert_firsts cmp o q k v es m.keys.ordered ∙ ap (λ x. option_or x (find (is_at (cmp q)) (k ∷ []))) (m.keys.firsts q)
+    firsts = λ q. ap (λ l. find (is_at (cmp q)) (keys_of l)) e ∙ insert_firsts cmp o q k v es m.keys.ordered
+        ∙ ap (λ x. option_or x (find (is_at (cmp q)) (k ∷ []))) (m.keys.firsts q)
         ∙ sym (ap (find (is_at (cmp q))) (map-append (λ d. d.0) ps ((k, v) ∷ [])) ∙ find-append (is_at (cmp q)) (keys_of ps) (k ∷ []));
   };
-  lasts = λ q. u q ∙ ap (λ b. cond b (Some v) (lookup (is_at (cmp q)) es)) ((eq_by_cmp_equiv o).symm k q) ∙ ap (cond (is_at (cmp q) k) (Some v)) (m.lasts q) ∙ sym (ap (lookup (is_at (cmp q))) (reverse-append ps ((k, v) ∷ [])));
+  lasts = λ q. u q ∙ ap (λ b. cond b (Some v) (lookup (is_at (cmp q)) es)) ((eq_by_cmp_equiv o).symm k q) ∙ ap (cond (is_at (cmp q) k) (Some v)) (m.lasts q)
+      ∙ sym (ap (lookup (is_at (cmp q))) (reverse-append ps ((k, v) ∷ [])));
 }
 
 module _ {K : Type 0} (cmp : K → K → Ordering) (o : IsTotalOrder cmp) where
-  set_by_order : (q k e : K) (es : List K) → IsStrictlySortedBy cmp (e ∷ es) → find (is_at (cmp q)) (insert_key cmp es k) ≡ option_or (find (is_at (cmp q)) es) (find (is_at (cmp q)) (k ∷ []))
-      → (r : Ordering) → cmp k e ≡ r → find (is_at (cmp q)) (match_ordering r (k ∷ e ∷ es) (e ∷ es) (e ∷ insert_key cmp es k)) ≡ option_or (find (is_at (cmp q)) (e ∷ es)) (find (is_at (cmp q)) (k ∷ []))
+  set_by_order : (q k e : K) (es : List K) → IsStrictlySortedBy cmp (e ∷ es) → find (is_at (cmp q)) (insert_key cmp es k)
+      ≡ option_or (find (is_at (cmp q)) es) (find (is_at (cmp q)) (k ∷ []))
+      → (r : Ordering) → cmp k e ≡ r → find (is_at (cmp q)) (match_ordering r (k ∷ e ∷ es) (e ∷ es) (e ∷ insert_key cmp es k))
+      ≡ option_or (find (is_at (cmp q)) (e ∷ es)) (find (is_at (cmp q)) (k ∷ []))
   set_by_order q k e es s rest Less p = elim (cases_Bool (is_eq (cmp q k))) [
     | inl b ↦ rw (ap (λ t. find t (e ∷ es)) (same_test cmp o q k b) ∙ none_from cmp o k e es s p) (rw b refl)
     | inr b ↦ rw b (sym (option_or_none _))
@@ -93,14 +100,16 @@ module _ {K : Type 0} (cmp : K → K → Ordering) (o : IsTotalOrder cmp) where
       elim (cases_Bool (is_eq (cmp q e))) [ inl b ↦ rw b refl | inr b ↦ rw (same ∙ b) (sym (option_or_none _)) ]
   set_by_order q k e es s rest Greater p = elim (cases_Bool (is_eq (cmp q e))) [ inl b ↦ rw b refl | inr b ↦ rw b rest ]
 
-  set_insert : (q k : K) (es : List K) → IsStrictlySortedBy cmp es → find (is_at (cmp q)) (insert_key cmp es k) ≡ option_or (find (is_at (cmp q)) es) (find (is_at (cmp q)) (k ∷ []))
+  set_insert : (q k : K) (es : List K) → IsStrictlySortedBy cmp es → find (is_at (cmp q)) (insert_key cmp es k)
+      ≡ option_or (find (is_at (cmp q)) es) (find (is_at (cmp q)) (k ∷ []))
   set_insert q k [] s = refl
   set_insert q k (e ∷ es) s = set_by_order q k e es s (set_insert q k es (sorted_tail cmp e es s)) (cmp k e) refl
 
   pub set_more : (xs ks ls : List K) (k : K) → IsSetOf cmp xs ks → ls ≡ insert_key cmp ks k → IsStrictlySortedBy cmp ls → IsSetOf cmp (xs ++ (k ∷ [])) ls
   set_more xs ks ls k m e s = record {
     ordered = s;
-    firsts = λ q. ap (find (is_at (cmp q))) e ∙ set_insert q k ks m.ordered ∙ ap (λ x. option_or x (find (is_at (cmp q)) (k ∷ []))) (m.firsts q) ∙ sym (find-append (is_at (cmp q)) xs (k ∷ []));
+    firsts = λ q. ap (find (is_at (cmp q))) e ∙ set_insert q k ks m.ordered ∙ ap (λ x. option_or x (find (is_at (cmp q)) (k ∷ []))) (m.firsts q)
+        ∙ sym (find-append (is_at (cmp q)) xs (k ∷ []));
   }
 
   pub set_none : (ks : List K) → IsStrictlySortedBy cmp ks → ks ≡ [] → IsSetOf cmp [] ks
@@ -118,7 +127,8 @@ found_one : {A : Type 0} (t : A → Bool) (r : Option A) (xs : List A) → All (
 found_one t r [] a = inr (All-nil (λ y. t y ≡ false))
 found_one t r (x ∷ xs) a = elim (cases_Bool (t x)) [
   | inl b ↦ inl (rw b (sym (All-head (λ y. t y ≡ true → r ≡ Some y) x xs a b)))
-  | inr b ↦ elim (found_one t r xs (All-tail (λ y. t y ≡ true → r ≡ Some y) x xs a)) [ inl e ↦ inl (rw b e) | inr n ↦ inr (All-cons (λ y. t y ≡ false) x xs b n) ]
+  | inr b ↦ elim (found_one t r xs (All-tail (λ y. t y ≡ true → r ≡ Some y) x xs a))
+      [ inl e ↦ inl (rw b e) | inr n ↦ inr (All-cons (λ y. t y ≡ false) x xs b n) ]
 ]
 
 module _ {K : Type 0} (eq : K → K → Bool) (laws : IsEquivalence eq) where
@@ -131,10 +141,11 @@ module _ {K : Type 0} (eq : K → K → Bool) (laws : IsEquivalence eq) where
       (λ k e h b. elim (cases_Bool (eq q x)) [ inl c ↦ absurd (true≢false (sym b ∙ laws.congr q x _ c ∙ others k e h)) | inr c ↦ rw c (rest k e h b) ])
 
   pub perm_find : (q : K) (xs ys : List K) → IsPermutation xs ys → IsDistinct eq xs → find (eq q) ys ≡ find (eq q) xs
-  perm_find q xs ys p d = elim (found_one (eq q) (find (eq q) xs) ys (All-permutation (λ y. eq q y ≡ true → find (eq q) xs ≡ Some y) xs ys p (own_found q xs d))) [
-    | inl e ↦ e
-    | inr n ↦ all_none (eq q) ys n ∙ sym (all_none (eq q) xs (All-permutation (λ y. eq q y ≡ false) ys xs (IsPermutation-sym xs ys p) n))
-  ]
+  perm_find q xs ys p d = elim (found_one (eq q) (find (eq q) xs) ys
+      (All-permutation (λ y. eq q y ≡ true → find (eq q) xs ≡ Some y) xs ys p (own_found q xs d))) [
+        | inl e ↦ e
+        | inr n ↦ all_none (eq q) ys n ∙ sym (all_none (eq q) xs (All-permutation (λ y. eq q y ≡ false) ys xs (IsPermutation-sym xs ys p) n))
+      ]
 
   pub same_hash_test : (q k : K) → eq q k ≡ true → eq q ≡ eq k
   same_hash_test q k e i y = laws.congr q k y e i
@@ -144,17 +155,20 @@ module _ {K : Type 0} (eq : K → K → Bool) (laws : IsEquivalence eq) where
     no_key t es None f n = find_keys t es ∙ ap (option_map (λ e. e.0)) f
     no_key t es (Some e) f n = absurd (true≢false (ap is_some (sym (n ∙ find_values t es ∙ ap (option_map (λ e. e.1)) f))))
 
-    has_key : (t : K → Bool) (es : List (K × X)) (r : Option (K × X)) (w : X) → find (λ e. t e.0) es ≡ r → Some w ≡ lookup t es → (x : K) × (find t (keys_of es) ≡ Some x)
+    has_key : (t : K → Bool) (es : List (K × X)) (r : Option (K × X)) (w : X) → find (λ e. t e.0) es ≡ r → Some w ≡ lookup t es → (x : K)
+        × (find t (keys_of es) ≡ Some x)
     has_key t es None w f n = absurd (true≢false (ap is_some (n ∙ find_values t es ∙ ap (option_map (λ e. e.1)) f)))
     has_key t es (Some e) w f n = (e.0, find_keys t es ∙ ap (option_map (λ e. e.0)) f)
 
-    puts_firsts : (es fs : List (K × X)) (k : K) (v : X) (old : Option X) → old ≡ lookup (eq k) es → MatchOption old (IsPermutation ((k, v) ∷ es) fs) (λ _. fs ≡ set_value (eq k) es v) → IsDistinct eq (keys_of fs)
+    puts_firsts : (es fs : List (K × X)) (k : K) (v : X) (old : Option X) → old ≡ lookup (eq k) es
+        → MatchOption old (IsPermutation ((k, v) ∷ es) fs) (λ _. fs ≡ set_value (eq k) es v) → IsDistinct eq (keys_of fs)
         → (q : K) → find (eq q) (keys_of fs) ≡ option_or (find (eq q) (keys_of es)) (find (eq q) (k ∷ []))
     puts_firsts es fs k v None o p d q =
         let keys : IsPermutation (k ∷ keys_of es) (keys_of fs) = IsPermutation-map (λ e. e.0) ((k, v) ∷ es) fs p in
         let same : find (eq q) (k ∷ keys_of es) ≡ find (eq q) (keys_of fs) = perm_find q (keys_of fs) (k ∷ keys_of es) (IsPermutation-sym _ _ keys) d in
         sym same ∙ elim (cases_Bool (eq q k)) [
-          | inl b ↦ let none : find (eq q) (keys_of es) ≡ None = ap (λ t. find t (keys_of es)) (same_hash_test q k b) ∙ no_key (eq k) es (find (λ e. eq k e.0) es) refl o in rw none (rw b refl)
+          | inl b ↦ let none : find (eq q) (keys_of es) ≡ None =
+              ap (λ t. find t (keys_of es)) (same_hash_test q k b) ∙ no_key (eq k) es (find (λ e. eq k e.0) es) refl o in rw none (rw b refl)
           | inr b ↦ rw b (sym (option_or_none _))
         ]
     puts_firsts es fs k v (Some w) o p d q =
@@ -164,7 +178,8 @@ module _ {K : Type 0} (eq : K → K → Bool) (laws : IsEquivalence eq) where
           | inr b ↦ rw b (sym (option_or_none _))
         ]
 
-    pub hash_more : (ps es fs : List (K × X)) (k : K) (v : X) (old : Option X) → IsHashMapOf eq ps es → old ≡ lookup (eq k) es → MatchOption old (IsPermutation ((k, v) ∷ es) fs) (λ _. fs ≡ set_value (eq k) es v) → IsDistinct eq (keys_of fs)
+    pub hash_more : (ps es fs : List (K × X)) (k : K) (v : X) (old : Option X) → IsHashMapOf eq ps es → old ≡ lookup (eq k) es
+        → MatchOption old (IsPermutation ((k, v) ∷ es) fs) (λ _. fs ≡ set_value (eq k) es v) → IsDistinct eq (keys_of fs)
         → ((q : K) → lookup (eq q) fs ≡ cond (eq k q) (Some v) (lookup (eq q) es)) → IsHashMapOf eq (ps ++ ((k, v) ∷ [])) fs
     hash_more ps es fs k v old m o p d u = record {
       keys = record {
@@ -172,7 +187,8 @@ module _ {K : Type 0} (eq : K → K → Bool) (laws : IsEquivalence eq) where
         firsts = λ q. puts_firsts es fs k v old o p d q ∙ ap (λ x. option_or x (find (eq q) (k ∷ []))) (m.keys.firsts q)
             ∙ sym (ap (find (eq q)) (map-append (λ e. e.0) ps ((k, v) ∷ [])) ∙ find-append (eq q) (keys_of ps) (k ∷ []));
       };
-      lasts = λ q. u q ∙ ap (λ b. cond b (Some v) (lookup (eq q) es)) (laws.symm k q) ∙ ap (cond (eq q k) (Some v)) (m.lasts q) ∙ sym (ap (lookup (eq q)) (reverse-append ps ((k, v) ∷ [])));
+      lasts = λ q. u q ∙ ap (λ b. cond b (Some v) (lookup (eq q) es)) (laws.symm k q) ∙ ap (cond (eq q k) (Some v)) (m.lasts q)
+          ∙ sym (ap (lookup (eq q)) (reverse-append ps ((k, v) ∷ [])));
     }
 
 pub any_found : {K : Type 0} (t : K → Bool) (ks : List K) → list_any t ks ≡ is_some (find t ks)
@@ -196,10 +212,12 @@ when true e = refl
 when false e = absurd (true≢false (sym e))
 
 module _ {K : Type 0} (eq : K → K → Bool) (laws : IsEquivalence eq) where
-  set_puts : (ks ls : List K) (k : K) (added : Bool) → added ≡ not (list_any (eq k) ks) → MatchBool added (IsPermutation (k ∷ ks) ls) (ls ≡ ks) → IsDistinct eq ls → (q : K) → find (eq q) ls ≡ option_or (find (eq q) ks) (find (eq q) (k ∷ []))
+  set_puts : (ks ls : List K) (k : K) (added : Bool) → added ≡ not (list_any (eq k) ks) → MatchBool added (IsPermutation (k ∷ ks) ls) (ls ≡ ks)
+      → IsDistinct eq ls → (q : K) → find (eq q) ls ≡ option_or (find (eq q) ks) (find (eq q) (k ∷ []))
   set_puts ks ls k true a p d q =
       sym (perm_find eq laws q ls (k ∷ ks) (IsPermutation-sym _ _ p) d) ∙ elim (cases_Bool (eq q k)) [
-        | inl b ↦ let none : find (eq q) ks ≡ None = ap (λ t. find t ks) (same_hash_test eq laws q k b) ∙ none_some (find (eq k) ks) (sym (any_found (eq k) ks) ∙ unless (list_any (eq k) ks) a) in rw none (rw b refl)
+        | inl b ↦ let none : find (eq q) ks ≡ None = ap (λ t. find t ks) (same_hash_test eq laws q k b)
+            ∙ none_some (find (eq k) ks) (sym (any_found (eq k) ks) ∙ unless (list_any (eq k) ks) a) in rw none (rw b refl)
         | inr b ↦ rw b (sym (option_or_none _))
       ]
   set_puts ks ls k false a p d q =
@@ -209,7 +227,8 @@ module _ {K : Type 0} (eq : K → K → Bool) (laws : IsEquivalence eq) where
         | inr b ↦ rw b (sym (option_or_none _))
       ]
 
-  pub hash_set_more : (xs ks ls : List K) (k : K) (added : Bool) → added ≡ not (list_any (eq k) ks) → MatchBool added (IsPermutation (k ∷ ks) ls) (ls ≡ ks) → IsDistinct eq ls → IsHashSetOf eq xs ks → IsHashSetOf eq (xs ++ (k ∷ [])) ls
+  pub hash_set_more : (xs ks ls : List K) (k : K) (added : Bool) → added ≡ not (list_any (eq k) ks) → MatchBool added (IsPermutation (k ∷ ks) ls) (ls ≡ ks)
+      → IsDistinct eq ls → IsHashSetOf eq xs ks → IsHashSetOf eq (xs ++ (k ∷ [])) ls
   hash_set_more xs ks ls k added a p d m = record {
     once = d;
     firsts = λ q. set_puts ks ls k added a p d q ∙ ap (λ x. option_or x (find (eq q) (k ∷ []))) (m.firsts q) ∙ sym (find-append (eq q) xs (k ∷ []));

@@ -30,7 +30,8 @@ module _ {K X : Type 0} (eq : K → K → Bool) (laws : IsEquivalence eq) where
   lookup_reverse q (e ∷ es) s =
       let t = eq q in
       let rest = lookup_reverse q es (IsDistinct-tail eq e.0 (keys_of es) s) in
-      let back : lookup t (reverse (e ∷ es)) ≡ option_or (lookup t es) (lookup t (e ∷ [])) = ap (lookup t) (reverse-append (e ∷ []) es) ∙ lookup_append t (reverse es) (e ∷ []) ∙ ap (λ x. option_or x (lookup t (e ∷ []))) (sym rest) in
+      let back : lookup t (reverse (e ∷ es)) ≡ option_or (lookup t es) (lookup t (e ∷ [])) =
+      ap (lookup t) (reverse-append (e ∷ []) es) ∙ lookup_append t (reverse es) (e ∷ []) ∙ ap (λ x. option_or x (lookup t (e ∷ []))) (sym rest) in
       let both : lookup t (e ∷ es) ≡ option_or (lookup t es) (lookup t (e ∷ [])) = elim (cases_Bool (eq q e.0)) [
         | inl b ↦ let none : lookup t es ≡ None = lookup-none t es (none_past_head laws q e es s b) in rw none (rw b refl)
         | inr b ↦ rw b (sym (option_or_none _))
@@ -44,7 +45,11 @@ module _ {K : Type 0} (eq : K → K → Bool) (laws : IsEquivalence eq) where
 
 module _ {K X : Type 0} (cmp : K → K → Ordering) (o : IsTotalOrder cmp) where
   pub own_map : (es : List (K × X)) → IsStrictlySortedBy cmp (keys_of es) → IsMapOf cmp es es
-  own_map es s = record { keys = record { ordered = s; firsts = λ q. refl }; lasts = λ q. lookup_reverse (eq_by_cmp cmp) (eq_by_cmp_equiv o) q es (IsDistinct-from_sorted cmp _ s) }
+  own_map es s = record {
+    keys = record { ordered = s; firsts = λ q. refl };
+    lasts =
+        λ q. lookup_reverse (eq_by_cmp cmp) (eq_by_cmp_equiv o) q es (IsDistinct-from_sorted cmp _ s);
+  }
 
   pub map_shorter : (ds fs : List (K × X)) → IsMapOf cmp ds fs → length fs ≤ length ds
   map_shorter ds fs m =
@@ -53,9 +58,11 @@ module _ {K X : Type 0} (cmp : K → K → Ordering) (o : IsTotalOrder cmp) wher
 
 module _ {K A : Type 0} (eq : K → K → Bool) (laws : IsEquivalence eq) (f : K → A) where
   -- as many keys that find alike, of which the others are distinct, are distinct
-  pub once_too : (ks ls : List K) → IsDistinct eq ls → length ks ≡ length ls → ((q : K) → option_map f (find (eq q) ks) ≡ option_map f (find (eq q) ls)) → IsDistinct eq ks
+  pub once_too : (ks ls : List K) → IsDistinct eq ls → length ks ≡ length ls → ((q : K) → option_map f (find (eq q) ks) ≡ option_map f (find (eq q) ls))
+      → IsDistinct eq ks
   once_too ks ls d n h =
-      let members : (q : K) → list_any (eq q) ls ≡ list_any (eq q) ks = λ q. any_found (eq q) ls ∙ sym (some_seen f (find (eq q) ls)) ∙ ap is_some (sym (h q)) ∙ some_seen f (find (eq q) ks) ∙ sym (any_found (eq q) ks) in
+      let members : (q : K) → list_any (eq q) ls ≡ list_any (eq q) ks =
+      λ q. any_found (eq q) ls ∙ sym (some_seen f (find (eq q) ls)) ∙ ap is_some (sym (h q)) ∙ some_seen f (find (eq q) ks) ∙ sym (any_found (eq q) ks) in
       IsDistinct-from_count laws ks (sym (length-from_keys laws ls ks d members) ∙ sym n)
 
 -- pairs that are alike where their keys are equal

@@ -21,10 +21,20 @@ use Rattle.wincode_derive_support.specs.SumLaws.{enum_write_laws}
 
 -- ---- reading
 
-wider : {V : Type 0} (R : List ℕ → V → Type 0) (borrow borrow' : ℕ) (takes_no_memory takes_no_memory' : Bool) (old new : ReaderState) (e : ReadError) → borrow ≤ borrow' → (takes_no_memory ≡ false → takes_no_memory' ≡ false) → ReadRefused R borrow takes_no_memory old new e → ReadRefused R borrow' takes_no_memory' old new e
-wider R borrow borrow' takes_no_memory takes_no_memory' old new e a s r = record { kept = r.kept; left = r.left; place = r.place; due = due_map (Accepts R old) (Accepts R old) borrow borrow' takes_no_memory takes_no_memory' new (λ x. x) a s e r.due }
+wider : {V : Type 0} (R : List ℕ → V → Type 0) (borrow borrow' : ℕ) (takes_no_memory takes_no_memory' : Bool) (old new : ReaderState) (e : ReadError) → borrow
+    ≤ borrow' → (takes_no_memory ≡ false → takes_no_memory' ≡ false) → ReadRefused R borrow takes_no_memory old new e
+    → ReadRefused R borrow' takes_no_memory' old new e
+wider R borrow borrow' takes_no_memory takes_no_memory' old new e a s r =
+    record {
+      kept = r.kept;
+      left = r.left;
+      place = r.place;
+      due =
+          due_map (Accepts R old) (Accepts R old) borrow borrow' takes_no_memory takes_no_memory' new (λ x. x) a s e r.due;
+    }
 
-module _ {V W : Type 0} (n : ℕ) (tag : W → ℕ) (own : W → Type 0) (g : ReadGrammar V) (h : ReadGrammar W) (others : ℕ → ReadRefusal) (t : ℕ) (old new : ReaderState) where
+module _ {V W : Type 0} (n : ℕ) (tag : W → ℕ) (own : W → Type 0) (g : ReadGrammar V) (h : ReadGrammar W) (others : ℕ → ReadRefusal) (t : ℕ)
+    (old new : ReaderState) where
   abbrev Whole : List ℕ → Result V W → Type 0
   Whole = CaseReads (sides_tag (λ v. n) tag) (sides_own n tag own) (SidesRead g.reads h.reads) t
 
@@ -48,14 +58,16 @@ module _ {V W : Type 0} (n : ℕ) (tag : W → ℕ) (own : W → Type 0) (g : Re
   pub first_refused : (e : ReadError) → t ≡ n → SchemaReadRefused g old new e → SchemaReadRefused whole old new e
   first_refused e is r = (
     refuses_map g.reads Whole (max g.borrow h.borrow) (g.takes_no_memory && h.takes_no_memory) old new e (of_first is)
-        (wider g.reads g.borrow (max g.borrow h.borrow) g.takes_no_memory (g.takes_no_memory && h.takes_no_memory) old new e (le_max_left g.borrow h.borrow) (both_left g.takes_no_memory h.takes_no_memory) r.0),
+        (wider g.reads g.borrow (max g.borrow h.borrow) g.takes_no_memory (g.takes_no_memory && h.takes_no_memory) old new e (le_max_left g.borrow h.borrow)
+        (both_left g.takes_no_memory h.takes_no_memory) r.0),
     inl (is, r),
   )
 
   pub other_refused : (e : ReadError) → (t ≡ n → ⊥) → SchemaReadRefused (case_read tag own h others t) old new e → SchemaReadRefused whole old new e
   other_refused e ne r = (
     refuses_map (CaseReads tag own h.reads t) Whole (max g.borrow h.borrow) (g.takes_no_memory && h.takes_no_memory) old new e (of_other ne)
-        (wider (CaseReads tag own h.reads t) h.borrow (max g.borrow h.borrow) h.takes_no_memory (g.takes_no_memory && h.takes_no_memory) old new e (le_max_right g.borrow h.borrow) (both_right g.takes_no_memory h.takes_no_memory) r.0),
+        (wider (CaseReads tag own h.reads t) h.borrow (max g.borrow h.borrow) h.takes_no_memory (g.takes_no_memory && h.takes_no_memory) old new e
+        (le_max_right g.borrow h.borrow) (both_right g.takes_no_memory h.takes_no_memory) r.0),
     inr (ne, r.1),
   )
 
@@ -66,14 +78,24 @@ module _ {V : Type 0} (k : ℕ) (tag : V → ℕ) (own : V → Type 0) (part : R
   abbrev Behind : ℕ → List ℕ → V → Type 0
   Behind = CaseReads tag own part.reads
 
-  pub enum_gives : (old mid new : ReaderState) (t : ℕ) (v : V) → Gives Tag old mid t → Gives (Behind t) mid new v → Gives (enum_read k tag own part refused).reads old new v
+  pub enum_gives : (old mid new : ReaderState) (t : ℕ) (v : V) → Gives Tag old mid t → Gives (Behind t) mid new v
+      → Gives (enum_read k tag own part refused).reads old new v
   enum_gives old mid new t v r s = then_gives Tag Behind old mid new t v r s
 
-  pub enum_tag_refused : (old new : ReaderState) (e : ReadError) → SchemaReadRefused (number_read k true) old new e → SchemaReadRefused (enum_read k tag own part refused) old new e
-  enum_tag_refused old new e r = (then_first Tag Behind 0 part.borrow true part.takes_no_memory old new e (omega arith) (spares part.takes_no_memory) r.0, inl r)
+  pub enum_tag_refused : (old new : ReaderState) (e : ReadError) → SchemaReadRefused (number_read k true) old new e
+      → SchemaReadRefused (enum_read k tag own part refused) old new e
+  enum_tag_refused old new e r = (
+    then_first Tag Behind 0 part.borrow true part.takes_no_memory old new e (omega arith) (spares part.takes_no_memory) r.0,
+    inl r,
+  )
 
-  pub enum_case_refused : (old mid new : ReaderState) (t : ℕ) (e : ReadError) → Gives Tag old mid t → SchemaReadRefused (case_read tag own part refused t) mid new e → SchemaReadRefused (enum_read k tag own part refused) old new e
-  enum_case_refused old mid new t e r u = (then_second Tag Behind (number_one k true) part.borrow part.borrow part.takes_no_memory part.takes_no_memory old mid new t e (omega arith) (λ x. x) r u.0, inr (t, mid, r, u))
+  pub enum_case_refused : (old mid new : ReaderState) (t : ℕ) (e : ReadError) → Gives Tag old mid t
+      → SchemaReadRefused (case_read tag own part refused t) mid new e → SchemaReadRefused (enum_read k tag own part refused) old new e
+  enum_case_refused old mid new t e r u = (
+    then_second Tag Behind (number_one k true)
+        part.borrow part.borrow part.takes_no_memory part.takes_no_memory old mid new t e (omega arith) (λ x. x) r u.0,
+    inr (t, mid, r, u),
+  )
 
 -- ---- writing
 
@@ -103,32 +125,44 @@ module _ {V W : Type 0} (g : WriteGrammar V) (h : WriteGrammar W) where
     pub other_halted : (w : W) {e : WriteError} → Stopped h old new w e → Stopped (sides_write g h) old new (Err w) e
     other_halted w s = stopped_map h (sides_write g h) w (Err w) (λ a r. r) s
 
-module _ {X V : Type 0} (k : ℕ) (tag : V → ℕ) (own : V → Type 0) {p : X → Type 0} {model : X → V} {part : WriteGrammar V} (l : WriteLaws p model part) (v : V) where
-  pub untagged_unsized : (e : WriteError) → (IsTagged k tag own v → ⊥) → IsOverflow past_usize e → SizeRefused (enum_write k tag own part) v e
-  untagged_unsized e none o = (λ c fits. absurd (none c.0), overflow_unsized part.builtin e o)
+module _ {X V : Type 0} (k : ℕ) (tag : V → ℕ) (own : V → Type 0) {p : X → Type 0} {model : X → V} {part : WriteGrammar V} (l : WriteLaws p model part) (v : V)
+  where
+    pub untagged_unsized : (e : WriteError) → (IsTagged k tag own v → ⊥) → IsOverflow past_usize e → SizeRefused (enum_write k tag own part) v e
+    untagged_unsized e none o = (λ c fits. absurd (none c.0), overflow_unsized part.builtin e o)
 
-  pub part_unsized : (e : WriteError) → SizeRefused part v e → SizeRefused (enum_write k tag own part) v e
-  part_unsized e d = (λ c fits. d.0 c.1 (omega arith), unsized_part part.builtin e (λ c. c.1) d.1)
+    pub part_unsized : (e : WriteError) → SizeRefused part v e → SizeRefused (enum_write k tag own part) v e
+    part_unsized e d = (λ c fits. d.0 c.1 (omega arith), unsized_part part.builtin e (λ c. c.1) d.1)
 
-module _ {S K : Type 0} {put : S → List ℕ → S} {room : S → ℕ} (laws : WriterLaws put room) {X V : Type 0} (k : ℕ) (tag : V → ℕ) (own : V → Type 0) {p : X → Type 0} {model : X → V} {part : WriteGrammar V} (l : WriteLaws p model part) (v : V) where
-  pub untagged_unwritten : (s : WriterState put room K) (e : WriteError) → (IsTagged k tag own v → ⊥) → IsOverflow past_usize e → WriteRefused (enum_write k tag own part) s s v e
-  untagged_unwritten s e none o = unfit_unwritten (enum_write k tag own part) v laws (enum_write_laws k tag own l) s e (overflow_unfit true e o).0 (λ c. absurd (none c.0))
+module _ {S K : Type 0} {put : S → List ℕ → S} {room : S → ℕ} (laws : WriterLaws put room) {X V : Type 0} (k : ℕ) (tag : V → ℕ) (own : V → Type 0)
+    {p : X → Type 0} {model : X → V} {part : WriteGrammar V} (l : WriteLaws p model part) (v : V) where
+  pub untagged_unwritten : (s : WriterState put room K) (e : WriteError) → (IsTagged k tag own v → ⊥) → IsOverflow past_usize e
+      → WriteRefused (enum_write k tag own part) s s v e
+  untagged_unwritten s e none o = unfit_unwritten (enum_write k tag own part) v laws (enum_write_laws k tag own l) s e (overflow_unfit true e o).0
+      (λ c. absurd (none c.0))
 
-  pub untagged_halted : (s : WriterState put room K) (e : WriteError) → (IsTagged k tag own v → ⊥) → IsOverflow past_usize e → Stopped (enum_write k tag own part) s s v e
+  pub untagged_halted : (s : WriterState put room K) (e : WriteError) → (IsTagged k tag own v → ⊥) → IsOverflow past_usize e
+      → Stopped (enum_write k tag own part) s s v e
   untagged_halted s e none o = nothing_stopped laws s s e refl (inl (none, refl, o))
 
   module _ {old : WriterState put room K} where
-    pub enum_wrote : {mid new : WriterState put room K} → IsTagged k tag own v → Wrote (number_write k true) old mid (tag v) → Wrote part mid new v → Wrote (enum_write k tag own part) old new v
+    pub enum_wrote : {mid new : WriterState put room K} → IsTagged k tag own v → Wrote (number_write k true) old mid (tag v) → Wrote part mid new v
+        → Wrote (enum_write k tag own part) old new v
     enum_wrote i r s = wrote_map (tagged_write k tag part) (enum_write k tag own part) v v (λ c. (i, c)) refl (λ b t. t) (tagged_wrote laws k tag part l v r s)
 
-    pub enum_tag_unwritten : {new : WriterState put room K} {e : WriteError} → WriteRefused (number_write k true) old new (tag v) e → WriteRefused (enum_write k tag own part) old new v e
-    enum_tag_unwritten u = unwritten_map (tagged_write k tag part) (enum_write k tag own part) v v (λ c. c.1) refl (λ b t. t) (tag_unwritten laws k tag part l v u)
+    pub enum_tag_unwritten : {new : WriterState put room K} {e : WriteError} → WriteRefused (number_write k true) old new (tag v) e
+        → WriteRefused (enum_write k tag own part) old new v e
+    enum_tag_unwritten u = unwritten_map (tagged_write k tag part) (enum_write k tag own part) v v (λ c. c.1) refl (λ b t. t)
+        (tag_unwritten laws k tag part l v u)
 
-    pub enum_part_unwritten : {mid new : WriterState put room K} {e : WriteError} → Wrote (number_write k true) old mid (tag v) → WriteRefused part mid new v e → WriteRefused (enum_write k tag own part) old new v e
-    enum_part_unwritten r u = unwritten_map (tagged_write k tag part) (enum_write k tag own part) v v (λ c. c.1) refl (λ b t. t) (part_unwritten laws k tag part l v r u)
+    pub enum_part_unwritten : {mid new : WriterState put room K} {e : WriteError} → Wrote (number_write k true) old mid (tag v) → WriteRefused part mid new v e
+        → WriteRefused (enum_write k tag own part) old new v e
+    enum_part_unwritten r u = unwritten_map (tagged_write k tag part) (enum_write k tag own part) v v (λ c. c.1) refl (λ b t. t)
+        (part_unwritten laws k tag part l v r u)
 
-    pub enum_tag_halted : {new : WriterState put room K} {e : WriteError} → Stopped (number_write k true) old new (tag v) e → Stopped (enum_write k tag own part) old new v e
+    pub enum_tag_halted : {new : WriterState put room K} {e : WriteError} → Stopped (number_write k true) old new (tag v) e
+        → Stopped (enum_write k tag own part) old new v e
     enum_tag_halted s = stopped_map (tagged_write k tag part) (enum_write k tag own part) v v (λ a r. inr r) (tag_halted laws k tag part l v s)
 
-    pub enum_part_halted : {mid new : WriterState put room K} {e : WriteError} → Wrote (number_write k true) old mid (tag v) → Stopped part mid new v e → Stopped (enum_write k tag own part) old new v e
+    pub enum_part_halted : {mid new : WriterState put room K} {e : WriteError} → Wrote (number_write k true) old mid (tag v) → Stopped part mid new v e
+        → Stopped (enum_write k tag own part) old new v e
     enum_part_halted r s = stopped_map (tagged_write k tag part) (enum_write k tag own part) v v (λ a x. inr x) (part_halted laws k tag part l v r s)

@@ -40,14 +40,21 @@ module _ {V : Type 0} {p : V → Type 0} {g : ReadGrammar V} where
   pub box_laws : ReadLaws p g → ReadLaws p (boxed_read g)
   box_laws l = boxed_read_laws p g l
 
-pub result_laws : {V W : Type 0} {p : V → Type 0} {q : W → Type 0} {g : ReadGrammar V} {h : ReadGrammar W} → ReadLaws p g → ReadLaws q h → ReadLaws (IfSide p q) (result_read 4 g h)
+pub result_laws : {V W : Type 0} {p : V → Type 0} {q : W → Type 0} {g : ReadGrammar V} {h : ReadGrammar W} → ReadLaws p g → ReadLaws q h
+    → ReadLaws (IfSide p q) (result_read 4 g h)
 result_laws {p = p} {q = q} {g = g} {h = h} l m = result_read_laws 4 (lit≤ tt) p q g h l m
 
-module _ {K X A B : Type 0} (f : K → A) (see : X → B) {p : A → Type 0} {q : B → Type 0} {r : ReadGrammar A} {t : ReadGrammar B} (l : ReadLaws p r) (m : ReadLaws q t) where
-  pub map_laws : (cmp : K → K → Ordering) → IsTotalOrder cmp → (eq : K → K → Bool) → ((x y : K) → eq x y ≡ is_eq (cmp x y)) → ((x y : K) → f x ≡ f y → eq x y ≡ true)
-      → ReadLaws (Each (λ v. p v.0 × q v.1)) (gathered_read (sees f see) (Made (IsMapOf cmp) (map (sees f see))) (bincode preallocation_limit) (pair_size r.meta t.meta) (pair_read r t))
-  map_laws cmp o eq match alike = map_read_laws (bincode preallocation_limit) (bincode_laws preallocation_limit) (pair_size r.meta t.meta) f see l m cmp o eq match alike
+module _ {K X A B : Type 0} (f : K → A) (see : X → B) {p : A → Type 0} {q : B → Type 0} {r : ReadGrammar A} {t : ReadGrammar B} (l : ReadLaws p r)
+    (m : ReadLaws q t) where
+  pub map_laws : (cmp : K → K → Ordering) → IsTotalOrder cmp → (eq : K → K → Bool) → ((x y : K) → eq x y ≡ is_eq (cmp x y))
+      → ((x y : K) → f x ≡ f y → eq x y ≡ true)
+      → ReadLaws (Each (λ v. p v.0 × q v.1)) (gathered_read (sees f see) (Made (IsMapOf cmp) (map (sees f see))) (bincode preallocation_limit)
+      (pair_size r.meta t.meta) (pair_read r t))
+  map_laws cmp o eq match alike = map_read_laws (bincode preallocation_limit) (bincode_laws preallocation_limit) (pair_size r.meta t.meta)
+      f see l m cmp o eq match alike
 
   pub hash_map_laws : (eq : K → K → Bool) → IsEquivalence eq → ((x y : K) → f x ≡ f y → eq x y ≡ true)
-      → ReadLaws (λ v. Unit {0}) (gathered_read (sees f see) (Made (IsHashMapOf eq) (hash_map_sees eq f see)) (bincode preallocation_limit) (pair_size r.meta t.meta) (pair_read r t))
-  hash_map_laws eq laws alike = hash_map_read_laws (bincode preallocation_limit) (bincode_laws preallocation_limit) (pair_size r.meta t.meta) f see l m eq laws alike
+      → ReadLaws (λ v. Unit {0}) (gathered_read (sees f see) (Made (IsHashMapOf eq) (hash_map_sees eq f see)) (bincode preallocation_limit)
+      (pair_size r.meta t.meta) (pair_read r t))
+  hash_map_laws eq laws alike = hash_map_read_laws (bincode preallocation_limit) (bincode_laws preallocation_limit) (pair_size r.meta t.meta)
+      f see l m eq laws alike

@@ -89,7 +89,8 @@ enum_write k tag own part = record {
 
 -- said of the writer before and after, the value and the result
 abbrev pub WriteAnswer : Type 0 → Type 1
-WriteAnswer X = (S K : Type 0) (put : S → List ℕ → S) (room : S → ℕ) → WriterState put room K → WriterState put room K → X → Result (Unit {0}) WriteError → Type 0
+WriteAnswer X = (S K : Type 0) (put : S → List ℕ → S) (room : S → ℕ) → WriterState put room K → WriterState put room K → X → Result (Unit {0}) WriteError
+    → Type 0
 
 -- that of one case
 abbrev pub part_answer : {X V : Type 0} → (X → Type 0) → (X → V) → WriteGrammar V → WriteAnswer X
@@ -102,5 +103,6 @@ sides_answer first other S K put room old new (Err y) r = other S K put room old
 
 -- it is that of what stands behind the tag
 abbrev pub IsAnswer : {X V : Type 0} → WriteAnswer X → (X → Type 0) → (X → V) → WriteGrammar V → Type 1
-IsAnswer {X} answer is_valid model g = (S K : Type 0) (put : S → List ℕ → S) (room : S → ℕ) (old new : WriterState put room K) (x : X) (r : Result (Unit {0}) WriteError)
+IsAnswer {X} answer is_valid model g = (S K : Type 0) (put : S → List ℕ → S) (room : S → ℕ) (old new : WriterState put room K) (x : X)
+    (r : Result (Unit {0}) WriteError)
     → answer S K put room old new x r → WriteOutcome g old new (model x) (is_valid x) r

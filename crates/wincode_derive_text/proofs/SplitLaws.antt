@@ -27,22 +27,30 @@ begins_word : (c : ℕ) → of_word c ≡ true → begun c ≡ Some (record { en
 begins_word c h = grind (arith, nat_tests)
 
 -- a word ends where a character follows that is of none
-more_of : (w : List ℕ) (t : Taken) (x : Option (List (Kind × List ℕ))) (ts : List (Kind × List ℕ)) → option_map (λ r. t.ended ++ r) x ≡ Some ts → option_map (λ r. ((kind.Word, w) ∷ t.ended) ++ r) x ≡ Some ((kind.Word, w) ∷ ts)
+more_of : (w : List ℕ) (t : Taken) (x : Option (List (Kind × List ℕ))) (ts : List (Kind × List ℕ)) → option_map (λ r. t.ended ++ r) x ≡ Some ts
+    → option_map (λ r. ((kind.Word, w) ∷ t.ended) ++ r) x ≡ Some ((kind.Word, w) ∷ ts)
 more_of w t None ts e = absurd (cc)
 more_of w t (Some r) ts e = let same : t.ended ++ r ≡ ts = cc in ap (λ r. Some ((kind.Word, w) ∷ r)) same
 
-ends_by : (w : List ℕ) (t : Option Taken) (cs : List ℕ) (ts : List (Kind × List ℕ)) → option_and_then (λ t. option_map (λ r. t.ended ++ r) (splits t.reached.place t.reached.word cs)) t ≡ Some ts → option_and_then (λ t. option_map (λ r. t.ended ++ r) (splits t.reached.place t.reached.word cs)) (in_front kind.Word w t) ≡ Some ((kind.Word, w) ∷ ts)
+ends_by : (w : List ℕ) (t : Option Taken) (cs : List ℕ) (ts : List (Kind × List ℕ))
+    → option_and_then (λ t. option_map (λ r. t.ended ++ r) (splits t.reached.place t.reached.word cs)) t ≡ Some ts
+    → option_and_then (λ t. option_map (λ r. t.ended ++ r) (splits t.reached.place t.reached.word cs)) (in_front kind.Word w t) ≡ Some ((kind.Word, w) ∷ ts)
 ends_by w None cs ts e = absurd (cc)
 ends_by w (Some t) cs ts e = more_of w t (splits t.reached.place t.reached.word cs) ts e
 
-word_ends : (w : List ℕ) (c : ℕ) (cs : List ℕ) (ts : List (Kind × List ℕ)) → of_word c ≡ false → tokens_from (c ∷ cs) ≡ Some ts → splits place.Word w (c ∷ cs) ≡ Some ((kind.Word, w) ∷ ts)
+word_ends : (w : List ℕ) (c : ℕ) (cs : List ℕ) (ts : List (Kind × List ℕ)) → of_word c ≡ false → tokens_from (c ∷ cs) ≡ Some ts → splits place.Word w (c ∷ cs)
+    ≡ Some ((kind.Word, w) ∷ ts)
 word_ends w c cs ts h e =
-    let ends : taken place.Word w c ≡ in_front kind.Word w (begun c) = ap (λ b. cond b (Some (record { ended = []; reached = record { place = place.Word; word = w ++ encode_utf8 c } })) (in_front kind.Word w (begun c))) h in
-    let one : Option Taken → Option (List (Kind × List ℕ)) = λ t. option_and_then (λ t. option_map (λ r. t.ended ++ r) (splits t.reached.place t.reached.word cs)) t in
+    let ends : taken place.Word w c ≡ in_front kind.Word w (begun c) =
+    ap (λ b. cond b (Some (record { ended = []; reached = record { place = place.Word; word = w ++ encode_utf8 c } })) (in_front kind.Word w (begun c)))
+    h in
+    let one : Option Taken → Option (List (Kind × List ℕ)) = λ t. option_and_then
+    (λ t. option_map (λ r. t.ended ++ r) (splits t.reached.place t.reached.word cs)) t in
     ap one ends ∙ ends_by w (begun c) cs ts e
 
 -- a word goes on
-word_on : (v w : List ℕ) (c : ℕ) (cs : List ℕ) (ts : List (Kind × List ℕ)) → all_of_word v ≡ true → of_word c ≡ false → tokens_from (c ∷ cs) ≡ Some ts → splits place.Word w (v ++ (c ∷ cs)) ≡ Some ((kind.Word, w ++ v) ∷ ts)
+word_on : (v w : List ℕ) (c : ℕ) (cs : List ℕ) (ts : List (Kind × List ℕ)) → all_of_word v ≡ true → of_word c ≡ false → tokens_from (c ∷ cs) ≡ Some ts
+    → splits place.Word w (v ++ (c ∷ cs)) ≡ Some ((kind.Word, w ++ v) ∷ ts)
 word_on [] w c cs ts all h e = rw (append-nil w) (word_ends w c cs ts h e)
 word_on (d ∷ ds) w c cs ts all h e =
     let first = and_left (of_word d) (all_of_word ds) all in
@@ -52,7 +60,8 @@ word_on (d ∷ ds) w c cs ts all h e =
     rw (first, encode_ascii d (ascii_of_word d first), on, same) refl
 
 -- a word in front of what is left, which begins with a character of none
-pub word_before : (v : List ℕ) (c : ℕ) (cs : List ℕ) (ts : List (Kind × List ℕ)) → 0 < length v → all_of_word v ≡ true → of_word c ≡ false → tokens_from (c ∷ cs) ≡ Some ts → tokens_from (v ++ (c ∷ cs)) ≡ Some ((kind.Word, v) ∷ ts)
+pub word_before : (v : List ℕ) (c : ℕ) (cs : List ℕ) (ts : List (Kind × List ℕ)) → 0 < length v → all_of_word v ≡ true → of_word c ≡ false
+    → tokens_from (c ∷ cs) ≡ Some ts → tokens_from (v ++ (c ∷ cs)) ≡ Some ((kind.Word, v) ∷ ts)
 word_before [] c cs ts some all h e = absurd (omega arith)
 word_before (d ∷ ds) c cs ts some all h e =
     let first = and_left (of_word d) (all_of_word ds) all in
@@ -65,4 +74,7 @@ digit_of_word c h = grind (arith, nat_tests)
 
 pub digits_of_word : (ds : List ℕ) → all_ascii_digits ds ≡ true → all_of_word ds ≡ true
 digits_of_word [] h = refl
-digits_of_word (c ∷ cs) h = rw (digit_of_word c (and_left (is_ascii_digit c) (all_ascii_digits cs) h), digits_of_word cs (and_right (is_ascii_digit c) (all_ascii_digits cs) h)) refl
+digits_of_word (c ∷ cs) h = rw (
+  digit_of_word c (and_left (is_ascii_digit c) (all_ascii_digits cs) h),
+  digits_of_word cs (and_right (is_ascii_digit c) (all_ascii_digits cs) h),
+) refl

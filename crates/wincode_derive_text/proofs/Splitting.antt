@@ -1,5 +1,33 @@
 -- Tokens that are taken one after another.
-use Rattle.std.proofs.Common.{◌≡◌, ◌∙◌, sym, ap, subst, ℕ, ◌+◌, ◌<◌, List, [], ◌∷◌, ◌++◌, map, length, drop, get_or, append_assoc, add-one, suc, Option, Some, None, Result, Ok, Err, refl, arith}
+use Rattle.std.proofs.Common.{
+  ◌≡◌,
+  ◌∙◌,
+  sym,
+  ap,
+  subst,
+  ℕ,
+  ◌+◌,
+  ◌<◌,
+  List,
+  [],
+  ◌∷◌,
+  ◌++◌,
+  map,
+  length,
+  drop,
+  get_or,
+  append_assoc,
+  add-one,
+  suc,
+  Option,
+  Some,
+  None,
+  Result,
+  Ok,
+  Err,
+  refl,
+  arith,
+}
 use Rattle.std.proofs.Math.Seq.{drop-cons}
 use Rattle.std.proofs.lemmas.List.{append-nil, drop_all}
 use Rattle.std.specs.Prelude.{option_map, option_and_then}
@@ -13,37 +41,53 @@ use Rattle.wincode_derive_text.specs.declared.tokens.Place.{Place}
 use Rattle.wincode_derive_text.specs.declared.tokens.Place.TheVariants as place
 
 -- a token, and then what else is taken
-pub takes_both : (old middle new : Lexer) (k : Kind) (word : List ℕ) (r : Result Unit DeriveError) (t : Option Taken) → map piece middle.tokens.items ≡ map piece old.tokens.items ++ ((k, word) ∷ []) → TakesIfKnown middle new r t → TakesIfKnown old new r (in_front k word t)
+pub takes_both : (old middle new : Lexer) (k : Kind) (word : List ℕ) (r : Result Unit DeriveError) (t : Option Taken) → map piece middle.tokens.items
+    ≡ map piece old.tokens.items ++ ((k, word) ∷ []) → TakesIfKnown middle new r t → TakesIfKnown old new r (in_front k word t)
 takes_both old middle new k word r None e h = tt
-takes_both old middle new k word (Ok u) (Some t) e h = (h.0 ∙ ap (λ ts. ts ++ t.ended) e ∙ append_assoc (map piece old.tokens.items) ((k, word) ∷ []) t.ended, h.1)
+takes_both old middle new k word (Ok u) (Some t) e h = (
+  h.0 ∙ ap (λ ts. ts ++ t.ended) e ∙ append_assoc (map piece old.tokens.items) ((k, word) ∷ []) t.ended,
+  h.1,
+)
 takes_both old middle new k word (Err x) (Some t) e h = h
 
 -- the tokens so far and those of what is left are all of them
 abbrev pub Left : Lexer → List ℕ → Option (List (Kind × List ℕ)) → Type 0
 Left lexer cs None = Unit
-Left lexer cs (Some all) = (more : List (Kind × List ℕ)) × (splits lexer.place (string_bytes lexer.word) cs ≡ Some more) × (map piece lexer.tokens.items ++ more ≡ all)
+Left lexer cs (Some all) = (more : List (Kind × List ℕ)) × (splits lexer.place (string_bytes lexer.word) cs ≡ Some more)
+    × (map piece lexer.tokens.items ++ more ≡ all)
 
 -- what is left behind one more character
-split_one : (t : Taken) (more : List (Kind × List ℕ)) (rest : Option (List (Kind × List ℕ))) → option_map (λ ts. t.ended ++ ts) rest ≡ Some more → (ts : List (Kind × List ℕ)) × (rest ≡ Some ts) × (t.ended ++ ts ≡ more)
+split_one : (t : Taken) (more : List (Kind × List ℕ)) (rest : Option (List (Kind × List ℕ))) → option_map (λ ts. t.ended ++ ts) rest ≡ Some more
+    → (ts : List (Kind × List ℕ)) × (rest ≡ Some ts) × (t.ended ++ ts ≡ more)
 split_one t more None e = absurd (cc)
 split_one t more (Some ts) e = (ts, refl, cc)
 
-left_with : (old new : Lexer) (cs : List ℕ) (all more : List (Kind × List ℕ)) (u : Unit) (t : Option Taken) → option_and_then (λ t. option_map (λ ts. t.ended ++ ts) (splits t.reached.place t.reached.word cs)) t ≡ Some more → map piece old.tokens.items ++ more ≡ all → TakesIfKnown old new (Ok u) t → Left new cs (Some all)
+left_with : (old new : Lexer) (cs : List ℕ) (all more : List (Kind × List ℕ)) (u : Unit) (t : Option Taken)
+    → option_and_then (λ t. option_map (λ ts. t.ended ++ ts) (splits t.reached.place t.reached.word cs)) t ≡ Some more → map piece old.tokens.items ++ more
+    ≡ all → TakesIfKnown old new (Ok u) t → Left new cs (Some all)
 left_with old new cs all more u None e h k = absurd (cc)
 left_with old new cs all more u (Some t) e h k =
-    let s = split_one t more (splits t.reached.place t.reached.word cs) e in
-    (s.0, ap (λ r. splits r.place r.word cs) k.1 ∙ s.1, ap (λ ts. ts ++ s.0) k.0 ∙ append_assoc (map piece old.tokens.items) t.ended s.0 ∙ ap (λ ts. map piece old.tokens.items ++ ts) s.2 ∙ h)
+    let s = split_one t more (splits t.reached.place t.reached.word cs) e in (
+      s.0,
+      ap (λ r. splits r.place r.word cs) k.1 ∙ s.1,
+      ap (λ ts. ts ++ s.0) k.0 ∙ append_assoc (map piece old.tokens.items) t.ended s.0
+          ∙ ap (λ ts. map piece old.tokens.items ++ ts) s.2 ∙ h,
+    )
 
-pub left_step : (old new : Lexer) (c : ℕ) (cs : List ℕ) (all : Option (List (Kind × List ℕ))) (u : Unit) → Left old (c ∷ cs) all → TakesIfKnown old new (Ok u) (taken old.place (string_bytes old.word) c) → Left new cs all
+pub left_step : (old new : Lexer) (c : ℕ) (cs : List ℕ) (all : Option (List (Kind × List ℕ))) (u : Unit) → Left old (c ∷ cs) all
+    → TakesIfKnown old new (Ok u) (taken old.place (string_bytes old.word) c) → Left new cs all
 left_step old new c cs None u h k = tt
 left_step old new c cs (Some all) u h k = left_with old new cs all h.0 u (taken old.place (string_bytes old.word) c) h.1 h.2 k
 
 -- nothing but memory is refused
-refused_with : (old new : Lexer) (cs : List ℕ) (more : List (Kind × List ℕ)) (x : DeriveError) (t : Option Taken) → option_and_then (λ t. option_map (λ ts. t.ended ++ ts) (splits t.reached.place t.reached.word cs)) t ≡ Some more → TakesIfKnown old new (Err x) t → x ≡ OutOfMemory
+refused_with : (old new : Lexer) (cs : List ℕ) (more : List (Kind × List ℕ)) (x : DeriveError) (t : Option Taken)
+    → option_and_then (λ t. option_map (λ ts. t.ended ++ ts) (splits t.reached.place t.reached.word cs)) t ≡ Some more → TakesIfKnown old new (Err x) t → x
+    ≡ OutOfMemory
 refused_with old new cs more x None e k = absurd (cc)
 refused_with old new cs more x (Some t) e k = k
 
-pub left_refused : (old new : Lexer) (c : ℕ) (cs : List ℕ) (all : Option (List (Kind × List ℕ))) (x : DeriveError) → Left old (c ∷ cs) all → TakesIfKnown old new (Err x) (taken old.place (string_bytes old.word) c) → Splits all (Err x)
+pub left_refused : (old new : Lexer) (c : ℕ) (cs : List ℕ) (all : Option (List (Kind × List ℕ))) (x : DeriveError) → Left old (c ∷ cs) all
+    → TakesIfKnown old new (Err x) (taken old.place (string_bytes old.word) c) → Splits all (Err x)
 left_refused old new c cs None x h k = tt
 left_refused old new c cs (Some all) x h k = refused_with old new cs h.0 x (taken old.place (string_bytes old.word) c) h.1 k
 
@@ -58,27 +102,32 @@ left_ended lexer (Some all) h =
     let e = ended_at lexer.place (string_bytes lexer.word) h.0 h.1 in
     sym (append-nil (map piece lexer.tokens.items)) ∙ ap (λ ts. map piece lexer.tokens.items ++ ts) (sym e.1) ∙ h.2
 
-pub left_not_between : (lexer : Lexer) (all : Option (List (Kind × List ℕ))) (x : DeriveError) → Left lexer [] all → ¬ (lexer.place ≡ place.Between) → Splits all (Err x)
+pub left_not_between : (lexer : Lexer) (all : Option (List (Kind × List ℕ))) (x : DeriveError) → Left lexer [] all → ¬ (lexer.place ≡ place.Between)
+    → Splits all (Err x)
 left_not_between lexer None x h k = tt
 left_not_between lexer (Some all) x h k = let e = ended_at lexer.place (string_bytes lexer.word) h.0 h.1 in absurd (k e.0)
 
 -- the next character, and what is left behind it
-pub left_turn : (lexer : Lexer) (cs : List ℕ) (n c : ℕ) (all : Option (List (Kind × List ℕ))) → (n < length cs) × (c ≡ get_or cs n c) → Left lexer (drop n cs ++ 10 ∷ []) all → Left lexer (c ∷ (drop (n + 1) cs ++ 10 ∷ [])) all
+pub left_turn : (lexer : Lexer) (cs : List ℕ) (n c : ℕ) (all : Option (List (Kind × List ℕ))) → (n < length cs) × (c ≡ get_or cs n c)
+    → Left lexer (drop n cs ++ 10 ∷ []) all → Left lexer (c ∷ (drop (n + 1) cs ++ 10 ∷ [])) all
 left_turn lexer cs n c all t h =
     let P : List ℕ → Type 0 = λ ds. Left lexer (ds ++ 10 ∷ []) all in
     let e : drop n cs ≡ c ∷ drop (n + 1) cs = rw add-one (drop-cons cs n c t.0 ∙ ap (λ x. x ∷ drop (suc n) cs) (sym t.1)) in
     subst P e h
 
 -- behind the last character
-pub left_last : (lexer : Lexer) (cs : List ℕ) (n : ℕ) (all : Option (List (Kind × List ℕ))) → n ≡ length cs → Left lexer (drop n cs ++ 10 ∷ []) all → Left lexer (10 ∷ []) all
+pub left_last : (lexer : Lexer) (cs : List ℕ) (n : ℕ) (all : Option (List (Kind × List ℕ))) → n ≡ length cs → Left lexer (drop n cs ++ 10 ∷ []) all
+    → Left lexer (10 ∷ []) all
 left_last lexer cs n all t h =
     let P : List ℕ → Type 0 = λ ds. Left lexer (ds ++ 10 ∷ []) all in
     subst P (drop_all n cs (omega arith)) h
 
-first_of : (lexer : Lexer) (cs : List ℕ) (all : Option (List (Kind × List ℕ))) → lexer.tokens.items ≡ [] → splits lexer.place (string_bytes lexer.word) cs ≡ all → Left lexer cs all
+first_of : (lexer : Lexer) (cs : List ℕ) (all : Option (List (Kind × List ℕ))) → lexer.tokens.items ≡ [] → splits lexer.place (string_bytes lexer.word) cs
+    ≡ all → Left lexer cs all
 first_of lexer cs None e h = tt
 first_of lexer cs (Some all) e h = (all, h, ap (λ ts. map piece ts ++ all) e)
 
 -- in front of the first character
-pub left_first : (lexer : Lexer) (cs : List ℕ) → lexer.tokens.items ≡ [] → string_bytes lexer.word ≡ [] → lexer.place ≡ place.Between → Left lexer (cs ++ 10 ∷ []) (tokens_in cs)
+pub left_first : (lexer : Lexer) (cs : List ℕ) → lexer.tokens.items ≡ [] → string_bytes lexer.word ≡ [] → lexer.place ≡ place.Between
+    → Left lexer (cs ++ 10 ∷ []) (tokens_in cs)
 left_first lexer cs no_tokens no_word at_first = first_of lexer (cs ++ 10 ∷ []) (tokens_in cs) no_tokens (rw (at_first, no_word) refl)

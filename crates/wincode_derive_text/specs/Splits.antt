@@ -1,5 +1,28 @@
 -- The tokens of a text in which no quote and no slash stands.
-use Rattle.std.specs.Prelude.{◌≡◌, ℕ, Bool, true, ◌||◌, ◌&&◌, ◌==◌, if◌then◌else◌, List, [], ◌∷◌, ◌++◌, map, Option, Some, None, Result, Ok, Err, MatchOption, option_and_then, option_map}
+use Rattle.std.specs.Prelude.{
+  ◌≡◌,
+  ℕ,
+  Bool,
+  true,
+  ◌||◌,
+  ◌&&◌,
+  ◌==◌,
+  if◌then◌else◌,
+  List,
+  [],
+  ◌∷◌,
+  ◌++◌,
+  map,
+  Option,
+  Some,
+  None,
+  Result,
+  Ok,
+  Err,
+  MatchOption,
+  option_and_then,
+  option_map,
+}
 use Rattle.std.specs.Char.{encode_utf8, is_ascii_alphanumeric, is_whitespace}
 use Rattle.std.specs.String.{string_bytes}
 use Rattle.std.specs.Global.{Vec}
@@ -56,8 +79,10 @@ in_front k word (Some t) = Some (record { ended = (k, word) ∷ t.ended; reached
 -- A word goes on as long as there are characters of words, and `:` only with another `:`.
 abbrev pub taken : Place → List ℕ → ℕ → Option Taken
 taken place.Between word c = begun c
-taken place.Word word c = if of_word c then Some (record { ended = []; reached = record { place = place.Word; word = word ++ encode_utf8 c } }) else in_front kind.Word word (begun c)
-taken place.Colon word c = if c == 58 then Some (record { ended = (kind.Sign, word ++ encode_utf8 c) ∷ []; reached = between }) else in_front kind.Sign word (begun c)
+taken place.Word word c = if of_word c then Some (record { ended = []; reached = record { place = place.Word; word = word ++ encode_utf8 c } })
+    else in_front kind.Word word (begun c)
+taken place.Colon word c = if c == 58 then Some (record { ended = (kind.Sign, word ++ encode_utf8 c) ∷ []; reached = between }) else in_front kind.Sign word
+    (begun c)
 taken _ word c = None
 
 -- what is reached by a lexer

@@ -26,8 +26,10 @@ abbrev bytes_part : List ℕ → List Part
 bytes_part v = Bytes v ∷ []
 
 -- nothing but memory is refused where there are as many bytes
-bulk_memory : (n m : ℕ) → m ≡ n → n < 2 ^ 64 → (old new : ReaderState) → length old.rest ≡ n → old.is_known ≡ true → new.never_fails ≡ true → (e : ReadError) → BulkReadRefused m old new e → e ≡ reading.OutOfMemory
-bulk_memory n m same fits old new size known steady (reading.Io (reader.ReadSizeLimit k)) d = let short = d.1.0 known in absurd (omega (arith, short, size, same))
+bulk_memory : (n m : ℕ) → m ≡ n → n < 2 ^ 64 → (old new : ReaderState) → length old.rest ≡ n → old.is_known ≡ true → new.never_fails ≡ true → (e : ReadError)
+    → BulkReadRefused m old new e → e ≡ reading.OutOfMemory
+bulk_memory n m same fits old new size known steady (reading.Io (reader.ReadSizeLimit k)) d = let short = d.1.0 known in
+    absurd (omega (arith, short, size, same))
 bulk_memory n m same fits old new size known steady (reading.Io reader.UnsupportedZeroCopy) d = absurd d.1
 bulk_memory n m same fits old new size known steady (reading.Io reader.OutOfMemory) d = let h : true ≡ false = sym steady ∙ d.1 in absurd (cc)
 bulk_memory n m same fits old new size known steady (reading.Io (reader.Io x)) d = let h : true ≡ false = sym steady ∙ d.1.0 in absurd (cc)
@@ -43,18 +45,23 @@ module _ (n : ℕ) (fits : n < 2 ^ 64) where
   Array = described_read (type.ByteArray n)
 
   meta_is : times_meta n (Static 1 true) ≡ Static n true
-  meta_is = let e : n * 1 ≡ n = omega arith in ap (λ k. cond (nat_lt k (2 ^ 64)) (Static k true) Dynamic) e ∙ ap (λ b. cond b (Static n true) Dynamic) (lt-ltb n (2 ^ 64) fits)
+  meta_is = let e : n * 1 ≡ n = omega arith in ap (λ k. cond (nat_lt k (2 ^ 64)) (Static k true) Dynamic) e
+      ∙ ap (λ b. cond b (Static n true) Dynamic) (lt-ltb n (2 ^ 64) fits)
 
   sized : (b vs : List ℕ) → Numbers.reads b vs → length b ≡ n
   sized = sized_of Numbers.reads (times_meta n (Static 1 true)) n true (array_read_laws n _ _ (number_read_laws 1 true (lit≤ tt))).statics meta_is
 
   pub array_unwindowed : (old new : ReaderState) (e : ReadError) → NoWindow n old new e → SchemaReadRefused Array old new e
-  array_unwindowed old new e d = shown_refused bytes_part (windowed_read Numbers) old new e (window_denied_refuses Numbers.reads n sized 0 true old new e d, static_place (times_meta n (Static 1 true)) old new e Numbers.refused meta_is (inl d))
+  array_unwindowed old new e d = shown_refused bytes_part (windowed_read Numbers) old new e
+      (window_denied_refuses Numbers.reads n sized 0 true old new e d, static_place (times_meta n (Static 1 true)) old new e Numbers.refused meta_is (inl d))
 
-  pub array_gives : (old new window after : ReaderState) (vs : List ℕ) → Windowed n old new window → Gives Numbers.reads window after vs → Gives Array.reads old new (Bytes vs ∷ [])
-  array_gives old new window after vs w x = shown_gives bytes_part (windowed_read Numbers) old new vs (window_gives Numbers.reads n sized old new window after vs w x)
+  pub array_gives : (old new window after : ReaderState) (vs : List ℕ) → Windowed n old new window → Gives Numbers.reads window after vs
+      → Gives Array.reads old new (Bytes vs ∷ [])
+  array_gives old new window after vs w x = shown_gives bytes_part (windowed_read Numbers) old new vs
+      (window_gives Numbers.reads n sized old new window after vs w x)
 
-  pub array_refused : (old new window after : ReaderState) (e : ReadError) → Windowed n old new window → ReadRefused Numbers.reads 0 false window after e → BulkReadRefused (n * 1) window after e → SchemaReadRefused Array old new e
+  pub array_refused : (old new window after : ReaderState) (e : ReadError) → Windowed n old new window → ReadRefused Numbers.reads 0 false window after e
+      → BulkReadRefused (n * 1) window after e → SchemaReadRefused Array old new e
   array_refused old new window after e w r d = (
     refuses_map Numbers.reads Array.reads 0 false old new e (λ b v t. (t.0, t.1)) (window_refuses Numbers.reads n sized 0 false old new window after e w r),
     inr (bulk_memory n (n * 1) (omega arith) fits window after w.takes.size w.is_known (r.kept.never_fails ∙ w.never_fails) e d),

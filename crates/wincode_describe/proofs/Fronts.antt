@@ -1,5 +1,35 @@
 -- The token in front.
-use Rattle.std.proofs.Common.{◌≡◌, ◌∙◌, sym, ap, refl, ℕ, ◌+◌, ◌<◌, ◌≤◌, ◌^◌, suc, min, Bool, true, false, nat_lt, cond, ◌&&◌, List, [], ◌∷◌, length, get_or, drop, map, Some, None, Err, arith}
+use Rattle.std.proofs.Common.{
+  ◌≡◌,
+  ◌∙◌,
+  sym,
+  ap,
+  refl,
+  ℕ,
+  ◌+◌,
+  ◌<◌,
+  ◌≤◌,
+  ◌^◌,
+  suc,
+  min,
+  Bool,
+  true,
+  false,
+  nat_lt,
+  cond,
+  ◌&&◌,
+  List,
+  [],
+  ◌∷◌,
+  length,
+  get_or,
+  drop,
+  map,
+  Some,
+  None,
+  Err,
+  arith,
+}
 use Rattle.std.proofs.Math.Seq.{drop-cons}
 use Rattle.std.proofs.lemmas.Bool.{ltb-true, ltb-false}
 use Rattle.std.proofs.lemmas.List.{drop_all, drop-drop, drop-map, length-map}
@@ -13,7 +43,8 @@ use Rattle.wincode_derive_text.specs.declared.tokens.Kind.TheVariants as kind
 use Rattle.wincode_derive_text.specs.declared.tokens.Token.{Token}
 
 -- a token stands in front of what is left from its place on
-pub at_front : (items : List Token) (n : ℕ) (t : Token) → n < length items → t ≡ get_or items n t → drop n (map piece items) ≡ piece t ∷ map piece (drop (suc n) items)
+pub at_front : (items : List Token) (n : ℕ) (t : Token) → n < length items → t ≡ get_or items n t → drop n (map piece items)
+    ≡ piece t ∷ map piece (drop (suc n) items)
 at_front items n t l e = drop-map piece n items ∙ ap (map piece) (drop-cons items n t l) ∙ ap (λ (x : Token). piece x ∷ map piece (drop (suc n) items)) (sym e)
 
 -- the text of a token of that kind, and none of any other
@@ -43,7 +74,8 @@ none_in_front kind.Note = refl
 pub nothing_in_front : (k : Kind) (items : List Token) (n : ℕ) → length items ≤ n → [] ≡ front_text k (drop n (map piece items))
 nothing_in_front k items n l = rw (drop_all n (map piece items) (simp length-map l)) (none_in_front k)
 
-skip_cases : (xs : List Piece) (n m : ℕ) (b : Bool) → nat_lt n 18446744073709551615 ≡ b → length xs < 9223372036854775808 → m ≡ min (n + 1) 18446744073709551615 → drop m xs ≡ drop (n + 1) xs
+skip_cases : (xs : List Piece) (n m : ℕ) (b : Bool) → nat_lt n 18446744073709551615 ≡ b → length xs < 9223372036854775808 → m
+    ≡ min (n + 1) 18446744073709551615 → drop m xs ≡ drop (n + 1) xs
 skip_cases xs n m true t l e = let below = ltb-true n 18446744073709551615 t in ap (λ k. drop k xs) (omega arith)
 skip_cases xs n m false t l e = let above = ltb-false n 18446744073709551615 t in drop_all m xs (omega arith) ∙ sym (drop_all (n + 1) xs (omega arith))
 

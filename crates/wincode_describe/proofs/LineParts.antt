@@ -12,7 +12,8 @@ seven a b c d e f g h =
     ∙ append_assoc a (b ++ (c ++ d)) (e ++ (f ++ (g ++ h)))
     ∙ ap (λ t. a ++ t) (append_assoc b (c ++ d) (e ++ (f ++ (g ++ h))) ∙ ap (λ t. b ++ t) (append_assoc c d (e ++ (f ++ (g ++ h)))))
 
-pub line_of : (n : ℕ) (place digits space value end begin t0 t1 t2 t3 t4 t5 : List ℕ) → begin ≡ decimal n ++ (codes ": " ++ digits) → t1 ≡ t0 ++ begin → t2 ≡ t1 ++ spaced place → t3 ≡ t2 ++ space → t4 ≡ t3 ++ value → t5 ≡ t4 ++ end
+pub line_of : (n : ℕ) (place digits space value end begin t0 t1 t2 t3 t4 t5 : List ℕ) → begin ≡ decimal n ++ (codes ": " ++ digits) → t1 ≡ t0 ++ begin → t2
+    ≡ t1 ++ spaced place → t3 ≡ t2 ++ space → t4 ≡ t3 ++ value → t5 ≡ t4 ++ end
     → IsLine n place t0 t5
 line_of n place digits space value end begin t0 t1 t2 t3 t4 t5 b e1 e2 e3 e4 e5 = (
   digits,

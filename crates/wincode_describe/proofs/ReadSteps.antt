@@ -1,12 +1,58 @@
 -- One reading after another.
-use Rattle.std.proofs.Common.{◌≡◌, sym, ap, subst, refl, ℕ, ◌-◌, ◌≤◌, suc, zero, length, nat_eq, Bool, true, false, cond, List, [], ◌∷◌, Option, Some, None, Result, Ok, Err, arith}
+use Rattle.std.proofs.Common.{
+  ◌≡◌,
+  sym,
+  ap,
+  subst,
+  refl,
+  ℕ,
+  ◌-◌,
+  ◌≤◌,
+  suc,
+  zero,
+  length,
+  nat_eq,
+  Bool,
+  true,
+  false,
+  cond,
+  List,
+  [],
+  ◌∷◌,
+  Option,
+  Some,
+  None,
+  Result,
+  Ok,
+  Err,
+  arith,
+}
 use Rattle.std.proofs.lemmas.Bool.{eqb-true}
 use Rattle.std.specs.Bool.{OnFalse}
 use Rattle.wincode_describe.specs.Forms.{Form, seen}
 use Rattle.wincode_describe.specs.declared.described.Described.{Described}
 use Rattle.wincode_describe.specs.declared.parsing.Opening.{Opening}
 use Rattle.wincode_describe.specs.Phrases.{Piece, Reads, HasTokens, left, front_word, word_front, behind_sign}
-use Rattle.wincode_describe.specs.Readers.{Makes, Reader, Readers, and_then, on, readers, one_more, no_more, unread, members_by, tuple_by, plain_of, opening_of, behind_word, word_by, ended, whole, Parses}
+use Rattle.wincode_describe.specs.Readers.{
+  Makes,
+  Reader,
+  Readers,
+  and_then,
+  on,
+  readers,
+  one_more,
+  no_more,
+  unread,
+  members_by,
+  tuple_by,
+  plain_of,
+  opening_of,
+  behind_word,
+  word_by,
+  ended,
+  whole,
+  Parses,
+}
 use Rattle.wincode_describe.specs.declared.tokens.Tokens.{Tokens}
 use Rattle.wincode_describe.specs.declared.error.DescribeError.{DescribeError}
 use Rattle.wincode_describe.specs.declared.error.DescribeError.TheVariants.{OutOfMemory}
@@ -17,18 +63,23 @@ memory view None e rest h = tt
 memory view (Some x) e rest h = h
 
 -- what was read first, and then the rest
-pub next_ok : {A X Y Z : Type 0} (view : Z → A) (sees : Y → X) (o : Option (A × List Piece)) (z : Z) (middle : List Piece) (k : A × List Piece → Option (X × List Piece)) (r : Result Y DescribeError) (rest : List Piece) → Reads view o (Ok z) middle → Reads sees (k (view z, middle)) r rest → Reads sees (and_then o k) r rest
+pub next_ok : {A X Y Z : Type 0} (view : Z → A) (sees : Y → X) (o : Option (A × List Piece)) (z : Z) (middle : List Piece)
+    (k : A × List Piece → Option (X × List Piece)) (r : Result Y DescribeError) (rest : List Piece) → Reads view o (Ok z) middle
+    → Reads sees (k (view z, middle)) r rest → Reads sees (and_then o k) r rest
 next_ok view sees None z middle k r rest h g = tt
 next_ok {A} {X} {Y} view sees (Some (a, t)) z middle k r rest h g =
     let P : A × List Piece → Type 0 = λ x. Reads sees (k x) r rest in
     let e : (view z, middle) ≡ (a, t) = cc in subst P e g
 
-pub next_err : {A X Y Z : Type 0} (view : Z → A) (sees : Y → X) (o : Option (A × List Piece)) (e : DescribeError) (middle : List Piece) (k : A × List Piece → Option (X × List Piece)) (rest : List Piece) → Reads view o (Err e) middle → Reads sees (and_then o k) (Err e) rest
+pub next_err : {A X Y Z : Type 0} (view : Z → A) (sees : Y → X) (o : Option (A × List Piece)) (e : DescribeError) (middle : List Piece)
+    (k : A × List Piece → Option (X × List Piece)) (rest : List Piece) → Reads view o (Err e) middle → Reads sees (and_then o k) (Err e) rest
 next_err view sees None e middle k rest h = tt
 next_err view sees (Some x) e middle k rest h = memory sees (k x) e rest h
 
 -- a word was read first
-pub next_word : {X Y : Type 0} (sees : Y → X) (word : List ℕ) (old middle : List Piece) (k : List ℕ × List Piece → Option (X × List Piece)) (r : Result Y DescribeError) (rest : List Piece) → front_word word middle old → Reads sees (k (word, middle)) r rest → Reads sees (and_then (word_front old) k) r rest
+pub next_word : {X Y : Type 0} (sees : Y → X) (word : List ℕ) (old middle : List Piece) (k : List ℕ × List Piece → Option (X × List Piece))
+    (r : Result Y DescribeError) (rest : List Piece) → front_word word middle old → Reads sees (k (word, middle)) r rest
+    → Reads sees (and_then (word_front old) k) r rest
 next_word sees [] old middle k r rest h g = rw h tt
 next_word sees (c ∷ cs) old middle k r rest h g = rw h g
 
@@ -38,10 +89,14 @@ made view f (Ok d) rest h = (h, refl)
 made view f (Err e) rest h = h
 
 -- where the sign is taken, and where it isn't
-pub sign_taken : {X Y : Type 0} (sees : Y → X) (o : Option (List Piece)) (b : Bool) (middle : List Piece) (f : List Piece → Option (X × List Piece)) (other : Option (X × List Piece)) (r : Result Y DescribeError) (rest : List Piece) → o ≡ cond b (Some middle) None → b ≡ true → Reads sees (f middle) r rest → Reads sees (on o f other) r rest
+pub sign_taken : {X Y : Type 0} (sees : Y → X) (o : Option (List Piece)) (b : Bool) (middle : List Piece) (f : List Piece → Option (X × List Piece))
+    (other : Option (X × List Piece)) (r : Result Y DescribeError) (rest : List Piece) → o ≡ cond b (Some middle) None → b ≡ true
+    → Reads sees (f middle) r rest → Reads sees (on o f other) r rest
 sign_taken sees o b middle f other r rest h t g = rw (h, t) g
 
-pub sign_left : {X Y : Type 0} (sees : Y → X) (s : List ℕ) (old : List Piece) (b : Bool) (middle : List Piece) (f : List Piece → Option (X × List Piece)) (other : List Piece → Option (X × List Piece)) (r : Result Y DescribeError) (rest : List Piece) → behind_sign s old ≡ cond b (Some middle) None → OnFalse b (middle ≡ old) → b ≡ false → Reads sees (other middle) r rest → Reads sees (on (behind_sign s old) f (other old)) r rest
+pub sign_left : {X Y : Type 0} (sees : Y → X) (s : List ℕ) (old : List Piece) (b : Bool) (middle : List Piece) (f : List Piece → Option (X × List Piece))
+    (other : List Piece → Option (X × List Piece)) (r : Result Y DescribeError) (rest : List Piece) → behind_sign s old ≡ cond b (Some middle) None
+    → OnFalse b (middle ≡ old) → b ≡ false → Reads sees (other middle) r rest → Reads sees (on (behind_sign s old) f (other old)) r rest
 sign_left sees s old true middle f other r rest h k t g = absurd (cc)
 sign_left sees s old false middle f other r rest h k t g =
     let P : List Piece → Type 0 = λ l. Reads sees (other l) r rest in
@@ -79,29 +134,36 @@ pub below_members_is : (levels below : ℕ) → levels ≡ suc below → below_m
 below_members_is levels below e = rw e refl
 
 -- a word that is a type, and one behind which something is to stand
-pub word_plain : (below : Readers) (w : List ℕ) (rest : List Piece) (d : Described) → plain_of w ≡ Some (seen d) → Reads seen (word_by below (w, rest)) (Ok d) rest
+pub word_plain : (below : Readers) (w : List ℕ) (rest : List Piece) (d : Described) → plain_of w ≡ Some (seen d)
+    → Reads seen (word_by below (w, rest)) (Ok d) rest
 word_plain below w rest d h = rw h (refl, refl)
 
-pub word_opening : (below : Readers) (w : List ℕ) (rest : List Piece) (o : Opening) (r : Result Described DescribeError) (after : List Piece) → plain_of w ≡ None → opening_of w ≡ o → Reads seen (behind_word below o rest) r after → Reads seen (word_by below (w, rest)) r after
+pub word_opening : (below : Readers) (w : List ℕ) (rest : List Piece) (o : Opening) (r : Result Described DescribeError) (after : List Piece) → plain_of w
+    ≡ None → opening_of w ≡ o → Reads seen (behind_word below o rest) r after → Reads seen (word_by below (w, rest)) r after
 word_opening below w rest o r after p q h = rw (p, q) h
 
 -- no word is read
-pub no_word : {X Y : Type 0} (sees : Y → X) (word : List ℕ) (old middle : List Piece) (k : List ℕ × List Piece → Option (X × List Piece)) (r : Result Y DescribeError) (rest : List Piece) → length word ≡ 0 → front_word word middle old → Reads sees (and_then (word_front old) k) r rest
+pub no_word : {X Y : Type 0} (sees : Y → X) (word : List ℕ) (old middle : List Piece) (k : List ℕ × List Piece → Option (X × List Piece))
+    (r : Result Y DescribeError) (rest : List Piece) → length word ≡ 0 → front_word word middle old → Reads sees (and_then (word_front old) k) r rest
 no_word sees [] old middle k r rest e h = rw h tt
 no_word sees (c ∷ cs) old middle k r rest e h = absurd (omega arith)
 
 -- what is chosen by a word, and where nothing is
-pub chosen_is : {A X Y : Type 0} (sees : Y → X) (o : Option A) (x : A) (k : A → Option (X × List Piece)) (r : Result Y DescribeError) (rest : List Piece) → o ≡ Some x → Reads sees (k x) r rest → Reads sees (and_then o k) r rest
+pub chosen_is : {A X Y : Type 0} (sees : Y → X) (o : Option A) (x : A) (k : A → Option (X × List Piece)) (r : Result Y DescribeError) (rest : List Piece) → o
+    ≡ Some x → Reads sees (k x) r rest → Reads sees (and_then o k) r rest
 chosen_is sees o x k r rest e h = rw e h
 
-pub chosen_is_none : {A X Y : Type 0} (sees : Y → X) (o : Option A) (k : A → Option (X × List Piece)) (r : Result Y DescribeError) (rest : List Piece) → o ≡ None → Reads sees (and_then o k) r rest
+pub chosen_is_none : {A X Y : Type 0} (sees : Y → X) (o : Option A) (k : A → Option (X × List Piece)) (r : Result Y DescribeError) (rest : List Piece) → o
+    ≡ None → Reads sees (and_then o k) r rest
 chosen_is_none sees o k r rest e = rw e tt
 
 -- by a test
-pub test_true : {X Y : Type 0} (sees : Y → X) (b : Bool) (f g : Option (X × List Piece)) (r : Result Y DescribeError) (rest : List Piece) → b ≡ true → Reads sees f r rest → Reads sees (cond b f g) r rest
+pub test_true : {X Y : Type 0} (sees : Y → X) (b : Bool) (f g : Option (X × List Piece)) (r : Result Y DescribeError) (rest : List Piece) → b ≡ true
+    → Reads sees f r rest → Reads sees (cond b f g) r rest
 test_true sees b f g r rest e h = rw e h
 
-pub test_false : {X Y : Type 0} (sees : Y → X) (b : Bool) (f g : Option (X × List Piece)) (r : Result Y DescribeError) (rest : List Piece) → b ≡ false → Reads sees g r rest → Reads sees (cond b f g) r rest
+pub test_false : {X Y : Type 0} (sees : Y → X) (b : Bool) (f g : Option (X × List Piece)) (r : Result Y DescribeError) (rest : List Piece) → b ≡ false
+    → Reads sees g r rest → Reads sees (cond b f g) r rest
 test_false sees b f g r rest e h = rw e h
 
 -- a whole text
@@ -117,24 +179,29 @@ refused_by : (x : Option (Form × List Piece)) (e : DescribeError) (rest : List 
 refused_by None e rest h = tt
 refused_by (Some y) e rest h = parses_memory (ended y) e h
 
-finished_by : (x : Option (Form × List Piece)) (d : Described) (rest : List Piece) → Reads seen x (Ok d) rest → nat_eq (length rest) 0 ≡ true → Parses (and_then x ended) (Ok d)
+finished_by : (x : Option (Form × List Piece)) (d : Described) (rest : List Piece) → Reads seen x (Ok d) rest → nat_eq (length rest) 0 ≡ true
+    → Parses (and_then x ended) (Ok d)
 finished_by None d rest h e = tt
 finished_by (Some (f, [])) d rest h e = h.0
 finished_by (Some (f, p ∷ ps)) d rest h e = let none = eqb-true (length rest) 0 e in absurd (omega (arith, ap length h.1))
 
-unfinished_by : (x : Option (Form × List Piece)) (d : Described) (rest : List Piece) (e : DescribeError) → Reads seen x (Ok d) rest → nat_eq (length rest) 0 ≡ false → Parses (and_then x ended) (Err e)
+unfinished_by : (x : Option (Form × List Piece)) (d : Described) (rest : List Piece) (e : DescribeError) → Reads seen x (Ok d) rest → nat_eq (length rest) 0
+    ≡ false → Parses (and_then x ended) (Err e)
 unfinished_by None d rest e h k = tt
 unfinished_by (Some (f, [])) d rest e h k = let l = rw h.1 at k in absurd (cc)
 unfinished_by (Some (f, p ∷ ps)) d rest e h k = tt
 
-pub parsed_err : (o : Option (List Piece)) (tokens : Tokens) (levels : ℕ) (e : DescribeError) (rest : List Piece) → HasTokens o (Ok tokens) → Reads seen ((readers levels).types (left tokens)) (Err e) rest → Parses (and_then o (whole levels)) (Err e)
+pub parsed_err : (o : Option (List Piece)) (tokens : Tokens) (levels : ℕ) (e : DescribeError) (rest : List Piece) → HasTokens o (Ok tokens)
+    → Reads seen ((readers levels).types (left tokens)) (Err e) rest → Parses (and_then o (whole levels)) (Err e)
 parsed_err None tokens levels e rest h k = tt
 parsed_err (Some ts) tokens levels e rest h k = refused_by ((readers levels).types ts) e rest (rw (sym h) k)
 
-pub parsed_ok : (o : Option (List Piece)) (tokens : Tokens) (levels : ℕ) (d : Described) (rest : List Piece) → HasTokens o (Ok tokens) → Reads seen ((readers levels).types (left tokens)) (Ok d) rest → nat_eq (length rest) 0 ≡ true → Parses (and_then o (whole levels)) (Ok d)
+pub parsed_ok : (o : Option (List Piece)) (tokens : Tokens) (levels : ℕ) (d : Described) (rest : List Piece) → HasTokens o (Ok tokens)
+    → Reads seen ((readers levels).types (left tokens)) (Ok d) rest → nat_eq (length rest) 0 ≡ true → Parses (and_then o (whole levels)) (Ok d)
 parsed_ok None tokens levels d rest h k e = tt
 parsed_ok (Some ts) tokens levels d rest h k e = finished_by ((readers levels).types ts) d rest (rw (sym h) k) e
 
-pub parsed_more : (o : Option (List Piece)) (tokens : Tokens) (levels : ℕ) (d : Described) (rest : List Piece) (e : DescribeError) → HasTokens o (Ok tokens) → Reads seen ((readers levels).types (left tokens)) (Ok d) rest → nat_eq (length rest) 0 ≡ false → Parses (and_then o (whole levels)) (Err e)
+pub parsed_more : (o : Option (List Piece)) (tokens : Tokens) (levels : ℕ) (d : Described) (rest : List Piece) (e : DescribeError) → HasTokens o (Ok tokens)
+    → Reads seen ((readers levels).types (left tokens)) (Ok d) rest → nat_eq (length rest) 0 ≡ false → Parses (and_then o (whole levels)) (Err e)
 parsed_more None tokens levels d rest e h k l = tt
 parsed_more (Some ts) tokens levels d rest e h k l = unfinished_by ((readers levels).types ts) d rest e (rw (sym h) k) l

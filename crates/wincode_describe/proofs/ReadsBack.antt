@@ -5,7 +5,30 @@ use Rattle.std.proofs.lemmas.Fmt.{digits_decimal, digits_value-decimal, decimal_
 use Rattle.std.proofs.lemmas.Str.Parse.{IsNumeralModel, numerals_by_value, tells_all_ascii_digits}
 use Rattle.std.specs.Str.{all_ascii_digits}
 use Rattle.std.specs.Str.Parse.{digits_value}
-use Rattle.wincode_describe.specs.Forms.{Form, Number, Flag, Letter, Nothing, Words, Bytes, ByteBlock, Maybe, Either, Held, Many, Several, Pairs, Block, Group, Record, Both, Named, Choice, LastCase, OneCase}
+use Rattle.wincode_describe.specs.Forms.{
+  Form,
+  Number,
+  Flag,
+  Letter,
+  Nothing,
+  Words,
+  Bytes,
+  ByteBlock,
+  Maybe,
+  Either,
+  Held,
+  Many,
+  Several,
+  Pairs,
+  Block,
+  Group,
+  Record,
+  Both,
+  Named,
+  Choice,
+  LastCase,
+  OneCase,
+}
 use Rattle.wincode_describe.specs.Phrases.{Piece, number_of, number_front, word_front, behind_sign}
 use Rattle.wincode_describe.proofs.ReadSteps.{members_is, tuple_is}
 use Rattle.wincode_describe.specs.Readers.{Readers, readers, type_by, list_form, array_form, greatest_of}
@@ -86,7 +109,8 @@ none_within _ b h = h
 -- what is spelled is read back within so many levels
 record Back (n : ℕ) : Type 0 where
   types : (f : Form) (rest : List Piece) → IsForm f false n → (readers n).types (spelled f rest) ≡ Some (f, rest)
-  tuple : (d e : Form) (rest : List Piece) → IsForm d false n → Within n (λ k. IsForm e true k) → (readers n).tuple (spelled d (sign (codes ",") ∷ spelled e (sign (codes ")") ∷ rest))) ≡ Some (Group (Both d e), rest)
+  tuple : (d e : Form) (rest : List Piece) → IsForm d false n → Within n (λ k. IsForm e true k)
+      → (readers n).tuple (spelled d (sign (codes ",") ∷ spelled e (sign (codes ")") ∷ rest))) ≡ Some (Group (Both d e), rest)
   members : (f : Form) (rest : List Piece) → IsForm f true n → (readers n).members (spelled f (sign (codes ")") ∷ rest)) ≡ Some (f, rest)
   fields : (f : Form) (rest : List Piece) → AreFields f n → (readers n).fields (spelled f (sign (codes "}") ∷ rest)) ≡ Some (f, rest)
   cases : (f : Form) (g : ℕ) (rest : List Piece) → AreCases f g n → (readers n).cases g (spelled f (sign (codes "}") ∷ rest)) ≡ Some (f, rest)
@@ -117,8 +141,13 @@ types_more n b (Held d) rest h = rw (b.types d (sign (codes ">") ∷ rest) h) re
 types_more n b (Many Eight d) rest h = rw (b.types d (sign (codes ">") ∷ rest) h.0, list_many Eight d h.1) refl
 types_more n b (Many Short d) rest h = rw (b.types d (sign (codes ">") ∷ rest) h.0, list_many Short d h.1) refl
 types_more n b (Several d) rest h = rw (b.types d (sign (codes ">") ∷ rest) h) refl
-types_more n b (Pairs (Both d e)) rest h = rw (b.types d (sign (codes ",") ∷ spelled e (sign (codes ">") ∷ rest)) h.0, b.types e (sign (codes ">") ∷ rest) h.1) refl
-types_more n b (Block k d) rest h = rw (b.types d (sign (codes ";") ∷ word (decimal k) ∷ sign (codes "]") ∷ rest) h.1, number_in_front k (sign (codes "]") ∷ rest) h.0, array_many k d h.2) refl
+types_more n b (Pairs (Both d e)) rest h = rw (b.types d (sign (codes ",") ∷ spelled e (sign (codes ">") ∷ rest)) h.0, b.types e (sign (codes ">") ∷ rest) h.1)
+    refl
+types_more n b (Block k d) rest h = rw (
+  b.types d (sign (codes ";") ∷ word (decimal k) ∷ sign (codes "]") ∷ rest) h.1,
+  number_in_front k (sign (codes "]") ∷ rest) h.0,
+  array_many k d h.2,
+) refl
 types_more n b (Group (Both d e)) rest h = b.tuple d e rest h.0 h.1
 types_more n b (Record d) rest h = rw (b.fields d rest h) refl
 types_more n b (Choice tag.U8 d) rest h = rw (b.cases d (greatest_of tag.U8) rest h) refl
@@ -127,28 +156,56 @@ types_more n b (Choice tag.U32 d) rest h = rw (b.cases d (greatest_of tag.U32) r
 types_more n b (Choice tag.U64 d) rest h = rw (b.cases d (greatest_of tag.U64) rest h) refl
 types_more n b _ rest h = absurd h
 
-tuple_more : (n : ℕ) → Back n → (d e : Form) (rest : List Piece) → IsForm d false (suc n) → IsForm e true n → (readers (suc n)).tuple (spelled d (sign (codes ",") ∷ spelled e (sign (codes ")") ∷ rest))) ≡ Some (Group (Both d e), rest)
-tuple_more n b d e rest h k = tuple_is (suc n) (spelled d (sign (codes ",") ∷ spelled e (sign (codes ")") ∷ rest))) ∙ rw (begins_tuple d (sign (codes ",") ∷ spelled e (sign (codes ")") ∷ rest)), types_more n b d (sign (codes ",") ∷ spelled e (sign (codes ")") ∷ rest)) h, b.members e rest k) refl
+tuple_more : (n : ℕ) → Back n → (d e : Form) (rest : List Piece) → IsForm d false (suc n) → IsForm e true n
+    → (readers (suc n)).tuple (spelled d (sign (codes ",") ∷ spelled e (sign (codes ")") ∷ rest))) ≡ Some (Group (Both d e), rest)
+tuple_more n b d e rest h k = tuple_is (suc n) (spelled d (sign (codes ",") ∷ spelled e (sign (codes ")") ∷ rest)))
+    ∙ rw (
+      begins_tuple d (sign (codes ",") ∷ spelled e (sign (codes ")") ∷ rest)),
+      types_more n b d (sign (codes ",") ∷ spelled e (sign (codes ")") ∷ rest)) h,
+      b.members e rest k,
+    ) refl
 
-last_member : (n : ℕ) → Back n → (f : Form) (rest : List Piece) → IsForm f false (suc n) → (readers (suc n)).members (spelled f (sign (codes ")") ∷ rest)) ≡ Some (f, rest)
+last_member : (n : ℕ) → Back n → (f : Form) (rest : List Piece) → IsForm f false (suc n) → (readers (suc n)).members (spelled f (sign (codes ")") ∷ rest))
+    ≡ Some (f, rest)
 last_member n b f rest h = members_is (suc n) (spelled f (sign (codes ")") ∷ rest)) ∙ rw (types_more n b f (sign (codes ")") ∷ rest) h) refl
 
-members_more : (n : ℕ) → Back n → (f : Form) (rest : List Piece) → IsForm f true (suc n) → (readers (suc n)).members (spelled f (sign (codes ")") ∷ rest)) ≡ Some (f, rest)
-members_more n b (Both d e) rest h = members_is (suc n) (spelled d (sign (codes ",") ∷ spelled e (sign (codes ")") ∷ rest))) ∙ rw (types_more n b d (sign (codes ",") ∷ spelled e (sign (codes ")") ∷ rest)) h.0, begins_tuple e (sign (codes ")") ∷ rest), b.members e rest h.1) refl
+members_more : (n : ℕ) → Back n → (f : Form) (rest : List Piece) → IsForm f true (suc n) → (readers (suc n)).members (spelled f (sign (codes ")") ∷ rest))
+    ≡ Some (f, rest)
+members_more n b (Both d e) rest h = members_is (suc n) (spelled d (sign (codes ",") ∷ spelled e (sign (codes ")") ∷ rest)))
+    ∙ rw (types_more n b d (sign (codes ",") ∷ spelled e (sign (codes ")") ∷ rest)) h.0, begins_tuple e (sign (codes ")") ∷ rest), b.members e rest h.1) refl
 members_more n b (Pairs (Both d e)) rest h = last_member n b (Pairs (Both d e)) rest h
 members_more n b (Group (Both d e)) rest h = last_member n b (Group (Both d e)) rest h
 members_more n b f rest h = last_member n b f rest h
 
-fields_more : (n : ℕ) → Back n → (f : Form) (rest : List Piece) → AreFields f (suc n) → (readers (suc n)).fields (spelled f (sign (codes "}") ∷ rest)) ≡ Some (f, rest)
+fields_more : (n : ℕ) → Back n → (f : Form) (rest : List Piece) → AreFields f (suc n) → (readers (suc n)).fields (spelled f (sign (codes "}") ∷ rest))
+    ≡ Some (f, rest)
 unfolding readers
-fields_more n b (Named s d) rest h = rw (word_back s (sign (codes ":") ∷ spelled d (sign (codes "}") ∷ rest)) h.0.0, b.types d (sign (codes "}") ∷ rest) h.1) refl
-fields_more n b (Both (Named s d) e) rest h = rw (word_back s (sign (codes ":") ∷ spelled d (sign (codes ",") ∷ spelled e (sign (codes "}") ∷ rest))) h.0.0, b.types d (sign (codes ",") ∷ spelled e (sign (codes "}") ∷ rest)) h.1, begins_braces e (sign (codes "}") ∷ rest), b.fields e rest h.2) refl
+fields_more n b (Named s d) rest h = rw (word_back s (sign (codes ":") ∷ spelled d (sign (codes "}") ∷ rest)) h.0.0, b.types d (sign (codes "}") ∷ rest) h.1)
+    refl
+fields_more n b (Both (Named s d) e) rest h = rw (
+  word_back s (sign (codes ":") ∷ spelled d (sign (codes ",") ∷ spelled e (sign (codes "}") ∷ rest))) h.0.0,
+  b.types d (sign (codes ",") ∷ spelled e (sign (codes "}") ∷ rest)) h.1,
+  begins_braces e (sign (codes "}") ∷ rest),
+  b.fields e rest h.2,
+) refl
 fields_more n b _ rest h = absurd h
 
-cases_more : (n : ℕ) → Back n → (f : Form) (g : ℕ) (rest : List Piece) → AreCases f g (suc n) → (readers (suc n)).cases g (spelled f (sign (codes "}") ∷ rest)) ≡ Some (f, rest)
+cases_more : (n : ℕ) → Back n → (f : Form) (g : ℕ) (rest : List Piece) → AreCases f g (suc n) → (readers (suc n)).cases g (spelled f (sign (codes "}") ∷ rest))
+    ≡ Some (f, rest)
 unfolding readers
-cases_more n b (LastCase t d) g rest h = rw (number_in_front t (sign (codes ":") ∷ spelled d (sign (codes "}") ∷ rest)) h.1, le-ltb g t h.0, b.types d (sign (codes "}") ∷ rest) h.2) refl
-cases_more n b (OneCase t d e) g rest h = rw (number_in_front t (sign (codes ":") ∷ spelled d (sign (codes ",") ∷ spelled e (sign (codes "}") ∷ rest))) h.1, le-ltb g t h.0, b.types d (sign (codes ",") ∷ spelled e (sign (codes "}") ∷ rest)) h.2, begins_braces e (sign (codes "}") ∷ rest), b.cases e g rest h.3, h.4) refl
+cases_more n b (LastCase t d) g rest h = rw (
+  number_in_front t (sign (codes ":") ∷ spelled d (sign (codes "}") ∷ rest)) h.1,
+  le-ltb g t h.0,
+  b.types d (sign (codes "}") ∷ rest) h.2,
+) refl
+cases_more n b (OneCase t d e) g rest h = rw (
+  number_in_front t (sign (codes ":") ∷ spelled d (sign (codes ",") ∷ spelled e (sign (codes "}") ∷ rest))) h.1,
+  le-ltb g t h.0,
+  b.types d (sign (codes ",") ∷ spelled e (sign (codes "}") ∷ rest)) h.2,
+  begins_braces e (sign (codes "}") ∷ rest),
+  b.cases e g rest h.3,
+  h.4,
+) refl
 cases_more n b _ g rest h = absurd h
 
 no_fields : (f : Form) → AreFields f 0 → ⊥

@@ -1,5 +1,35 @@
 -- What is written splits as it is spelled.
-use Rattle.std.proofs.Common.{◌≡◌, ◌∙◌, ap, subst, refl, ℕ, zero, suc, ◌<◌, ◌^◌, Bool, true, false, ◌&&◌, nat_lt, slice_index, IsAscii, chars, Result, List, [], ◌∷◌, ◌++◌, length, Option, Some, codes, decimal, arith}
+use Rattle.std.proofs.Common.{
+  ◌≡◌,
+  ◌∙◌,
+  ap,
+  subst,
+  refl,
+  ℕ,
+  zero,
+  suc,
+  ◌<◌,
+  ◌^◌,
+  Bool,
+  true,
+  false,
+  ◌&&◌,
+  nat_lt,
+  slice_index,
+  IsAscii,
+  chars,
+  Result,
+  List,
+  [],
+  ◌∷◌,
+  ◌++◌,
+  length,
+  Option,
+  Some,
+  codes,
+  decimal,
+  arith,
+}
 use Rattle.std.proofs.lemmas.Fmt.{digits_decimal, decimal_nonempty}
 use Rattle.std.proofs.lemmas.Bool.{lt-ltb, ltb-true}
 use Rattle.std.proofs.lemmas.List.{append_assoc}
@@ -11,7 +41,31 @@ use Rattle.std.specs.Str.Parse.{digits_value}
 use Rattle.wincode_derive_text.specs.Splits.{all_of_word, of_word, tokens_from, tokens_in}
 use Rattle.wincode_derive_text.proofs.SplitLaws.{and_left, and_right, ascii_of_word, word_before, digits_of_word}
 use Rattle.wincode_describe.proofs.ReadsBack.{type_back}
-use Rattle.wincode_describe.specs.Forms.{Form, seen, Number, Flag, Letter, Nothing, Words, Bytes, ByteBlock, Maybe, Either, Held, Many, Several, Pairs, Block, Group, Record, Both, Named, Choice, LastCase, OneCase}
+use Rattle.wincode_describe.specs.Forms.{
+  Form,
+  seen,
+  Number,
+  Flag,
+  Letter,
+  Nothing,
+  Words,
+  Bytes,
+  ByteBlock,
+  Maybe,
+  Either,
+  Held,
+  Many,
+  Several,
+  Pairs,
+  Block,
+  Group,
+  Record,
+  Both,
+  Named,
+  Choice,
+  LastCase,
+  OneCase,
+}
 use Rattle.wincode_describe.specs.Phrases.{Piece}
 use Rattle.wincode_describe.specs.Readers.{Makes, Parses, and_then, ended, greatest_of, whole}
 use Rattle.wincode_describe.specs.Spelled.{word, sign, spelled, IsForm, IsType, AreFields, AreCases, IsName}
@@ -46,7 +100,8 @@ own : IsNumeralModel (λ ds. all_ascii_digits ds ≡ true) (digits_value 10)
 own = numerals_by_value _ tells_all_ascii_digits
 
 -- a number in front of what is left
-number_before : (n : ℕ) (c : ℕ) (cs : List ℕ) (ts : List Piece) → n < 2 ^ 64 → of_word c ≡ false → tokens_from (c ∷ cs) ≡ Some ts → tokens_from (decimal n ++ (c ∷ cs)) ≡ Some (word (decimal n) ∷ ts)
+number_before : (n : ℕ) (c : ℕ) (cs : List ℕ) (ts : List Piece) → n < 2 ^ 64 → of_word c ≡ false → tokens_from (c ∷ cs) ≡ Some ts
+    → tokens_from (decimal n ++ (c ∷ cs)) ≡ Some (word (decimal n) ∷ ts)
 number_before n c cs ts h o e = word_before (decimal n) c cs ts (decimal_nonempty n h) (digits_of_word (decimal n) (digits_decimal own n h)) o e
 
 integer_some : (i : Integer) → 0 < length (integer_name i)
@@ -107,7 +162,8 @@ unfolding encode_utf8
 braces_end cs ts h = rw h refl
 
 -- What is written, in front of a character that is of no word, splits as it is spelled, in front of what that splits as.
-pub splits_as : (f : Form) (c : ℕ) (cs : List ℕ) (ts : List Piece) → CanSplit f → of_word c ≡ false → tokens_from (c ∷ cs) ≡ Some ts → tokens_from (written f ++ (c ∷ cs)) ≡ Some (spelled f ts)
+pub splits_as : (f : Form) (c : ℕ) (cs : List ℕ) (ts : List Piece) → CanSplit f → of_word c ≡ false → tokens_from (c ∷ cs) ≡ Some ts
+    → tokens_from (written f ++ (c ∷ cs)) ≡ Some (spelled f ts)
 unfolding encode_utf8
 splits_as (Number i) c cs ts k o h = word_before (integer_name i) c cs ts (integer_some i) (integer_word i) o h
 splits_as Flag c cs ts k o h = word_before (codes "bool") c cs ts (omega arith) refl o h
@@ -135,21 +191,41 @@ splits_as (Group d) c cs ts k o h = rw (append_assoc (written d) (codes ")") (c 
 splits_as (Record d) c cs ts k o h = rw (append_assoc (written d) (codes " }") (c ∷ cs), splits_as d 32 (125 ∷ c ∷ cs) _ k refl (braces_end (c ∷ cs) ts h)) refl
 splits_as (Both d e) c cs ts k o h =
     let second = splits_as e c cs ts k.1 o h in
-    rw (append_assoc (written d) (codes ", " ++ written e) (c ∷ cs)) (splits_as d 44 (32 ∷ (written e ++ (c ∷ cs))) _ k.0 refl (comma (written e ++ (c ∷ cs)) _ second))
+    rw (append_assoc (written d) (codes ", " ++ written e) (c ∷ cs))
+    (splits_as d 44 (32 ∷ (written e ++ (c ∷ cs))) _ k.0 refl (comma (written e ++ (c ∷ cs)) _ second))
 splits_as (Named s d) c cs ts k o h =
     let content = splits_as d c cs ts k.1 o h in
-    rw (append_assoc s (codes ": " ++ written d) (c ∷ cs)) (word_before s 58 (32 ∷ (written d ++ (c ∷ cs))) _ k.0.0 k.0.1 refl (colon (written d ++ (c ∷ cs)) _ content))
-splits_as (Choice tag.U8 d) c cs ts k o h = rw (append_assoc (written d) (codes " }") (c ∷ cs), splits_as d 32 (125 ∷ c ∷ cs) _ k refl (braces_end (c ∷ cs) ts h)) refl
-splits_as (Choice tag.U16 d) c cs ts k o h = rw (append_assoc (written d) (codes " }") (c ∷ cs), splits_as d 32 (125 ∷ c ∷ cs) _ k refl (braces_end (c ∷ cs) ts h)) refl
-splits_as (Choice tag.U32 d) c cs ts k o h = rw (append_assoc (written d) (codes " }") (c ∷ cs), splits_as d 32 (125 ∷ c ∷ cs) _ k refl (braces_end (c ∷ cs) ts h)) refl
-splits_as (Choice tag.U64 d) c cs ts k o h = rw (append_assoc (written d) (codes " }") (c ∷ cs), splits_as d 32 (125 ∷ c ∷ cs) _ k refl (braces_end (c ∷ cs) ts h)) refl
+    rw (append_assoc s (codes ": " ++ written d) (c ∷ cs)) (word_before s 58 (32 ∷ (written d ++ (c ∷ cs))) _ k.0.0 k.0.1 refl
+    (colon (written d ++ (c ∷ cs)) _ content))
+splits_as (Choice tag.U8 d) c cs ts k o h = rw (
+  append_assoc (written d) (codes " }") (c ∷ cs),
+  splits_as d 32 (125 ∷ c ∷ cs) _ k refl (braces_end (c ∷ cs) ts h),
+) refl
+splits_as (Choice tag.U16 d) c cs ts k o h = rw (
+  append_assoc (written d) (codes " }") (c ∷ cs),
+  splits_as d 32 (125 ∷ c ∷ cs) _ k refl (braces_end (c ∷ cs) ts h),
+) refl
+splits_as (Choice tag.U32 d) c cs ts k o h = rw (
+  append_assoc (written d) (codes " }") (c ∷ cs),
+  splits_as d 32 (125 ∷ c ∷ cs) _ k refl (braces_end (c ∷ cs) ts h),
+) refl
+splits_as (Choice tag.U64 d) c cs ts k o h = rw (
+  append_assoc (written d) (codes " }") (c ∷ cs),
+  splits_as d 32 (125 ∷ c ∷ cs) _ k refl (braces_end (c ∷ cs) ts h),
+) refl
 splits_as (LastCase t d) c cs ts k o h =
     let content = splits_as d c cs ts k.1 o h in
-    rw (append_assoc (decimal t) (codes ": " ++ written d) (c ∷ cs)) (number_before t 58 (32 ∷ (written d ++ (c ∷ cs))) _ k.0 refl (colon (written d ++ (c ∷ cs)) _ content))
+    rw (append_assoc (decimal t) (codes ": " ++ written d) (c ∷ cs))
+    (number_before t 58 (32 ∷ (written d ++ (c ∷ cs))) _ k.0 refl (colon (written d ++ (c ∷ cs)) _ content))
 splits_as (OneCase t d e) c cs ts k o h =
     let others = splits_as e c cs ts k.2 o h in
     let content = splits_as d 44 (32 ∷ (written e ++ (c ∷ cs))) _ k.1 refl (comma (written e ++ (c ∷ cs)) _ others) in
-    rw (append_assoc (decimal t) (codes ": " ++ (written d ++ (codes ", " ++ written e))) (c ∷ cs), append_assoc (written d) (codes ", " ++ written e) (c ∷ cs)) (number_before t 58 (32 ∷ (written d ++ (44 ∷ 32 ∷ (written e ++ (c ∷ cs))))) _ k.0 refl (colon (written d ++ (44 ∷ 32 ∷ (written e ++ (c ∷ cs)))) _ content))
+    rw (
+      append_assoc (decimal t) (codes ": " ++ (written d ++ (codes ", " ++ written e))) (c ∷ cs),
+      append_assoc (written d) (codes ", " ++ written e) (c ∷ cs),
+    )
+    (number_before t 58 (32 ∷ (written d ++ (44 ∷ 32 ∷ (written e ++ (c ∷ cs))))) _ k.0 refl
+    (colon (written d ++ (44 ∷ 32 ∷ (written e ++ (c ∷ cs)))) _ content))
 
 mutual
   -- a described type can be split
@@ -201,11 +277,13 @@ and_both false b e f = absurd (cc)
 
 ascii_append : (xs ys : List ℕ) → all_ascii xs ≡ true → all_ascii ys ≡ true → all_ascii (xs ++ ys) ≡ true
 ascii_append [] ys e f = f
-ascii_append (x ∷ xs) ys e f = and_both (nat_lt x 128) (all_ascii (xs ++ ys)) (and_left (nat_lt x 128) (all_ascii xs) e) (ascii_append xs ys (and_right (nat_lt x 128) (all_ascii xs) e) f)
+ascii_append (x ∷ xs) ys e f = and_both (nat_lt x 128) (all_ascii (xs ++ ys)) (and_left (nat_lt x 128) (all_ascii xs) e)
+    (ascii_append xs ys (and_right (nat_lt x 128) (all_ascii xs) e) f)
 
 word_ascii : (w : List ℕ) → all_of_word w ≡ true → all_ascii w ≡ true
 word_ascii [] h = refl
-word_ascii (c ∷ cs) h = and_both (nat_lt c 128) (all_ascii cs) (lt-ltb c 128 (ascii_of_word c (and_left (of_word c) (all_of_word cs) h))) (word_ascii cs (and_right (of_word c) (all_of_word cs) h))
+word_ascii (c ∷ cs) h = and_both (nat_lt c 128) (all_ascii cs) (lt-ltb c 128 (ascii_of_word c (and_left (of_word c) (all_of_word cs) h)))
+    (word_ascii cs (and_right (of_word c) (all_of_word cs) h))
 
 number_ascii : (n : ℕ) → n < 2 ^ 64 → all_ascii (decimal n) ≡ true
 number_ascii n h = word_ascii (decimal n) (digits_of_word (decimal n) (digits_decimal own n h))
@@ -216,13 +294,15 @@ written_ascii (Bytes Eight) k = refl
 written_ascii (Bytes Short) k = refl
 written_ascii (ByteBlock n) k = ascii_append (decimal n) (codes "]") (number_ascii n k) refl
 written_ascii (Maybe d) k = ascii_append (written d) (codes ">") (written_ascii d k) refl
-written_ascii (Either d e) k = ascii_append (written d) (codes ", " ++ (written e ++ codes ">")) (written_ascii d k.0) (ascii_append (written e) (codes ">") (written_ascii e k.1) refl)
+written_ascii (Either d e) k = ascii_append (written d) (codes ", " ++ (written e ++ codes ">")) (written_ascii d k.0)
+    (ascii_append (written e) (codes ">") (written_ascii e k.1) refl)
 written_ascii (Held d) k = ascii_append (written d) (codes ">") (written_ascii d k) refl
 written_ascii (Many Eight d) k = ascii_append (written d) (codes ">") (written_ascii d k) refl
 written_ascii (Many Short d) k = ascii_append (written d) (codes ">") (written_ascii d k) refl
 written_ascii (Several d) k = ascii_append (written d) (codes ">") (written_ascii d k) refl
 written_ascii (Pairs d) k = ascii_append (written d) (codes ">") (written_ascii d k) refl
-written_ascii (Block n d) k = ascii_append (written d) (codes "; " ++ (decimal n ++ codes "]")) (written_ascii d k.1) (ascii_append (decimal n) (codes "]") (number_ascii n k.0) refl)
+written_ascii (Block n d) k = ascii_append (written d) (codes "; " ++ (decimal n ++ codes "]")) (written_ascii d k.1) (ascii_append (decimal n) (codes "]")
+    (number_ascii n k.0) refl)
 written_ascii (Group d) k = ascii_append (written d) (codes ")") (written_ascii d k) refl
 written_ascii (Record d) k = ascii_append (written d) (codes " }") (written_ascii d k) refl
 written_ascii (Both d e) k = ascii_append (written d) (codes ", " ++ written e) (written_ascii d k.0) (written_ascii e k.1)
@@ -232,7 +312,8 @@ written_ascii (Choice tag.U16 d) k = ascii_append (written d) (codes " }") (writ
 written_ascii (Choice tag.U32 d) k = ascii_append (written d) (codes " }") (written_ascii d k) refl
 written_ascii (Choice tag.U64 d) k = ascii_append (written d) (codes " }") (written_ascii d k) refl
 written_ascii (LastCase t d) k = ascii_append (decimal t) (codes ": " ++ written d) (number_ascii t k.0) (written_ascii d k.1)
-written_ascii (OneCase t d e) k = ascii_append (decimal t) (codes ": " ++ (written d ++ (codes ", " ++ written e))) (number_ascii t k.0) (ascii_append (written d) (codes ", " ++ written e) (written_ascii d k.1) (written_ascii e k.2))
+written_ascii (OneCase t d e) k = ascii_append (decimal t) (codes ": " ++ (written d ++ (codes ", " ++ written e))) (number_ascii t k.0)
+    (ascii_append (written d) (codes ", " ++ written e) (written_ascii d k.1) (written_ascii e k.2))
 written_ascii _ k = refl
 
 ascii_at : (cs : List ℕ) → all_ascii cs ≡ true → IsAscii cs
@@ -243,11 +324,13 @@ ascii_at (c ∷ cs) h = λ i. elim i as (λ i. slice_index (c ∷ cs) i < 128) [
 ]
 
 -- The text of a described type is parsed as that type.
-pub parses_back : (text : List ℕ) (n : ℕ) (f : Form) (r : Result Described DescribeError) → Parses (and_then (tokens_in (chars text)) (whole n)) r → IsType n f → text ≡ written f → Makes seen f r
+pub parses_back : (text : List ℕ) (n : ℕ) (f : Form) (r : Result Described DescribeError) → Parses (and_then (tokens_in (chars text)) (whole n)) r → IsType n f
+    → text ≡ written f → Makes seen f r
 parses_back text n f r parsed is_type same =
     let k = type_splits n f is_type in
     let plain : chars text ≡ written f = ap chars same ∙ chars-IsAscii (written f) (ascii_at (written f) (written_ascii f k)) in
     let split : tokens_in (chars text) ≡ Some (spelled f []) = ap tokens_in plain ∙ splits_as f 10 [] [] k refl refl in
-    let all : and_then (tokens_in (chars text)) (whole n) ≡ Some f = ap (λ o. and_then o (whole n)) split ∙ ap (λ o. and_then o ended) (type_back f n [] is_type) in
+    let all : and_then (tokens_in (chars text)) (whole n) ≡ Some f =
+    ap (λ o. and_then o (whole n)) split ∙ ap (λ o. and_then o ended) (type_back f n [] is_type) in
     let P : Option Form → Type 0 = λ o. Parses o r in
     subst P all parsed

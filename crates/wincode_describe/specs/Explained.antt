@@ -28,8 +28,10 @@ ExplainsRead d old new parts (Some e) = (IsTrue old.is_known → AreFront old.re
 
 -- So, of what comes of a source, read through a buffer; or memory for the buffer was wanted.
 abbrev pub ExplainsSource : Described → SourceState → List Part → Option ReadError → Type 0
-ExplainsSource d s parts None = (IsTrue s.is_known → AreFront s.coming parts) × (IsTrue s.is_known → (rest : List ℕ) × Found (described_read d).reads s.coming parts rest)
-ExplainsSource d s parts (Some e) = (IsTrue s.is_known → AreFront s.coming parts) × ((e ≡ reading.Io reader.OutOfMemory) ⊎ FrontReadRefused (described_read d) (streaming [] s) e)
+ExplainsSource d s parts None = (IsTrue s.is_known → AreFront s.coming parts)
+    × (IsTrue s.is_known → (rest : List ℕ) × Found (described_read d).reads s.coming parts rest)
+ExplainsSource d s parts (Some e) = (IsTrue s.is_known → AreFront s.coming parts)
+    × ((e ≡ reading.Io reader.OutOfMemory) ⊎ FrontReadRefused (described_read d) (streaming [] s) e)
 
 -- some parts of so many bytes explain them
 abbrev pub Checks : Described → List ℕ → ℕ → Option ReadError → Type 0

@@ -1,6 +1,56 @@
 -- How a type is read of its words and signs.
-use Rattle.std.specs.Prelude.{◌≡◌, ◌^◌, ◌-◌, ℕ, zero, suc, Bool, true, false, if◌then◌else◌, nat_lt, nat_eq, ◌||◌, List, [], ◌∷◌, codes, bytes_eq, Option, Some, None, Result, Ok, Err, option_map}
-use Rattle.wincode_describe.specs.Forms.{Form, seen, Number, Flag, Letter, Nothing, Words, Bytes, ByteBlock, Maybe, Either, Held, Many, Several, Pairs, Block, Group, Record, Both, Named, Choice, LastCase, OneCase}
+use Rattle.std.specs.Prelude.{
+  ◌≡◌,
+  ◌^◌,
+  ◌-◌,
+  ℕ,
+  zero,
+  suc,
+  Bool,
+  true,
+  false,
+  if◌then◌else◌,
+  nat_lt,
+  nat_eq,
+  ◌||◌,
+  List,
+  [],
+  ◌∷◌,
+  codes,
+  bytes_eq,
+  Option,
+  Some,
+  None,
+  Result,
+  Ok,
+  Err,
+  option_map,
+}
+use Rattle.wincode_describe.specs.Forms.{
+  Form,
+  seen,
+  Number,
+  Flag,
+  Letter,
+  Nothing,
+  Words,
+  Bytes,
+  ByteBlock,
+  Maybe,
+  Either,
+  Held,
+  Many,
+  Several,
+  Pairs,
+  Block,
+  Group,
+  Record,
+  Both,
+  Named,
+  Choice,
+  LastCase,
+  OneCase,
+}
 use Rattle.wincode_describe.specs.Phrases.{Piece, behind_sign, word_front, number_front}
 use Rattle.wincode_describe.specs.declared.described.Described.{Described}
 use Rattle.wincode_describe.specs.declared.described.Integer.TheVariants.{U8, U16, U32, U64, U128, Usize, I8, I16, I32, I64, I128, Isize}
@@ -134,7 +184,8 @@ goes_on closing ts = on (behind_sign (codes ",") ts)
 module _ (types : Reader) where
   -- an item, a semicolon, how many there are, and the closing bracket
   abbrev pub array_by : Reader
-  array_by ts = and_then (types ts) (λ d. and_then (sign_front (codes ";") d.1) (λ s. and_then (number_front s.1) (λ n. and_then (sign_front (codes "]") n.1) (λ e. Some (array_form n.0 d.0, e.1)))))
+  array_by ts = and_then (types ts) (λ d. and_then (sign_front (codes ";") d.1)
+      (λ s. and_then (number_front s.1) (λ n. and_then (sign_front (codes "]") n.1) (λ e. Some (array_form n.0 d.0, e.1)))))
 
   -- one type in angle brackets
   abbrev pub item_by : (Form → Form) → Reader
@@ -146,7 +197,8 @@ module _ (types : Reader) where
 
   -- two types in angle brackets
   abbrev pub two_by : (Form → Form → Form) → Reader
-  two_by f ts = and_then (sign_front (codes "<") ts) (λ s. and_then (types s.1) (λ d. and_then (sign_front (codes ",") d.1) (λ t. and_then (types t.1) (λ e. and_then (sign_front (codes ">") e.1) (λ u. Some (f d.0 e.0, u.1))))))
+  two_by f ts = and_then (sign_front (codes "<") ts) (λ s. and_then (types s.1)
+      (λ d. and_then (sign_front (codes ",") d.1) (λ t. and_then (types t.1) (λ e. and_then (sign_front (codes ">") e.1) (λ u. Some (f d.0 e.0, u.1))))))
 
   -- two members or more, behind their bracket
   abbrev pub several_by : Reader → Reader
@@ -158,15 +210,20 @@ module _ (types : Reader) where
 
   -- one member or more, up to the closing bracket
   abbrev pub members_by : Reader → Reader
-  members_by members ts = and_then (types ts) (λ d. and_then (goes_on (codes ")") d.1) (λ g. if g.0 then and_then (members g.1) (λ e. Some (Both d.0 e.0, e.1)) else Some (d.0, g.1)))
+  members_by members ts = and_then (types ts) (λ d. and_then (goes_on (codes ")") d.1)
+      (λ g. if g.0 then and_then (members g.1) (λ e. Some (Both d.0 e.0, e.1)) else Some (d.0, g.1)))
 
   -- one field or more, each by its name, up to the closing brace
   abbrev pub fields_by : Reader → Reader
-  fields_by fields ts = and_then (word_front ts) (λ w. and_then (sign_front (codes ":") w.1) (λ s. and_then (types s.1) (λ d. and_then (goes_on (codes "}") d.1) (λ g. if g.0 then and_then (fields g.1) (λ e. Some (Both (Named w.0 d.0) e.0, e.1)) else Some (Named w.0 d.0, g.1)))))
+  fields_by fields ts = and_then (word_front ts) (λ w. and_then (sign_front (codes ":") w.1)
+      (λ s. and_then (types s.1) (λ d. and_then (goes_on (codes "}") d.1)
+      (λ g. if g.0 then and_then (fields g.1) (λ e. Some (Both (Named w.0 d.0) e.0, e.1)) else Some (Named w.0 d.0, g.1)))))
 
   -- one case or more, each by a tag that no other has, up to the closing brace
   abbrev pub cases_by : ℕ → Reader → Reader
-  cases_by greatest cases ts = and_then (number_front ts) (λ n. if nat_lt greatest n.0 then None else and_then (sign_front (codes ":") n.1) (λ s. and_then (types s.1) (λ d. and_then (goes_on (codes "}") d.1) (λ g. if g.0 then and_then (cases g.1) (λ e. if has_tag e.0 n.0 then None else Some (OneCase n.0 d.0 e.0, e.1)) else Some (LastCase n.0 d.0, g.1)))))
+  cases_by greatest cases ts = and_then (number_front ts) (λ n. if nat_lt greatest n.0 then None else and_then (sign_front (codes ":") n.1)
+      (λ s. and_then (types s.1) (λ d. and_then (goes_on (codes "}") d.1)
+      (λ g. if g.0 then and_then (cases g.1) (λ e. if has_tag e.0 n.0 then None else Some (OneCase n.0 d.0 e.0, e.1)) else Some (LastCase n.0 d.0, g.1)))))
 
 -- the readers of types and of their parts, each for so many levels
 pub record Readers : Type 0 where
@@ -182,7 +239,8 @@ struct_by fields ts = and_then (sign_front (codes "{") ts) (λ s. and_then (fiel
 
 -- the word of an enum's tag, and its cases, in braces
 abbrev pub enum_by : (ℕ → Reader) → Reader
-enum_by cases ts = and_then (word_front ts) (λ w. and_then (tag_of w.0) (λ k. and_then (sign_front (codes "{") w.1) (λ s. and_then (cases (greatest_of k) s.1) (λ d. Some (Choice k d.0, d.1)))))
+enum_by cases ts = and_then (word_front ts) (λ w. and_then (tag_of w.0)
+    (λ k. and_then (sign_front (codes "{") w.1) (λ s. and_then (cases (greatest_of k) s.1) (λ d. Some (Choice k d.0, d.1)))))
 
 -- what stands behind the word that begins a type
 abbrev pub behind_word : Readers → Opening → Reader

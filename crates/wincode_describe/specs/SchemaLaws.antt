@@ -18,7 +18,18 @@ use Rattle.wincode_base.specs.declared.meta.TypeMeta.TheVariants.{Static}
 use Rattle.wincode_base.specs.declared.sizes.ItemSize.{ItemSize}
 use Rattle.wincode_describe.specs.Parts.{Part, Flag, Character, Bytes, Nothing}
 use Rattle.wincode_describe.specs.ShownGrammars.{joined}
-use Rattle.wincode_describe.specs.Types.{natural_shown, signed_shown, scheme_of, text_shown, bytes_shown, list_shown, option_shown, result_shown, both_shown, described_read}
+use Rattle.wincode_describe.specs.Types.{
+  natural_shown,
+  signed_shown,
+  scheme_of,
+  text_shown,
+  bytes_shown,
+  list_shown,
+  option_shown,
+  result_shown,
+  both_shown,
+  described_read,
+}
 use Rattle.wincode_describe.specs.declared.described.Integer.TheVariants.{U8, U16, U32, U64, U128, Usize, I8, I16, I32, I64, I128, Isize}
 use Rattle.wincode_describe.specs.declared.described.LengthScheme.{LengthScheme}
 use Rattle.wincode_describe.specs.declared.described.LengthScheme.TheVariants.{Eight}
@@ -93,14 +104,16 @@ module _ {V : Type 0} {g : ReadGrammar V} {d : Described} (c : Covers g d) where
   pub box_covers : (p : _) → Covers (boxed_read g) (type.Boxed' p d)
   box_covers p = record { meta = ap reference_meta c.meta; prealloc = refl; reads = c.reads }
 
-  option_parts : (b : List ℕ) (o : Option V) → (option_read 1 g).reads b o → (w : List Part) × ((v : Option (List Part)) × (option_read 1 (described_read d)).reads b v × (w ≡ option_shown v))
+  option_parts : (b : List ℕ) (o : Option V) → (option_read 1 g).reads b o → (w : List Part)
+      × ((v : Option (List Part)) × (option_read 1 (described_read d)).reads b v × (w ≡ option_shown v))
   option_parts b None r = (option_shown None, (None, r, refl))
   option_parts b (Some v) r = let k = c.reads r.0 v r.1 in (option_shown (Some k.0), (Some k.0, (r.0, k.1, r.2), refl))
 
   pub option_covers : (p : _) → Covers (option_read 1 g) (type.Option' p d)
   option_covers p = record { meta = refl; prealloc = c.prealloc; reads = option_parts }
 
-  items_parts : (vs : List V) (b : List ℕ) → Joined (λ v x. g.reads x v) vs b → (ws : List (List Part)) × (length ws ≡ length vs) × Joined (λ w x. (described_read d).reads x w) ws b
+  items_parts : (vs : List V) (b : List ℕ) → Joined (λ v x. g.reads x v) vs b → (ws : List (List Part)) × (length ws ≡ length vs)
+      × Joined (λ w x. (described_read d).reads x w) ws b
   items_parts [] b r = ([], refl, r)
   items_parts (v ∷ vs) b r =
       let k = c.reads r.0 v r.2 in
@@ -114,7 +127,8 @@ module _ {V : Type 0} {g : ReadGrammar V} {d : Described} (c : Covers g d) where
     reads = λ b vs r. let k = items_parts vs b r.1 in (joined k.0, (k.0, (k.1 ∙ r.0, k.2), refl));
   }
 
-  list_parts : (s : LengthScheme) (b : List ℕ) (vs : List V) → reads_list (scheme_of s) g b vs → (w : List Part) × ((ws : List (List Part)) × reads_list (scheme_of s) (described_read d) b ws × (w ≡ list_shown s ws))
+  list_parts : (s : LengthScheme) (b : List ℕ) (vs : List V) → reads_list (scheme_of s) g b vs → (w : List Part)
+      × ((ws : List (List Part)) × reads_list (scheme_of s) (described_read d) b ws × (w ≡ list_shown s ws))
   list_parts s b vs r =
       let k = items_parts vs r.1.1 r.1.3 in
       let P : ℕ → Type 0 = λ n. (scheme_of s).admits n (described_read d).prealloc in
@@ -126,11 +140,13 @@ module _ {V : Type 0} {g : ReadGrammar V} {d : Described} (c : Covers g d) where
   list_covers s p = record { meta = refl; prealloc = refl; reads = list_parts s }
 
   -- what is made of a list's items, as a set
-  pub set_covers : {D W : Type 0} (see : D → V) (makes : List D → W → Type 0) (size : ItemSize) (p : _) → Covers (gathered_read see makes (scheme_of Eight) size g) (type.Set' p d)
+  pub set_covers : {D W : Type 0} (see : D → V) (makes : List D → W → Type 0) (size : ItemSize) (p : _)
+      → Covers (gathered_read see makes (scheme_of Eight) size g) (type.Set' p d)
   set_covers see makes size p = record { meta = refl; prealloc = refl; reads = λ b w r. list_parts Eight b (map see r.0) r.1 }
 
   -- or a map, of pairs
-  pub map_covers : {D W : Type 0} (see : D → V) (makes : List D → W → Type 0) (size : ItemSize) (p : _) → Covers (gathered_read see makes (scheme_of Eight) size g) (type.Map' p d)
+  pub map_covers : {D W : Type 0} (see : D → V) (makes : List D → W → Type 0) (size : ItemSize) (p : _)
+      → Covers (gathered_read see makes (scheme_of Eight) size g) (type.Map' p d)
   map_covers see makes size p = record { meta = refl; prealloc = refl; reads = λ b w r. list_parts Eight b (map see r.0) r.1 }
 
   -- parts in a window of their size
@@ -152,7 +168,8 @@ module _ {V W : Type 0} {g : ReadGrammar V} {h : ReadGrammar W} {d e : Described
     reads = λ b v r. let x = c.reads r.0 v.0 r.2 in let y = k.reads r.1 v.1 r.3 in (both_shown (x.0, y.0), ((x.0, y.0), (r.0, r.1, x.1, y.1, r.4), refl));
   }
 
-  result_parts : (b : List ℕ) (o : Result V W) → (result_read 4 g h).reads b o → (w : List Part) × ((v : Result (List Part) (List Part)) × (result_read 4 (described_read d) (described_read e)).reads b v × (w ≡ result_shown v))
+  result_parts : (b : List ℕ) (o : Result V W) → (result_read 4 g h).reads b o → (w : List Part)
+      × ((v : Result (List Part) (List Part)) × (result_read 4 (described_read d) (described_read e)).reads b v × (w ≡ result_shown v))
   result_parts b (Ok v) r = let x = c.reads r.0 v r.1 in (result_shown (Ok x.0), (Ok x.0, (r.0, x.1, r.2), refl))
   result_parts b (Err v) r = let x = k.reads r.0 v r.1 in (result_shown (Err x.0), (Err x.0, (r.0, x.1, r.2), refl))
 

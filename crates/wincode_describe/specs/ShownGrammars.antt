@@ -82,7 +82,12 @@ one_case n g = record { case = λ t. read_if (nat_eq n t) g (nameless_read t); m
 
 -- a case with the tag n, or one of the others
 abbrev pub or_case : ℕ → ReadGrammar (List Part) → CaseGrammars → CaseGrammars
-or_case n g others = record { case = λ t. read_if (nat_eq n t) g (others.case t); meta = sides_meta g.meta others.meta; prealloc = max g.prealloc others.prealloc }
+or_case n g others = record {
+  case = λ t. read_if (nat_eq n t) g (others.case t);
+  meta = sides_meta g.meta others.meta;
+  prealloc =
+      max g.prealloc others.prealloc;
+}
 
 -- what parts were given to what takes them, and what it is then
 abbrev pub Took : Type 0 → Type 1
@@ -107,7 +112,8 @@ pub record Began {B : Type 0} (took : Took B) (old : ReaderState) (before after 
 
 -- What a read answers that shows its value: it is shown, behind what was shown before; or it was refused, as the grammar
 -- says, and the parts that were read before stay.
-pub record ShowOutcome {A B : Type 0} (took : Took B) (g : ReadGrammar (List Part)) (old new : ReaderState) (before after : B) (r : Result A ReadError) : Type 0 where
+pub record ShowOutcome {A B : Type 0} (took : Took B) (g : ReadGrammar (List Part)) (old new : ReaderState) (before after : B)
+    (r : Result A ReadError) : Type 0 where
   pub ok : OnOk r (Shows took g.reads old new before after)
   pub refused : IfErr r (SchemaReadRefused g old new)
   pub began : OnErr r (Began took old before after)

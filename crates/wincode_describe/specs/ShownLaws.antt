@@ -72,7 +72,8 @@ first_sized reads (Static a x) (Static b y) h = elim (nat_eq a b) as (λ t. IsSi
 second_sized : (reads : List ℕ → List Part → Type 0) (m n : TypeMeta) → IsSized reads n → IsSized reads (sides_meta m n)
 second_sized reads Dynamic n h = tt
 second_sized reads (Static a x) Dynamic h = tt
-second_sized reads (Static a x) (Static b y) h = elim (nat_eq a b) as (λ t. (t ≡ true → a ≡ b) → IsSized reads (cond t (Static a false) Dynamic)) [ true ↦ (λ e c w r. h c w r ∙ sym (e refl)) | false ↦ (λ e. tt) ] (eqb-true a b)
+second_sized reads (Static a x) (Static b y) h = elim (nat_eq a b) as (λ t. (t ≡ true → a ≡ b) → IsSized reads (cond t (Static a false) Dynamic))
+    [ true ↦ (λ e c w r. h c w r ∙ sym (e refl)) | false ↦ (λ e. tt) ] (eqb-true a b)
 
 pub one_case_laws : (n : ℕ) {g : ReadGrammar (List Part)} → ReadLaws any g → CasesLaws (one_case n g)
 one_case_laws n {g = g} l = record {
@@ -94,11 +95,18 @@ or_case_laws n {g = g} {others = others} l m = record {
 pub chosen_one : (k : ℕ) (cases : CaseGrammars) → CasesLaws cases → (t : ℕ) → IsUnambiguous (IsChosen k cases.case t)
 chosen_one k cases l t a b x y v w p q e = let r = l.one t a b x y p.0 q.0 p.1 q.1 e in (r.0, p.2 ∙ ap (λ u. Tag k t ∷ u) r.1 ∙ sym q.2)
 
-chosen_static : (k : ℕ) (cases : CaseGrammars) (m : TypeMeta) → ((t : ℕ) → IsSized (cases.case t).reads m) → IsReadStatic (chosen_read k cases).reads (pair_meta (Static k true) m)
+chosen_static : (k : ℕ) (cases : CaseGrammars) (m : TypeMeta) → ((t : ℕ) → IsSized (cases.case t).reads m)
+    → IsReadStatic (chosen_read k cases).reads (pair_meta (Static k true) m)
 chosen_static k cases Dynamic h = tt
 chosen_static k cases (Static s z) h =
-    elim (nat_lt (k + s) (2 ^ 64)) as (λ t. IsReadStatic {V = List Part} (chosen_read k cases).reads (cond t (Static (k + s) false) Dynamic))
-    [ true ↦ (λ b v r. ap length r.joins ∙ length-append r.x r.y ∙ ap (λ n. n + length r.y) (ap length r.one.1 ∙ length-le k r.before) ∙ ap (λ n. k + n) (h r.before r.y r.two.0 r.two.1), λ z. absurd (cc z)) | false ↦ tt ]
+    elim (nat_lt (k + s) (2 ^ 64)) as (λ t. IsReadStatic {V = List Part} (chosen_read k cases).reads (cond t (Static (k + s) false) Dynamic)) [
+      | true ↦ (
+        λ b v r. ap length r.joins ∙ length-append r.x r.y ∙ ap (λ n. n + length r.y) (ap length r.one.1 ∙ length-le k r.before)
+            ∙ ap (λ n. k + n) (h r.before r.y r.two.0 r.two.1),
+        λ z. absurd (cc z),
+      )
+      | false ↦ tt
+    ]
 
 pub chosen_laws : (k : ℕ) {cases : CaseGrammars} → CasesLaws cases → ReadLaws any (chosen_read k cases)
 chosen_laws k {cases = cases} l = record {

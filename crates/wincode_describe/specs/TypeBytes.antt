@@ -1,5 +1,29 @@
 -- The bytes of the parts of a value, joined, are its encoding.
-use Rattle.std.proofs.Common.{◌≡◌, ◌∙◌, sym, ap, ℕ, ◌<◌, ◌^◌, Bool, true, false, List, [], ◌∷◌, ◌++◌, length, append-nil, append_assoc, Some, None, Ok, Err, nat_eq, refl}
+use Rattle.std.proofs.Common.{
+  ◌≡◌,
+  ◌∙◌,
+  sym,
+  ap,
+  ℕ,
+  ◌<◌,
+  ◌^◌,
+  Bool,
+  true,
+  false,
+  List,
+  [],
+  ◌∷◌,
+  ◌++◌,
+  length,
+  append-nil,
+  append_assoc,
+  Some,
+  None,
+  Ok,
+  Err,
+  nat_eq,
+  refl,
+}
 use Rattle.std.specs.Prelude.{Result, Option}
 use Rattle.wincode_io.specs.NumberLaws.{le-byte}
 use Rattle.wincode_io.specs.Numbers.{le}
@@ -55,9 +79,11 @@ integer_bytes Isize b w r = one_part b _ w r.1.1 r.2
 
 -- ---- items
 
-pub items_bytes : (reads : List ℕ → List Part → Type 0) → HasBytes reads → (vs : List (List Part)) (b : List ℕ) → Joined (λ v t. reads t v) vs b → b ≡ parts_bytes (joined vs)
+pub items_bytes : (reads : List ℕ → List Part → Type 0) → HasBytes reads → (vs : List (List Part)) (b : List ℕ) → Joined (λ v t. reads t v) vs b → b
+    ≡ parts_bytes (joined vs)
 items_bytes reads h [] b j = j
-items_bytes reads h (v ∷ vs) b j = j.4 ∙ ap (λ t. t ++ j.1) (h j.0 v j.2) ∙ ap (λ t. parts_bytes v ++ t) (items_bytes reads h vs j.1 j.3) ∙ sym (parts_append v (joined vs))
+items_bytes reads h (v ∷ vs) b j = j.4 ∙ ap (λ t. t ++ j.1) (h j.0 v j.2) ∙ ap (λ t. parts_bytes v ++ t) (items_bytes reads h vs j.1 j.3)
+    ∙ sym (parts_append v (joined vs))
 
 le_one : (v : ℕ) → v < 256 ^ 1 → le 1 v ≡ v ∷ []
 le_one v h = sym (le-byte v h)
@@ -70,20 +96,24 @@ bytes_joined (v ∷ vs) b j = j.4 ∙ ap (λ t. t ++ j.1) (j.2.1 ∙ le_one v j.
 byte_list_bytes : (s : LengthScheme) → HasBytes (shown_read (bytes_shown s) (list_read (scheme_of s) 24 (number_read 1 true))).reads
 byte_list_bytes s b w r =
     let l = r.1.1 in
-    l.4 ∙ ap (λ t. t ++ l.1) (scheme_bytes s (length r.0) l.0 l.2) ∙ ap (λ t. length_bytes s (length r.0) ++ t) (bytes_joined r.0 l.1 l.3 ∙ sym (append-nil r.0)) ∙ ap parts_bytes (sym r.2)
+    l.4 ∙ ap (λ t. t ++ l.1) (scheme_bytes s (length r.0) l.0 l.2)
+    ∙ ap (λ t. length_bytes s (length r.0) ++ t) (bytes_joined r.0 l.1 l.3 ∙ sym (append-nil r.0)) ∙ ap parts_bytes (sym r.2)
 
 pub list_bytes : (s : LengthScheme) (g : ReadGrammar (List Part)) → HasBytes g.reads → HasBytes (list_of s g).reads
 list_bytes s g h b w r =
     let l = r.1.1 in
-    l.4 ∙ ap (λ t. t ++ l.1) (scheme_bytes s (length r.0) l.0 l.2) ∙ ap (λ t. length_bytes s (length r.0) ++ t) (items_bytes g.reads h r.0 l.1 l.3) ∙ ap parts_bytes (sym r.2)
+    l.4 ∙ ap (λ t. t ++ l.1) (scheme_bytes s (length r.0) l.0 l.2) ∙ ap (λ t. length_bytes s (length r.0) ++ t) (items_bytes g.reads h r.0 l.1 l.3)
+    ∙ ap parts_bytes (sym r.2)
 
 -- ---- tags
 
-option_bytes : (g : ReadGrammar (List Part)) → HasBytes g.reads → (b : List ℕ) (o : Option (List Part)) → (option_read 1 g).reads b o → b ≡ parts_bytes (option_shown o)
+option_bytes : (g : ReadGrammar (List Part)) → HasBytes g.reads → (b : List ℕ) (o : Option (List Part)) → (option_read 1 g).reads b o → b
+    ≡ parts_bytes (option_shown o)
 option_bytes g h b None r = r.2 ∙ ap (λ t. part_bytes (Tag 1 0) ++ t) r.1
 option_bytes g h b (Some v) r = r.2 ∙ ap (λ t. part_bytes (Tag 1 1) ++ t) (h r.0 v r.1)
 
-result_bytes : (g k : ReadGrammar (List Part)) → HasBytes g.reads → HasBytes k.reads → (b : List ℕ) (o : Result (List Part) (List Part)) → (result_read 4 g k).reads b o → b ≡ parts_bytes (result_shown o)
+result_bytes : (g k : ReadGrammar (List Part)) → HasBytes g.reads → HasBytes k.reads → (b : List ℕ) (o : Result (List Part) (List Part))
+    → (result_read 4 g k).reads b o → b ≡ parts_bytes (result_shown o)
 result_bytes g k h i b (Ok v) r = r.2 ∙ ap (λ t. part_bytes (Tag 4 0) ++ t) (h r.0 v r.1)
 result_bytes g k h i b (Err v) r = r.2 ∙ ap (λ t. part_bytes (Tag 4 1) ++ t) (i r.0 v r.1)
 
@@ -106,7 +136,8 @@ mutual
   described_bytes (type.ByteList s) b w r = byte_list_bytes s b w r
   described_bytes (type.ByteArray n) b w r = one_part b (Bytes r.0) w (bytes_joined r.0 b r.1.1) r.2
   described_bytes (type.Option' p d) b w r = option_bytes (described_read d) (described_bytes d) b r.0 r.1 ∙ ap parts_bytes (sym r.2)
-  described_bytes (type.Result' p d q e) b w r = result_bytes (described_read d) (described_read e) (described_bytes d) (described_bytes e) b r.0 r.1 ∙ ap parts_bytes (sym r.2)
+  described_bytes (type.Result' p d q e) b w r = result_bytes (described_read d) (described_read e) (described_bytes d) (described_bytes e) b r.0 r.1
+      ∙ ap parts_bytes (sym r.2)
   described_bytes (type.Boxed' p d) b w r = described_bytes d b w r
   described_bytes (type.List' s p d) b w r = list_bytes s (described_read d) (described_bytes d) b w r
   described_bytes (type.Set' p d) b w r = list_bytes Eight (described_read d) (described_bytes d) b w r
@@ -115,7 +146,8 @@ mutual
   described_bytes (type.Tuple' p d) b w r = described_bytes d b w r
   described_bytes (type.Struct' p d) b w r = described_bytes d b w r
   described_bytes (type.Joined' p d q e) b w r =
-      r.1.4 ∙ ap (λ t. t ++ r.1.1) (described_bytes d r.1.0 r.0.0 r.1.2) ∙ ap (λ t. parts_bytes r.0.0 ++ t) (described_bytes e r.1.1 r.0.1 r.1.3) ∙ sym (parts_append r.0.0 r.0.1) ∙ ap parts_bytes (sym r.2)
+      r.1.4 ∙ ap (λ t. t ++ r.1.1) (described_bytes d r.1.0 r.0.0 r.1.2) ∙ ap (λ t. parts_bytes r.0.0 ++ t) (described_bytes e r.1.1 r.0.1 r.1.3)
+      ∙ sym (parts_append r.0.0 r.0.1) ∙ ap parts_bytes (sym r.2)
   described_bytes (type.Field' s p d) b w r = described_bytes d b w r
   described_bytes (type.Enum' k p cases) b w r = chosen_bytes (tag_bytes k) (cases_read cases) (cases_bytes cases) b w r
 

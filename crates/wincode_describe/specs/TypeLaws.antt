@@ -15,7 +15,22 @@ use Rattle.wincode_base.specs.TagLaws.{option_read_laws, result_read_laws}
 use Rattle.wincode_describe.specs.Parts.{Part, Flag, Character, Bytes, Nothing}
 use Rattle.wincode_describe.specs.ShownGrammars.{joined, nameless_read, read_if}
 use Rattle.wincode_describe.specs.ShownLaws.{any, shown_laws, CasesLaws, one_case_laws, or_case_laws, chosen_laws}
-use Rattle.wincode_describe.specs.Types.{natural_shown, signed_shown, integer_read, scheme_of, text_shown, bytes_shown, list_shown, option_shown, result_shown, both_shown, list_of, tag_bytes, described_read, cases_read}
+use Rattle.wincode_describe.specs.Types.{
+  natural_shown,
+  signed_shown,
+  integer_read,
+  scheme_of,
+  text_shown,
+  bytes_shown,
+  list_shown,
+  option_shown,
+  result_shown,
+  both_shown,
+  list_of,
+  tag_bytes,
+  described_read,
+  cases_read,
+}
 use Rattle.wincode_describe.specs.declared.described.Integer.{Integer}
 use Rattle.wincode_describe.specs.declared.described.Integer.TheVariants.{U8, U16, U32, U64, U128, Usize, I8, I16, I32, I64, I128, Isize}
 use Rattle.wincode_describe.specs.declared.described.LengthScheme.{LengthScheme}
@@ -54,7 +69,8 @@ mutual
   described_laws type.Char = shown_laws (λ c. Character c ∷ []) char_read_laws
   described_laws type.Unit = shown_laws (λ u. Nothing ∷ []) unit_read_laws
   described_laws type.Text = shown_laws text_shown (str_read_laws 24 0 false (lit≤ tt))
-  described_laws (type.ByteList s) = shown_laws (bytes_shown s) (list_read_laws (scheme_of s) (scheme_laws s) 24 (lit≤ tt) _ _ (number_read_laws 1 true (lit≤ tt)))
+  described_laws (type.ByteList s) = shown_laws (bytes_shown s)
+      (list_read_laws (scheme_of s) (scheme_laws s) 24 (lit≤ tt) _ _ (number_read_laws 1 true (lit≤ tt)))
   described_laws (type.ByteArray n) = shown_laws (λ v. Bytes v ∷ []) (windowed_read_laws (array_read_laws n _ _ (number_read_laws 1 true (lit≤ tt))))
   described_laws (type.Option' p d) = shown_laws option_shown (option_read_laws 1 (lit≤ tt) any _ (described_laws d))
   described_laws (type.Result' p d q e) = shown_laws result_shown (result_read_laws 4 (lit≤ tt) any any _ _ (described_laws d) (described_laws e))

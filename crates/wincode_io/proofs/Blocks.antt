@@ -21,15 +21,18 @@ module _ {X : Type 0} (xs block more : List X) (d : ℕ) (left : drop d xs ≡ b
   pub left_more : more ≡ drop (length xs - length more) xs
   left_more = sym (ap (drop (length xs - length more)) all ∙ drop_at (take d xs ++ block) more (length xs - length more) count)
 
-  pub took_more : {S K : Type 0} {put : S → List ℕ → S} {room : S → ℕ} → WriterLaws put room → (form : X → List ℕ) (s : ℕ) (old mid new : WriterState put room K)
+  pub took_more : {S K : Type 0} {put : S → List ℕ → S} {room : S → ℕ} → WriterLaws put room
+      → (form : X → List ℕ) (s : ℕ) (old mid new : WriterState put room K)
       → All (λ v. length (form v) ≡ s) (take d xs) → All (λ v. length (form v) ≡ s) block → length xs * s ≤ room old.content
       → Took (flat_map form (take d xs)) old mid → Took (flat_map form block) mid new → Took (flat_map form (take (length xs - length more) xs)) old new
   took_more {put = put} {room = room} laws form s old mid new before here fits one two =
-      let most : (length (take d xs) + length block) * s ≤ length xs * s = mul-le-mul_right s (omega (arith, ap length all, length-append (take d xs ++ block) more, length-append (take d xs) block)) in
+      let most : (length (take d xs) + length block) * s ≤ length xs * s =
+      mul-le-mul_right s (omega (arith, ap length all, length-append (take d xs ++ block) more, length-append (take d xs) block)) in
       let long : length (take d xs) * s + length block * s ≤ length xs * s = omega (arith, most) in
       record {
         same = record { kept = two.same.kept ∙ one.same.kept; never_fails = two.same.never_fails ∙ one.same.never_fails };
         content = two.content ∙ ap (λ c. put c (flat_map form block)) one.content
-            ∙ laws.join old.content (flat_map form (take d xs)) (flat_map form block) (omega (arith, length-joined form s (take d xs) before, length-joined form s block here, long, fits))
+            ∙ laws.join old.content (flat_map form (take d xs)) (flat_map form block)
+            (omega (arith, length-joined form s (take d xs) before, length-joined form s block here, long, fits))
             ∙ ap (put old.content) (sym (ap (flat_map form) done_more ∙ flat_map-append form (take d xs) block));
       }

@@ -1,5 +1,29 @@
 -- Going over forms, one after another.
-use Rattle.std.proofs.Common.{◌≡◌, ◌∙◌, sym, ap, ℕ, zero, suc, ◌+◌, ◌*◌, ◌<◌, ◌≤◌, List, [], ◌∷◌, ◌++◌, length, map, take, drop, refl, arith, length-append, length-drop}
+use Rattle.std.proofs.Common.{
+  ◌≡◌,
+  ◌∙◌,
+  sym,
+  ap,
+  ℕ,
+  zero,
+  suc,
+  ◌+◌,
+  ◌*◌,
+  ◌<◌,
+  ◌≤◌,
+  List,
+  [],
+  ◌∷◌,
+  ◌++◌,
+  length,
+  map,
+  take,
+  drop,
+  refl,
+  arith,
+  length-append,
+  length-drop,
+}
 use Rattle.std.proofs.lemmas.Iterator.{YieldsList}
 use Rattle.std.proofs.lemmas.List.{take_at, drop_at}
 use Rattle.std.proofs.lemmas.List.FromFn.{get_or-map-range_with_len, length-map-range_with_len}
@@ -11,7 +35,8 @@ use Rattle.std.specs.Slice.Iter.{chunks_exact_rest, chunks_exact_size, chunks_ex
 use Rattle.wincode_io.specs.Forms.{values}
 use Rattle.wincode_io.specs.JoinedForms.{are_values}
 
-yields : (k n : ℕ) (b : List ℕ) (s : _) → 0 < k → chunks_exact_size s ≡ k → chunks_exact_rest s ≡ b → length b ≡ n * k → AlwaysYields chunks_exact_steps (λ y. y.now) s (first_chunks k n b)
+yields : (k n : ℕ) (b : List ℕ) (s : _) → 0 < k → chunks_exact_size s ≡ k → chunks_exact_rest s ≡ b → length b ≡ n * k
+    → AlwaysYields chunks_exact_steps (λ y. y.now) s (first_chunks k n b)
 yields k zero b s some size rest long = λ x j p.
     let joined = ap length p.1.0 in
     omega (arith, joined, length-append x.now (chunks_exact_rest j), p.1.1, size, ap length rest, long, some)
@@ -22,12 +47,14 @@ yields k (suc n) b s some size rest long =
           let here : length x.now ≡ k = p.1.1 ∙ size in
           let joined : b ≡ x.now ++ chunks_exact_rest j = sym rest ∙ p.1.0 in (
             sym (ap (take k) joined ∙ take_at x.now (chunks_exact_rest j) k here),
-            yields k n (drop k b) j some (p.0 ∙ size) (sym (ap (drop k) joined ∙ drop_at x.now (chunks_exact_rest j) k here)) (omega (arith, length-drop k b, long, all)),
+            yields k n (drop k b) j some (p.0 ∙ size) (sym (ap (drop k) joined ∙ drop_at x.now (chunks_exact_rest j) k here))
+                (omega (arith, length-drop k b, long, all)),
           ),
     )
 
 -- the chunks of n forms of k bytes
-pub chunks_yield : {s : _} (k n : ℕ) (b : List ℕ) → 0 < k → chunks_exact_size s ≡ k → chunks_exact_rest s ≡ b → length b ≡ n * k → YieldsList chunks_exact_steps (λ y. y.now) s (first_chunks k n b)
+pub chunks_yield : {s : _} (k n : ℕ) (b : List ℕ) → 0 < k → chunks_exact_size s ≡ k → chunks_exact_rest s ≡ b → length b ≡ n * k
+    → YieldsList chunks_exact_steps (λ y. y.now) s (first_chunks k n b)
 chunks_yield {s = s} k n b some size rest long = record { runs = yields k n b s some size rest long }
 
 module _ {X : Type 0} (value : List ℕ → X) (k : ℕ) where

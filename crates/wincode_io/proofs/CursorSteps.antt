@@ -1,5 +1,30 @@
 -- What one writing of a cursor is, by cases and in steps.
-use Rattle.std.proofs.Common.{◌≡◌, ℕ, ◌+◌, ◌-◌, ◌<◌, ◌≤◌, List, [], ◌∷◌, ◌++◌, length, take, drop, replicate, refl, ap, sym, ◌∙◌, append_assoc, append-nil, arith, length-append, inl, inr}
+use Rattle.std.proofs.Common.{
+  ◌≡◌,
+  ℕ,
+  ◌+◌,
+  ◌-◌,
+  ◌<◌,
+  ◌≤◌,
+  List,
+  [],
+  ◌∷◌,
+  ◌++◌,
+  length,
+  take,
+  drop,
+  replicate,
+  refl,
+  ap,
+  sym,
+  ◌∙◌,
+  append_assoc,
+  append-nil,
+  arith,
+  length-append,
+  inl,
+  inr,
+}
 use Rattle.std.proofs.lemmas.List.{take-append-le, length-replicate, drop_all, replicate-append-replicate}
 use Rattle.std.proofs.lemmas.Bool.{cases_lt}
 use Rattle.wincode_io.specs.Places.{Placed, placed}
@@ -25,17 +50,26 @@ split_at a p n h k = omega arith
 
 drop_zeros : (bytes : List ℕ) (n : ℕ) → drop n (with_zeros bytes n) ≡ drop n bytes
 drop_zeros bytes n = elim (cases_lt (length bytes) n) as (λ _. drop n (with_zeros bytes n) ≡ drop n bytes) [
-  | inl h ↦ drop_all n (with_zeros bytes n) (omega (arith, length-append bytes (replicate (n - length bytes) 0), length-replicate {A = ℕ} (n - length bytes) 0)) ∙ sym (drop_all n bytes (omega arith))
+  | inl h ↦ drop_all n (with_zeros bytes n) (omega (
+    arith,
+    length-append bytes (replicate (n - length bytes) 0),
+    length-replicate {A = ℕ} (n - length bytes) 0,
+  )) ∙ sym (drop_all n bytes (omega arith))
   | inr h ↦ ap (λ l. drop n l) (ap (λ k. bytes ++ replicate k 0) (nothing_over (length bytes) n h) ∙ append-nil bytes)
 ]
 
 take_zeros : (bytes : List ℕ) (p n : ℕ) → p ≤ n → take p (with_zeros bytes n) ≡ take p (with_zeros bytes p)
 take_zeros bytes p n k = elim (cases_lt p (length bytes)) as (λ _. take p (with_zeros bytes n) ≡ take p (with_zeros bytes p)) [
   | inl h ↦ take-append-le p bytes (replicate (n - length bytes) 0) (omega arith) ∙ sym (take-append-le p bytes (replicate (p - length bytes) 0) (omega arith))
-  | inr h ↦ ap (λ l. take p l) (ap (λ m. bytes ++ replicate m 0) (split_at (length bytes) p n h k) ∙ ap (λ l. bytes ++ l) (sym (replicate-append-replicate (p - length bytes) (n - p) 0)) ∙ sym (append_assoc bytes (replicate (p - length bytes) 0) (replicate (n - p) 0)))
-      ∙ take-append-le p (with_zeros bytes p) (replicate (n - p) 0) (omega (arith, length-append bytes (replicate (p - length bytes) 0), length-replicate {A = ℕ} (p - length bytes) 0))
+  | inr h ↦ ap (λ l. take p l) (ap (λ m. bytes ++ replicate m 0) (split_at (length bytes) p n h k)
+      ∙ ap (λ l. bytes ++ l) (sym (replicate-append-replicate (p - length bytes) (n - p) 0))
+      ∙ sym (append_assoc bytes (replicate (p - length bytes) 0) (replicate (n - p) 0)))
+      ∙ take-append-le p (with_zeros bytes p) (replicate (n - p) 0)
+      (omega (arith, length-append bytes (replicate (p - length bytes) 0), length-replicate {A = ℕ} (p - length bytes) 0))
 ]
 
 -- Bytes that first grow with zeros take what is written as the bytes themselves.
-pub overwritten_grown : (bytes : List ℕ) (p : ℕ) (a : List ℕ) → take p (with_zeros bytes (p + length a)) ++ (a ++ drop (p + length a) (with_zeros bytes (p + length a))) ≡ overwritten bytes p a
-overwritten_grown bytes p a = ap (λ l. l ++ (a ++ drop (p + length a) (with_zeros bytes (p + length a)))) (take_zeros bytes p (p + length a) (omega arith)) ∙ ap (λ l. take p (with_zeros bytes p) ++ (a ++ l)) (drop_zeros bytes (p + length a))
+pub overwritten_grown : (bytes : List ℕ) (p : ℕ) (a : List ℕ) → take p (with_zeros bytes (p + length a))
+    ++ (a ++ drop (p + length a) (with_zeros bytes (p + length a))) ≡ overwritten bytes p a
+overwritten_grown bytes p a = ap (λ l. l ++ (a ++ drop (p + length a) (with_zeros bytes (p + length a)))) (take_zeros bytes p (p + length a) (omega arith))
+    ∙ ap (λ l. take p (with_zeros bytes p) ++ (a ++ l)) (drop_zeros bytes (p + length a))

@@ -2,7 +2,22 @@
 use Rattle.std.specs.Prelude.{slice_set}
 use Rattle.std.specs.List.{All}
 use Rattle.std.proofs.Common.{◌≡◌, ℕ, ◌+◌, ◌*◌, ◌<◌, ◌≤◌, List, [], ◌∷◌, ◌++◌, length, take, drop, refl}
-use Rattle.std.proofs.Common.{sym, ap, subst, ◌∙◌, arith, get_or, zero, suc, length-append, length-take, length-drop, append_assoc, append-nil, take-append-drop}
+use Rattle.std.proofs.Common.{
+  sym,
+  ap,
+  subst,
+  ◌∙◌,
+  arith,
+  get_or,
+  zero,
+  suc,
+  length-append,
+  length-take,
+  length-drop,
+  append_assoc,
+  append-nil,
+  take-append-drop,
+}
 use Rattle.std.proofs.lemmas.List.{map_more, take_more, take_at, drop_at, drop-drop, drop_all}
 use Rattle.std.proofs.lemmas.List.Elements.{All-head, All-tail, All-append}
 use Rattle.std.proofs.Math.Seq.{take-append-add}
@@ -67,13 +82,15 @@ edited_behind s k p q f e =
     ∙ append_assoc p (take (k * s) q) (f ++ drop s (drop (k * s) q))
 
 module _ {X : Type 0} {is_valid : X → Type 0} {s : ℕ} {form : X → List ℕ} {value : List ℕ → X} (law : IsByteForm is_valid s form value) where
-  values_edited : (n : ℕ) (b : List ℕ) (k : ℕ) (v : X) → k < n → length b ≡ n * s → is_valid v → values value s n (edited s b k (form v)) ≡ slice_set (values value s n b) k v
+  values_edited : (n : ℕ) (b : List ℕ) (k : ℕ) (v : X) → k < n → length b ≡ n * s → is_valid v → values value s n (edited s b k (form v))
+      ≡ slice_set (values value s n b) k v
   unfolding values
   values_edited zero b k v h e p = absurd (omega (arith, h))
   values_edited (suc n) b zero v h e p =
       let long = law.long v p in
       let front : length (take s b) ≡ s = omega (arith, length-take s b, e) in
-      let is : edited s b 0 (form v) ≡ form v ++ drop s b = ap (λ x. edited s x 0 (form v)) (sym (take-append-drop s b)) ∙ edited_first s (take s b) (drop s b) (form v) front in
+      let is : edited s b 0 (form v) ≡ form v ++ drop s b = ap (λ x. edited s x 0 (form v)) (sym (take-append-drop s b))
+      ∙ edited_first s (take s b) (drop s b) (form v) front in
       ap (λ x. value (take s x) ∷ values value s n (drop s x)) is
       ∙ ap (λ t. value t ∷ values value s n (drop s (form v ++ drop s b))) (take_at (form v) (drop s b) s long)
       ∙ ap (λ t. value (form v) ∷ values value s n t) (drop_at (form v) (drop s b) s long)
@@ -82,13 +99,15 @@ module _ {X : Type 0} {is_valid : X → Type 0} {s : ℕ} {form : X → List ℕ
       let front : length (take s b) ≡ s = omega (arith, length-take s b, e) in
       let rest : length (drop s b) ≡ n * s = omega (arith, length-drop s b, e) in
       let more = edited s (drop s b) k (form v) in
-      let is : edited s b (suc k) (form v) ≡ take s b ++ more = ap (λ x. edited s x (suc k) (form v)) (sym (take-append-drop s b)) ∙ edited_behind s k (take s b) (drop s b) (form v) front in
+      let is : edited s b (suc k) (form v) ≡ take s b ++ more =
+      ap (λ x. edited s x (suc k) (form v)) (sym (take-append-drop s b)) ∙ edited_behind s k (take s b) (drop s b) (form v) front in
       ap (λ x. value (take s x) ∷ values value s n (drop s x)) is
       ∙ ap (λ t. value t ∷ values value s n (drop s (take s b ++ more))) (take_at (take s b) more s front)
       ∙ ap (λ t. value (take s b) ∷ values value s n t) (drop_at (take s b) more s front)
       ∙ ap (λ ys. value (take s b) ∷ ys) (values_edited n (drop s b) k v (omega (arith, h)) rest p)
 
-  pub length-all_edited : (n : ℕ) (b : List ℕ) (es : List (ℕ × X)) → All (λ e. e.0 < n) es → All (λ e. is_valid e.1) es → length b ≡ n * s → length (all_edited s b (in_places form es)) ≡ n * s
+  pub length-all_edited : (n : ℕ) (b : List ℕ) (es : List (ℕ × X)) → All (λ e. e.0 < n) es → All (λ e. is_valid e.1) es → length b ≡ n * s
+      → length (all_edited s b (in_places form es)) ≡ n * s
   unfolding all_edited
   length-all_edited n b [] within valid_all e = e
   length-all_edited n b (x ∷ es) within valid_all e =
@@ -116,7 +135,8 @@ module _ {X : Type 0} {is_valid : X → Type 0} {s : ℕ} {form : X → List ℕ
 pub all_none : {A : Type 0} (P : A → Type 0) → All P []
 all_none P k d h = absurd (omega (arith, h))
 
-pub all_more : {A : Type 0} (P : A → Type 0) (xs : List A) (i : ℕ) (x : A) → i < length xs → x ≡ get_or xs i x → All P (take i xs) → P x → All P (take (i + 1) xs)
+pub all_more : {A : Type 0} (P : A → Type 0) (xs : List A) (i : ℕ) (x : A) → i < length xs → x ≡ get_or xs i x → All P (take i xs) → P x
+    → All P (take (i + 1) xs)
 all_more P xs i x h e all one =
     let more : take (i + 1) xs ≡ take i xs ++ (x ∷ []) = take_more xs i x h ∙ ap (λ y. take i xs ++ (y ∷ [])) (sym e) in
     subst (All P) (sym more) (All-append P (take i xs) (x ∷ []) all (All-one P x one)) where

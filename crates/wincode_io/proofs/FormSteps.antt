@@ -33,7 +33,8 @@ module _ {X : Type 0} (form : X → List ℕ) (s : ℕ) (vs : List X) (i : ℕ) 
       ∙ ap (λ (x : ℕ). put_mid (i * s) x (flat_map form (take i vs) ++ drop (i * s) old) (form (get_or vs i d))) k
       ∙ ap (λ (x : List ℕ). x ++ (form (get_or vs i d) ++ drop s (drop (i * s) (flat_map form (take i vs) ++ drop (i * s) old))))
       (take_at (flat_map form (take i vs)) (drop (i * s) old) (i * s) joined)
-      ∙ ap (λ (x : List ℕ). flat_map form (take i vs) ++ (form (get_or vs i d) ++ drop s x)) (drop_at (flat_map form (take i vs)) (drop (i * s) old) (i * s) joined)
+      ∙ ap (λ (x : List ℕ). flat_map form (take i vs) ++ (form (get_or vs i d) ++ drop s x))
+      (drop_at (flat_map form (take i vs)) (drop (i * s) old) (i * s) joined)
       ∙ ap (λ (x : List ℕ). flat_map form (take i vs) ++ (form (get_or vs i d) ++ x)) (drop-drop s (i * s) old ∙ ap (λ (x : ℕ). drop x old) sum)
       ∙ sym (append_assoc (flat_map form (take i vs)) (form (get_or vs i d)) (drop ((i + 1) * s) old))
       ∙ ap (λ (x : List ℕ). x ++ drop ((i + 1) * s) old) form_more

@@ -12,7 +12,8 @@ pub refused_on : (n : ℕ) (a b c : ReaderState) (e : ReadError) → Stays a b �
 refused_on n a b c e h k = (stays_trans h (k n).0, (k n).1)
 
 -- so of a stream, which had not failed in between
-pub stream_refused_on : {S : Type 0} (state : S → SourceState) (n : ℕ) (a b c : Streamed S) (e : ReadError) → b.has_failed ≡ a.has_failed → StreamRefused state n b c e → StreamRefused state n a c e
+pub stream_refused_on : {S : Type 0} (state : S → SourceState) (n : ℕ) (a b c : Streamed S) (e : ReadError) → b.has_failed ≡ a.has_failed
+    → StreamRefused state n b c e → StreamRefused state n a c e
 stream_refused_on state n a b c (ReadSizeLimit m) same h = (h.0, λ fits. ((h.1 fits).0, λ failed. (h.1 fits).1 (subst IsTrue (sym same) failed)))
 stream_refused_on state n a b c UnsupportedZeroCopy same h = h
 stream_refused_on state n a b c (Io e) same h = (h.0, h.1, λ failed. h.2 (subst IsTrue (sym same) failed), λ sound. h.3 (same ∙ sound))

@@ -1,5 +1,29 @@
 -- When a reader doesn't refuse.
-use Rattle.std.proofs.Common.{◌≡◌, sym, ℕ, ◌-◌, ◌<◌, ◌≤◌, Bool, true, false, true≢false, ◌&&◌, not, refl, List, ◌++◌, length, take, IsTrue, arith, ◌∙◌, ap, length-append, length-take}
+use Rattle.std.proofs.Common.{
+  ◌≡◌,
+  sym,
+  ℕ,
+  ◌-◌,
+  ◌<◌,
+  ◌≤◌,
+  Bool,
+  true,
+  false,
+  true≢false,
+  ◌&&◌,
+  not,
+  refl,
+  List,
+  ◌++◌,
+  length,
+  take,
+  IsTrue,
+  arith,
+  ◌∙◌,
+  ap,
+  length-append,
+  length-take,
+}
 use Rattle.wincode_io.specs.declared.error.ReadError.{ReadError}
 use Rattle.wincode_io.specs.declared.error.ReadError.TheVariants.{ReadSizeLimit, UnsupportedZeroCopy, Io, OutOfMemory}
 use Rattle.wincode_io.specs.Readers.{ReaderState, Stays, Loses, Windowed, IsShort, ReadRefusedFor, WindowRefusedFor}
@@ -53,5 +77,6 @@ pub window_served : (m : ℕ) {n : ℕ} (old new : ReaderState) (e : ReadError) 
     → WindowRefusedFor (IsShort m old) m new e → (new.counts_windows ≡ true) × (e ≡ OutOfMemory)
 window_served m old new (ReadSizeLimit k) has enough stays refusal = let short : length old.rest < m = refusal.0 has.is_known in absurd (omega arith)
 window_served m old new UnsupportedZeroCopy has enough stays refusal = absurd refusal
-window_served m old new OutOfMemory has enough stays refusal = (counted_by new.never_fails new.counts_windows (stays.kept.never_fails ∙ has.never_fails) refusal, refl)
+window_served m old new OutOfMemory has enough stays refusal =
+    (counted_by new.never_fails new.counts_windows (stays.kept.never_fails ∙ has.never_fails) refusal, refl)
 window_served m old new (Io e) has enough stays refusal = absurd (true≢false (sym (stays.kept.never_fails ∙ has.never_fails) ∙ refusal.0))

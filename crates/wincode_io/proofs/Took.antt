@@ -6,7 +6,8 @@ use Rattle.wincode_io.specs.Sources.{SourceState}
 use Rattle.wincode_io.specs.Streams.{streaming}
 
 -- the first n bytes at hand
-pub took : (n : ℕ) (at_hand rest bytes : List ℕ) (s : SourceState) → n ≤ length at_hand → bytes ≡ take n at_hand → rest ≡ drop n at_hand → Takes n (streaming at_hand s) (streaming rest s) bytes
+pub took : (n : ℕ) (at_hand rest bytes : List ℕ) (s : SourceState) → n ≤ length at_hand → bytes ≡ take n at_hand → rest ≡ drop n at_hand
+    → Takes n (streaming at_hand s) (streaming rest s) bytes
 took n at_hand rest bytes s within front after =
     let whole = at_hand ++ s.coming in
     let first : take n whole ≡ take n at_hand = take-append-le n at_hand s.coming within in

@@ -1,5 +1,30 @@
 -- The laws of encodings joined in order.
-use Rattle.std.proofs.Common.{◌≡◌, ◌∙◌, sym, ap, subst, ℕ, ◌+◌, ◌<◌, ◌≤◌, List, [], ◌∷◌, ◌++◌, length, map, take, drop, get_or, suc, refl, arith, append_assoc, append-nil, take-append-drop}
+use Rattle.std.proofs.Common.{
+  ◌≡◌,
+  ◌∙◌,
+  sym,
+  ap,
+  subst,
+  ℕ,
+  ◌+◌,
+  ◌<◌,
+  ◌≤◌,
+  List,
+  [],
+  ◌∷◌,
+  ◌++◌,
+  length,
+  map,
+  take,
+  drop,
+  get_or,
+  suc,
+  refl,
+  arith,
+  append_assoc,
+  append-nil,
+  take-append-drop,
+}
 use Rattle.std.proofs.lemmas.List.{take_more, map-append}
 use Rattle.std.proofs.Math.Seq.{drop-cons}
 use Rattle.wincode_io.specs.Joins.{IsUnambiguous, Joined, Each, total, AreItems}
@@ -10,12 +35,14 @@ cancel (c ∷ a) x y e = cancel a x y (cc)
 
 module _ {V : Type 0} (reads : List ℕ → V → Type 0) (one : IsUnambiguous reads) where
   -- as many items from two beginnings of one input are the same
-  pub joined_one : (vs ws : List V) (a b x y : List ℕ) → length vs ≡ length ws → Joined (λ v t. reads t v) vs a → Joined (λ v t. reads t v) ws b → a ++ x ≡ b ++ y → (a ≡ b) × (vs ≡ ws)
+  pub joined_one : (vs ws : List V) (a b x y : List ℕ) → length vs ≡ length ws → Joined (λ v t. reads t v) vs a → Joined (λ v t. reads t v) ws b → a ++ x ≡ b
+      ++ y → (a ≡ b) × (vs ≡ ws)
   joined_one [] [] a b x y l p q e = (p ∙ sym q, refl)
   joined_one [] (w ∷ ws) a b x y l p q e = absurd (omega arith)
   joined_one (v ∷ vs) [] a b x y l p q e = absurd (omega arith)
   joined_one (v ∷ vs) (w ∷ ws) a b x y l p q e =
-      let whole : p.0 ++ (p.1 ++ x) ≡ q.0 ++ (q.1 ++ y) = sym (append_assoc p.0 p.1 x) ∙ ap (λ r. r ++ x) (sym p.4) ∙ e ∙ ap (λ r. r ++ y) q.4 ∙ append_assoc q.0 q.1 y in
+      let whole : p.0 ++ (p.1 ++ x) ≡ q.0 ++ (q.1 ++ y) = sym (append_assoc p.0 p.1 x) ∙ ap (λ r. r ++ x) (sym p.4) ∙ e ∙ ap (λ r. r ++ y) q.4
+      ∙ append_assoc q.0 q.1 y in
       let same = one p.0 q.0 (p.1 ++ x) (q.1 ++ y) v w p.2 q.2 whole in
       let after = cancel p.0 (p.1 ++ x) (q.1 ++ y) (whole ∙ sym (ap (λ r. r ++ (q.1 ++ y)) same.0)) in
       let m : length vs ≡ length ws = omega arith in
@@ -26,7 +53,8 @@ module _ {V : Type 0} (reads : List ℕ → V → Type 0) (one : IsUnambiguous r
   items_one n a b x y vs ws p q e = joined_one vs ws a b x y (p.0 ∙ sym q.0) p.1 q.1 e
 
 -- one encoding more, behind the others
-pub joined_snoc : {V : Type 0} (reads : List ℕ → V → Type 0) (vs : List V) (v : V) (a b : List ℕ) → Joined (λ u t. reads t u) vs a → reads b v → Joined (λ u t. reads t u) (vs ++ (v ∷ [])) (a ++ b)
+pub joined_snoc : {V : Type 0} (reads : List ℕ → V → Type 0) (vs : List V) (v : V) (a b : List ℕ) → Joined (λ u t. reads t u) vs a → reads b v
+    → Joined (λ u t. reads t u) (vs ++ (v ∷ [])) (a ++ b)
 joined_snoc reads [] v a b p r = (b, [], r, refl, ap (λ t. t ++ b) p ∙ sym (append-nil b))
 joined_snoc reads (w ∷ vs) v a b p r = (p.0, p.1 ++ b, p.2, joined_snoc reads vs v p.1 b p.3 r, ap (λ t. t ++ b) p.4 ∙ append_assoc p.0 p.1 b)
 

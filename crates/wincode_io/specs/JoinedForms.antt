@@ -52,7 +52,8 @@ module _ {X : Type 0} (value : List ℕ → X) (s : ℕ) where
       ∙ ap (λ (i : ℕ). value (take s (drop i b))) e
 
   module _ (form : X → List ℕ) where
-    pub values-joined : (vs : List X) → All (λ v. length (form v) ≡ s) vs → All (λ v. value (form v) ≡ v) vs → values value s (length vs) (flat_map form vs) ≡ vs
+    pub values-joined : (vs : List X) → All (λ v. length (form v) ≡ s) vs → All (λ v. value (form v) ≡ v) vs → values value s (length vs) (flat_map form vs)
+        ≡ vs
     unfolding values
     values-joined [] h e = refl
     values-joined (v ∷ vs) h e =
@@ -61,7 +62,8 @@ module _ {X : Type 0} (value : List ℕ → X) (s : ℕ) where
         let rest = values-joined vs (All-tail (λ w. length (form w) ≡ s) v vs h) (All-tail (λ w. value (form w) ≡ w) v vs e) in
         rw (take_at (form v) (flat_map form vs) s long, drop_at (form v) (flat_map form vs) s long, back, rest) refl
 
-    pub joined-values : ((b : List ℕ) → IsBytes b → length b ≡ s → form (value b) ≡ b) → (n : ℕ) (b : List ℕ) → IsBytes b → length b ≡ n * s → flat_map form (values value s n b) ≡ b
+    pub joined-values : ((b : List ℕ) → IsBytes b → length b ≡ s → form (value b) ≡ b) → (n : ℕ) (b : List ℕ) → IsBytes b → length b ≡ n * s
+        → flat_map form (values value s n b) ≡ b
     unfolding values
     joined-values law zero b h e = sym (nil_from_length b (omega arith))
     joined-values law (suc n) b h e =
@@ -69,7 +71,8 @@ module _ {X : Type 0} (value : List ℕ → X) (s : ℕ) where
         let rest = joined-values law n (drop s b) (IsBytes-drop s b h) (omega (arith, length-drop s b)) in
         rw (front, rest) (take-append-drop s b)
 
-  pub All-values : (P : X → Type 0) → ((b : List ℕ) → IsBytes b → length b ≡ s → P (value b)) → (n : ℕ) (b : List ℕ) → IsBytes b → length b ≡ n * s → All P (values value s n b)
+  pub All-values : (P : X → Type 0) → ((b : List ℕ) → IsBytes b → length b ≡ s → P (value b)) → (n : ℕ) (b : List ℕ) → IsBytes b → length b ≡ n * s
+      → All P (values value s n b)
   unfolding values
   All-values P law zero b h e = λ k d l. absurd (omega arith)
   All-values P law (suc n) b h e =

@@ -102,6 +102,7 @@ from_le_bytes-worth w [] some e = absurd (omega (arith, e, some))
 from_le_bytes-worth w (b ∷ bytes) some e = ap (worth_through (b ∷ bytes)) (omega (arith, e)) ∙ sym (worth_is b bytes)
 
 -- bytes are those of the number that `from_le_bytes` makes of them
-pub le-from_le_bytes : (w : Width) (bytes : List ℕ) → 0 < byte_len w → IsBytes bytes → length bytes ≡ byte_len w → le (byte_len w) (from_le_bytes w bytes) ≡ bytes
+pub le-from_le_bytes : (w : Width) (bytes : List ℕ) → 0 < byte_len w → IsBytes bytes → length bytes ≡ byte_len w → le (byte_len w) (from_le_bytes w bytes)
+    ≡ bytes
 le-from_le_bytes w bytes some all e =
     ap (le (byte_len w)) (from_le_bytes-worth w bytes some e) ∙ ap (λ k. le k (worth bytes)) (sym e) ∙ le-worth bytes all

@@ -1,10 +1,38 @@
 -- The laws of places.
-use Rattle.std.proofs.Common.{◌&&◌, not, false, ◌≡◌, ◌∙◌, sym, ap, ℕ, ◌+◌, ◌-◌, List, ◌++◌, length, take, refl, arith, length-append, length-take, IsTrue, Option, None, Some}
+use Rattle.std.proofs.Common.{
+  ◌&&◌,
+  not,
+  false,
+  ◌≡◌,
+  ◌∙◌,
+  sym,
+  ap,
+  ℕ,
+  ◌+◌,
+  ◌-◌,
+  List,
+  ◌++◌,
+  length,
+  take,
+  refl,
+  arith,
+  length-append,
+  length-take,
+  IsTrue,
+  Option,
+  None,
+  Some,
+}
 use Rattle.wincode_io.specs.Places.{Placed, placed, onward}
 use Rattle.wincode_io.specs.Readers.{ReaderState, Kept, Stays, Loses, IsOnward, is_steady}
 
 pub kept_trans : {a b c : ReaderState} → Kept a b → Kept b c → Kept a c
-kept_trans k l = record { lends = l.lends ∙ k.lends; never_fails = l.never_fails ∙ k.never_fails; counts_windows = l.counts_windows ∙ k.counts_windows; is_known = l.is_known ∙ k.is_known }
+kept_trans k l = record {
+  lends = l.lends ∙ k.lends;
+  never_fails = l.never_fails ∙ k.never_fails;
+  counts_windows = l.counts_windows ∙ k.counts_windows;
+  is_known = l.is_known ∙ k.is_known;
+}
 
 pub known_kept : {a b : ReaderState} → Kept a b → IsTrue a.is_known → IsTrue b.is_known
 known_kept k t = rw k.is_known t
@@ -43,7 +71,8 @@ loses_onward n old new l t =
     l.place ∙ ap (λ m. onward m old.place) (omega (arith, r.0, split, length-take n old.rest))
 
 -- one part after another
-pub onward_trans : (old mid new : ReaderState) (a b : List ℕ) → old.rest ≡ a ++ mid.rest → mid.rest ≡ b ++ new.rest → IsOnward old mid → IsOnward mid new → IsOnward old new
+pub onward_trans : (old mid new : ReaderState) (a b : List ℕ) → old.rest ≡ a ++ mid.rest → mid.rest ≡ b ++ new.rest → IsOnward old mid → IsOnward mid new
+    → IsOnward old new
 onward_trans old mid new a b e f p q =
     let first = ap length e ∙ length-append a mid.rest in
     let second = ap length f ∙ length-append b new.rest in

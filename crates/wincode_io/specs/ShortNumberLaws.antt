@@ -1,5 +1,36 @@
 -- The laws of short numbers.
-use Rattle.std.proofs.Common.{◌≡◌, ◌∙◌, sym, ap, ℕ, ◌+◌, ◌-◌, ◌*◌, ◌/◌, ◌%◌, ◌<◌, ◌≤◌, ◌⊎◌, inl, inr, cond, List, [], ◌∷◌, ◌++◌, length, take, drop, zero, suc, refl, arith, length-append, append_assoc, take-append-drop}
+use Rattle.std.proofs.Common.{
+  ◌≡◌,
+  ◌∙◌,
+  sym,
+  ap,
+  ℕ,
+  ◌+◌,
+  ◌-◌,
+  ◌*◌,
+  ◌/◌,
+  ◌%◌,
+  ◌<◌,
+  ◌≤◌,
+  ◌⊎◌,
+  inl,
+  inr,
+  cond,
+  List,
+  [],
+  ◌∷◌,
+  ◌++◌,
+  length,
+  take,
+  drop,
+  zero,
+  suc,
+  refl,
+  arith,
+  length-append,
+  append_assoc,
+  take-append-drop,
+}
 use Rattle.std.proofs.lemmas.Bool.{lt-ltb, le-ltb, cases_lt}
 use Rattle.std.proofs.Math.Seq.{take-append-add}
 use Rattle.wincode_io.specs.ShortNumbers.{groups, short_encoding, BeginsGrouped, BeginsShort}
@@ -28,7 +59,8 @@ pub short_in_two : (n : ℕ) → 128 ≤ n → n / 128 < 128 → short_encoding 
 short_in_two n l h = groups_next 1 n l ∙ ap (λ t. (128 + n % 128) ∷ t) (groups_last 1 (n / 128) h)
 
 pub short_in_three : (n : ℕ) → 128 ≤ n / 128 → short_encoding n ≡ (128 + n % 128) ∷ (128 + n / 128 % 128) ∷ n / 128 / 128 ∷ []
-short_in_three n l = groups_next 1 n (omega (arith, l)) ∙ ap (λ t. (128 + n % 128) ∷ t) (groups_next 0 (n / 128) l ∙ ap (λ t. (128 + n / 128 % 128) ∷ t) (groups_only (n / 128 / 128)))
+short_in_three n l = groups_next 1 n (omega (arith, l)) ∙ ap (λ t. (128 + n % 128) ∷ t)
+    (groups_next 0 (n / 128) l ∙ ap (λ t. (128 + n / 128 % 128) ∷ t) (groups_only (n / 128 / 128)))
 
 -- ---- how long a number is
 
@@ -66,7 +98,8 @@ module _ (k a : ℕ) {bytes rest : List ℕ} (is : bytes ≡ a ∷ rest) where
   grouped_before n least most some b =
       let low : 128 + (a - 128 + 128 * n) % 128 ≡ a = omega (arith, least, most) in
       let high : (a - 128 + 128 * n) / 128 ≡ n = omega (arith, least, most) in
-      let whole : groups (suc k) (a - 128 + 128 * n) ≡ a ∷ groups k n = groups_next k (a - 128 + 128 * n) (omega (arith, some)) ∙ ap (λ c. c ∷ groups k ((a - 128 + 128 * n) / 128)) low ∙ ap (λ m. a ∷ groups k m) high in
+      let whole : groups (suc k) (a - 128 + 128 * n) ≡ a ∷ groups k n =
+      groups_next k (a - 128 + 128 * n) (omega (arith, some)) ∙ ap (λ c. c ∷ groups k ((a - 128 + 128 * n) / 128)) low ∙ ap (λ m. a ∷ groups k m) high in
       (b.0, is ∙ ap (λ t. a ∷ t) b.1 ∙ ap (λ t. t ++ b.0) (sym whole))
 
   grouped_first : (n : ℕ) → BeginsGrouped (suc k) bytes n → StandsFirst k a rest n
@@ -119,7 +152,14 @@ short_one m n x y e = grouped_one 2 m n (short_encoding m ++ x) (x, refl) (y, e)
 
 -- what three bytes begin with, and what stands behind them
 pub short_whole : (bytes : List ℕ) (n : ℕ) → BeginsShort (take 3 bytes) n → BeginsShort bytes n
-short_whole bytes n b = (b.0, (b.1.0 ++ drop 3 bytes, sym (take-append-drop 3 bytes) ∙ ap (λ t. t ++ drop 3 bytes) b.1.1 ∙ append_assoc (short_encoding n) b.1.0 (drop 3 bytes)))
+short_whole bytes n b = (
+  b.0,
+  (
+    b.1.0 ++ drop 3 bytes,
+    sym (take-append-drop 3 bytes) ∙ ap (λ t. t ++ drop 3 bytes) b.1.1
+        ∙ append_assoc (short_encoding n) b.1.0 (drop 3 bytes),
+  ),
+)
 
 -- three bytes show what the bytes begin with
 pub short_shown : (bytes : List ℕ) (n : ℕ) → BeginsShort bytes n → BeginsShort (take 3 bytes) n

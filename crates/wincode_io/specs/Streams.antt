@@ -17,7 +17,17 @@ pub record Streamed (S : Type 0) : Type 0 where
 
 -- The bytes at hand, followed by those that will come.
 abbrev pub streaming : List ℕ → SourceState → ReaderState
-streaming at_hand s = record { rest = at_hand ++ s.coming; ready = length at_hand; lends = nothing; never_fails = false; counts_windows = true; failures = s.failures; is_known = s.is_known; place = None }
+streaming at_hand s = record {
+  rest = at_hand ++ s.coming;
+  ready = length at_hand;
+  lends = nothing;
+  never_fails = false;
+  counts_windows = true;
+  failures =
+      s.failures;
+  is_known = s.is_known;
+  place = None;
+}
 
 abbrev pub stream_state : {S : Type 0} → (S → SourceState) → Streamed S → ReaderState
 stream_state state r = streaming r.at_hand (state r.source)
@@ -56,7 +66,8 @@ IsFetched n new = length new.at_hand < n → IsTrue new.has_ended
 abbrev pub StreamRefused : {S : Type 0} → (S → SourceState) → ℕ → Streamed S → Streamed S → ReadError → Type 0
 StreamRefused state n old new (ReadSizeLimit m) = (length new.at_hand < n) × (n ≤ byte_limit → IsTrue new.has_ended × (IsTrue old.has_failed → ⊥))
 StreamRefused state n old new UnsupportedZeroCopy = ⊥
-StreamRefused state n old new (Io e) = (length new.at_hand < n) × IsTrue new.has_failed × (IsTrue old.has_failed → error_kind e ≡ Other) × (old.has_failed ≡ false → (state new.source).last ≡ error_kind e)
+StreamRefused state n old new (Io e) = (length new.at_hand < n) × IsTrue new.has_failed × (IsTrue old.has_failed → error_kind e ≡ Other)
+    × (old.has_failed ≡ false → (state new.source).last ≡ error_kind e)
 StreamRefused state n old new OutOfMemory = (length new.at_hand < n) × (new.has_ended ≡ false) × (new.has_failed ≡ false)
 
 -- Why a window of n bytes is refused: so too, or, where they are at hand, since it can't be counted.

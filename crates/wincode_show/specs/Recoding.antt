@@ -34,7 +34,8 @@ pub record Reread {X V W : Type 0} (rs : X → V) (r : ReadGrammar V) (ws : X �
   pub reads_back : r.reads text (rs value)
 
 -- a value was read from the input, within its limits, and serializing it was refused
-pub record RereadWriteRefused {X V W : Type 0} (rs : X → V) (r : ReadGrammar V) (ws : X → W) (w : WriteGrammar W) (input : List ℕ) (e : WriteError) : Type 0 where
+pub record RereadWriteRefused {X V W : Type 0} (rs : X → V) (r : ReadGrammar V) (ws : X → W) (w : WriteGrammar W) (input : List ℕ)
+    (e : WriteError) : Type 0 where
   pub value : X
   pub rest : List ℕ
   pub found : Found r.reads input (rs value) rest
@@ -66,7 +67,8 @@ IsKept _ input text = (rest : List ℕ) × (input ≡ text ++ rest)
 -- Why the front of the bytes was not recoded as the shape: no front reads, or memory for its value was wanted; or one
 -- reads, and memory for its encoding was wanted.
 abbrev pub RecodeAsRefused : KnownShape → List ℕ → RelayError → Type 0
-RecodeAsRefused shape bytes (relay.Read e) = FrontReadRefused (read_of shape) (memory shared bytes) e × ((text : List ℕ) → IsRecodedAs shape bytes text → IsReadMemory e)
+RecodeAsRefused shape bytes (relay.Read e) = FrontReadRefused (read_of shape) (memory shared bytes) e
+    × ((text : List ℕ) → IsRecodedAs shape bytes text → IsReadMemory e)
 RecodeAsRefused shape bytes (relay.Write e) = ((text : List ℕ) × IsRecodedAs shape bytes text) × (e ≡ writing.OutOfMemory)
 RecodeAsRefused shape bytes _ = ⊥
 

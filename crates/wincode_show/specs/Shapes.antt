@@ -58,7 +58,8 @@ record_read = windowed_read (pair_read (number_read 8 true) (pair_read bool_read
 
 -- a map of bytes, in the order of its keys
 abbrev pub pairs_read : ReadGrammar (List (ℕ × ℕ))
-pairs_read = gathered_read (sees (λ k. k) (λ v. v)) (Made (IsMapOf nat_cmp) (map (sees (λ k. k) (λ v. v)))) (bincode preallocation_limit) (pair_size byte_read.meta byte_read.meta) (pair_read byte_read byte_read)
+pairs_read = gathered_read (sees (λ k. k) (λ v. v)) (Made (IsMapOf nat_cmp) (map (sees (λ k. k) (λ v. v)))) (bincode preallocation_limit)
+    (pair_size byte_read.meta byte_read.meta) (pair_read byte_read byte_read)
 
 -- how the values of a shape are read
 abbrev pub read_of : (shape : KnownShape) → ReadGrammar (Value shape)

@@ -11,7 +11,8 @@ returns-in_err-window-clause-gave c =
     let p = d.1 in search (rules, r, p)
 
 pub returns-in_err-window-clause-succeeds : goal.returns-in_err-window-clause-succeeds
-returns-in_err-window-clause-succeeds c = λ some front. absurd (record_served _ _ c.in_err-window.field-0.0 c.in_err-window.ensures.err c.in_err-window.ensures.failed some front)
+returns-in_err-window-clause-succeeds c = λ some front. absurd
+    (record_served _ _ c.in_err-window.field-0.0 c.in_err-window.ensures.err c.in_err-window.ensures.failed some front)
 
 pub returns-clause-gave : goal.returns-clause-gave
 returns-clause-gave c =

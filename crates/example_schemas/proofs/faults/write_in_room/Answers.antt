@@ -17,8 +17,14 @@ returns-in_err-write-clause-ok g c =
     let a = c.new-window.result in
     let b = c.write.new.writer in
     let o = c.in_err-write.ensures in
-    let has : HasRoom 41 old old = record { unmoved = record { same = record { kept = refl; never_fails = refl }; content = refl }; fits = fits; ready = c.requires.room } in
-    absurd (record_written_through (src.0, (src.1, map (λ n. n) src.2)) (ap length (map-id src.2) ∙ full) old old (state a.writer.now) (state b.writer.now) a.writer.ghost_name b.writer.ghost_name a.left b.left _ has (ap state window.writer) window.left o.refused o.place)
+    let has : HasRoom 41 old old = record {
+      unmoved = record { same = record { kept = refl; never_fails = refl }; content = refl };
+      fits = fits;
+      ready =
+          c.requires.room;
+    } in
+    absurd (record_written_through (src.0, (src.1, map (λ n. n) src.2)) (ap length (map-id src.2) ∙ full) old old (state a.writer.now) (state b.writer.now)
+    a.writer.ghost_name b.writer.ghost_name a.left b.left _ has (ap state window.writer) window.left o.refused o.place)
 
 pub returns-clause-wrote : goal.returns-clause-wrote
 returns-clause-wrote g c =
@@ -29,5 +35,6 @@ returns-clause-wrote g c =
     let fits : 41 ≤ g.W.Writer.room old.content = omega (arith, c.requires.room, g.met.W.Writer.ready_room c.args.writer.now) in
     let a = c.new-window.result in
     let b = c.write.new.writer in
-    let r = record_through (src.0, (src.1, map (λ n. n) src.2)) (ap length (map-id src.2) ∙ full) old (state a.writer.now) (state b.writer.now) a.writer.ghost_name b.writer.ghost_name a.left b.left (ap state c.new-window.ensures.writer) fits c.in_ok-write.ensures.ok in
+    let r = record_through (src.0, (src.1, map (λ n. n) src.2)) (ap length (map-id src.2) ∙ full) old (state a.writer.now) (state b.writer.now)
+    a.writer.ghost_name b.writer.ghost_name a.left b.left (ap state c.new-window.ensures.writer) fits c.in_ok-write.ensures.ok in
     let w = subst (λ bytes. Wrote record_write old (state b.writer.now) (src.0, (src.1, bytes))) (map-id src.2) r in search (rules, w)

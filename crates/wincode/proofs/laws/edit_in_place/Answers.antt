@@ -44,5 +44,6 @@ returns-clause-ok g c =
     let fits : c.in-Some.total ≤ length b - 8 = c.if-bytes-total.false in
     let same : 8 + c.in-Some.total - 8 ≡ c.in-Some.total = omega arith in
     let within = c.are_within.ensures.0 (search rules) in
-    edited_in_place b c.see_bytes.ensures long n c.of_form-n.ensures s c.in-Some.total c.in-Some.ensures fits g.T.ZeroCopy.byte_form c.args.edits.now within c.edit_forms.ensures.is_valid
+    edited_in_place b c.see_bytes.ensures long n c.of_form-n.ensures s c.in-Some.total c.in-Some.ensures fits g.T.ZeroCopy.byte_form c.args.edits.now within
+    c.edit_forms.ensures.is_valid
     (8 + c.in-Some.total - 8) same c.edit_forms.new.forms c.edit_forms.ensures.forms

@@ -12,7 +12,12 @@ returns-in_err-take_array-in-1 g c =
 pub returns-in_ok-take_array-in-1 : goal.returns-in_ok-take_array-in-1
 returns-in_ok-take_array-in-1 g c =
     let small : AreSmall c.in_ok-take_array-in-1.field-0 = search rules in
-    record { ok = tag_given w8 (lit< tt) g.Tag.TagCode.size (omega (arith, c.tag_size.ensures, c.in-1.is)) _ _ _ _ c.in_ok-take_array-in-1.ensures.ok small c.from_le_bytes.ensures; refused = tt; place = tt }
+    record {
+      ok = tag_given w8 (lit< tt) g.Tag.TagCode.size (omega (arith, c.tag_size.ensures, c.in-1.is))
+          _ _ _ _ c.in_ok-take_array-in-1.ensures.ok small c.from_le_bytes.ensures;
+      refused = tt;
+      place = tt;
+    }
 
 pub returns-in_err-take_array-in-2 : goal.returns-in_err-take_array-in-2
 returns-in_err-take_array-in-2 g c =
@@ -23,7 +28,12 @@ returns-in_err-take_array-in-2 g c =
 pub returns-in_ok-take_array-in-2 : goal.returns-in_ok-take_array-in-2
 returns-in_ok-take_array-in-2 g c =
     let small : AreSmall c.in_ok-take_array-in-2.field-0 = search rules in
-    record { ok = tag_given w16 (lit< tt) g.Tag.TagCode.size (omega (arith, c.tag_size.ensures, c.in-2.is)) _ _ _ _ c.in_ok-take_array-in-2.ensures.ok small c.from_le_bytes-in-2.ensures; refused = tt; place = tt }
+    record {
+      ok = tag_given w16 (lit< tt) g.Tag.TagCode.size (omega (arith, c.tag_size.ensures, c.in-2.is))
+          _ _ _ _ c.in_ok-take_array-in-2.ensures.ok small c.from_le_bytes-in-2.ensures;
+      refused = tt;
+      place = tt;
+    }
 
 pub returns-in_err-take_array-in-4 : goal.returns-in_err-take_array-in-4
 returns-in_err-take_array-in-4 g c =
@@ -34,7 +44,12 @@ returns-in_err-take_array-in-4 g c =
 pub returns-in_ok-take_array-in-4 : goal.returns-in_ok-take_array-in-4
 returns-in_ok-take_array-in-4 g c =
     let small : AreSmall c.in_ok-take_array-in-4.field-0 = search rules in
-    record { ok = tag_given w32 (lit< tt) g.Tag.TagCode.size (omega (arith, c.tag_size.ensures, c.in-4.is)) _ _ _ _ c.in_ok-take_array-in-4.ensures.ok small c.from_le_bytes-in-4.ensures; refused = tt; place = tt }
+    record {
+      ok = tag_given w32 (lit< tt) g.Tag.TagCode.size (omega (arith, c.tag_size.ensures, c.in-4.is))
+          _ _ _ _ c.in_ok-take_array-in-4.ensures.ok small c.from_le_bytes-in-4.ensures;
+      refused = tt;
+      place = tt;
+    }
 
 pub returns-in_err-take_number-in_default : goal.returns-in_err-take_number-in_default
 returns-in_err-take_number-in_default g c =

@@ -24,4 +24,5 @@ returns g c =
     let t = c.tag-tag.ensures in
     let o = rw t.is at c.in_ok-write_tag.ensures.ok in
     write_map C.part v _ (enum_write k C.tag C.own C.part) v _ _ (λ r. enum_wrote laws k C.tag C.own C.part_laws v t.own o r) (λ p. (t.own, p))
-    (λ e u. enum_part_unwritten laws k C.tag C.own C.part_laws v o u) (λ e h. enum_part_halted laws k C.tag C.own C.part_laws v o h) (C.answers _ _ _ _ _ _ x _ c.write_part.ensures)
+    (λ e u. enum_part_unwritten laws k C.tag C.own C.part_laws v o u) (λ e h. enum_part_halted laws k C.tag C.own C.part_laws v o h)
+    (C.answers _ _ _ _ _ _ x _ c.write_part.ensures)

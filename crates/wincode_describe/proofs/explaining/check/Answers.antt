@@ -6,4 +6,9 @@ use Rattle.wincode_describe.proofs.explaining.check.Goals as goal
 pub returns : goal.returns
 returns g c =
     let x = c.check_read.ensures in
-    rw (sym c.new.ensures) (x.0, x.1, memory_explains c.args.described.now c.new.result (window_state c.check_read.new.reader) x.0 c.check_read.result.refused x.2)
+    rw (sym c.new.ensures) (
+      x.0,
+      x.1,
+      memory_explains c.args.described.now c.new.result (window_state c.check_read.new.reader)
+          x.0 c.check_read.result.refused x.2,
+    )

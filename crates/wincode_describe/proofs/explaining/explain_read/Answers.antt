@@ -9,7 +9,8 @@ pub returns-in-Ok : goal.returns-in-Ok
 returns-in-Ok g c =
     let s = c.in-Ok.ensures.ok in
     let whole : c.show_parts.new.shown.items ≡ s.more = s.is ∙ ap (λ t. t ++ s.more) c.new-parts.ensures.items in
-    let P : List Shown → Type 0 = λ xs. ExplainsRead c.args.described.now (g.R.Reader.state c.args.reader.now) (g.R.Reader.state c.show_parts.new.reader) (map seen xs) None in
+    let P : List Shown → Type 0 = λ xs. ExplainsRead c.args.described.now (g.R.Reader.state c.args.reader.now) (g.R.Reader.state c.show_parts.new.reader)
+    (map seen xs) None in
     subst P (sym whole) (read_explains c.args.described.now _ _ (map seen s.more) s.gives)
 
 pub returns-in-Err : goal.returns-in-Err
@@ -17,5 +18,6 @@ returns-in-Err g c =
     let o = c.in-Err.ensures in
     let b = o.began in
     let whole : c.show_parts.new.shown.items ≡ b.more = b.is ∙ ap (λ t. t ++ b.more) c.new-parts.ensures.items in
-    let P : List Shown → Type 0 = λ xs. ExplainsRead c.args.described.now (g.R.Reader.state c.args.reader.now) (g.R.Reader.state c.show_parts.new.reader) (map seen xs) (Some c.in-Err.error) in
+    let P : List Shown → Type 0 = λ xs. ExplainsRead c.args.described.now (g.R.Reader.state c.args.reader.now) (g.R.Reader.state c.show_parts.new.reader)
+    (map seen xs) (Some c.in-Err.error) in
     subst P (sym whole) (b.front, o.refused)

@@ -16,4 +16,5 @@ pub returns : goal.returns
 returns g c =
     let G = described_read (type.ByteArray c.args.n) in
     let o = c.in_ok-bytes.ensures.ok in
-    show_last g.S.PartSink.sink_laws G _ _ _ [] (shown.Bytes c.in_ok-bytes.bytes) c.add.result (g.S.PartSink.sink_laws.none _) o (no_memory G.reads G.reads G.borrow _ _ _ o, inr refl) (began_none g.S.PartSink.sink_laws _ _) c.add.ensures.ok c.add.ensures.err
+    show_last g.S.PartSink.sink_laws G _ _ _ [] (shown.Bytes c.in_ok-bytes.bytes) c.add.result (g.S.PartSink.sink_laws.none _) o
+    (no_memory G.reads G.reads G.borrow _ _ _ o, inr refl) (began_none g.S.PartSink.sink_laws _ _) c.add.ensures.ok c.add.ensures.err

@@ -16,7 +16,8 @@ returns-in_err-bytes g c =
     let s = c.args.scheme in
     let T = list_read (scheme_of s) 24 (number_read 1 true) in
     let o = c.in_err-bytes.ensures in
-    show_refused (shown_read (bytes_shown s) T) _ _ _ _ c.from_residual.ensures (shown_refused (bytes_shown s) T _ _ _ (o.refused, o.place)) (began_none g.S.PartSink.sink_laws _ _)
+    show_refused (shown_read (bytes_shown s) T) _ _ _ _ c.from_residual.ensures (shown_refused (bytes_shown s) T _ _ _ (o.refused, o.place))
+    (began_none g.S.PartSink.sink_laws _ _)
 
 pub returns-in_err-add : goal.returns-in_err-add
 returns-in_err-add g c =
@@ -24,7 +25,8 @@ returns-in_err-add g c =
     let T = list_read (scheme_of s) 24 (number_read 1 true) in
     let o = c.in_ok-bytes.ensures.ok in
     let u = c.in_err-add.ensures.err in
-    show_refused (shown_read (bytes_shown s) T) _ _ _ _ c.from_residual-in_err-add.ensures (rw u.0 (shown_memory (bytes_shown s) T T.reads _ _ _ o)) (began_took _ _ _ u.1)
+    show_refused (shown_read (bytes_shown s) T) _ _ _ _ c.from_residual-in_err-add.ensures (rw u.0 (shown_memory (bytes_shown s) T T.reads _ _ _ o))
+    (began_took _ _ _ u.1)
 
 pub returns : goal.returns
 returns g c =

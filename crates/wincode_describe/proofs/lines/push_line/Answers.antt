@@ -13,4 +13,5 @@ returns c =
     let valued : string_bytes c.push_str-3.new.self ≡ string_bytes c.push_str-2.new.self ++ string_bytes c.in_ok-value.value = search rules in
     let P : Type 0 = string_bytes c.push_str-4.new.self ≡ string_bytes c.push_str-3.new.self ++ codes "\n" in
     let Q : Type 0 = IsLine c.args.span.offset c.args.place.now (string_bytes c.args.text.now) (string_bytes c.push_str-4.new.self) in
-    on_ok_weaker {P = P} {Q = Q} c.push_str-4.result (λ last. line_of c.args.span.offset c.args.place.now _ _ _ (codes "\n") _ _ _ _ _ _ _ begin first placed space valued last) (where_ok c.push_str-4.result _ _ _ c.push_str-4.ensures.bytes)
+    on_ok_weaker {P = P} {Q = Q} c.push_str-4.result (λ last. line_of c.args.span.offset c.args.place.now _ _ _ (codes "\n")
+    _ _ _ _ _ _ _ begin first placed space valued last) (where_ok c.push_str-4.result _ _ _ c.push_str-4.ensures.bytes)

@@ -10,7 +10,8 @@ pub returns-in-Short : goal.returns-in-Short
 returns-in-Short c = rw c.in-Short.is (sym (ap length (short_in_one c.args.count c.if-count-lt128.true)))
 
 pub returns-in-Short-2 : goal.returns-in-Short-2
-returns-in-Short-2 c = rw c.in-Short.is (sym (ap length (short_in_two c.args.count (omega (arith, c.if-count-lt128.false)) (omega (arith, c.if-count-lt16384.true)))))
+returns-in-Short-2 c = rw c.in-Short.is (sym (ap length (short_in_two c.args.count (omega (arith, c.if-count-lt128.false))
+    (omega (arith, c.if-count-lt16384.true)))))
 
 pub returns-in-Short-3 : goal.returns-in-Short-3
 returns-in-Short-3 c = rw c.in-Short.is (sym (ap length (short_in_three c.args.count (omega (arith, c.if-count-lt16384.false)))))

@@ -13,5 +13,6 @@ pub returns : goal.returns
 returns g c =
     let s = c.in_ok-show_parts.ensures.ok in
     let whole : c.show_parts.new.shown.items ≡ s.more = s.is ∙ ap (λ t. t ++ s.more) c.new-shown.ensures.items in
-    let P : List Shown → Type 0 = λ xs. Gives (described_read c.args.described.now).reads (g.R.Reader.state c.args.reader.now) (g.R.Reader.state c.show_parts.new.reader) (map seen xs) in
+    let P : List Shown → Type 0 = λ xs. Gives (described_read c.args.described.now).reads (g.R.Reader.state c.args.reader.now)
+    (g.R.Reader.state c.show_parts.new.reader) (map seen xs) in
     record { ok = subst P (sym whole) s.gives; refused = tt; place = tt }

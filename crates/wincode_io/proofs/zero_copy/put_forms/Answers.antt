@@ -18,5 +18,6 @@ loop-i-preserved g c =
       is_valid = All-more P vs i v c.loop-i-test.true c.loop-i.invariant.is_valid (rw (← at) c.put_form.ensures.is_valid);
       joined = joined_more form s vs i v c.loop-i-test.true c.loop-i.invariant.joined (rw (← at) (g.T.ZeroCopy.byte_form.long v c.put_form.ensures.is_valid));
       so_far = ap (λ (x : List ℕ). put_mid (i * t) (i * t + t - i * t) c.loop-i.dst x) (c.put_form.ensures.form ∙ ap form at)
-          ∙ put_more form s vs i v c.loop-i-test.true c.loop-i.invariant.joined t c.args.dst.now c.loop-i.dst c.size_within-size.ensures c.loop-i.invariant.so_far;
+          ∙ put_more form s vs i v c.loop-i-test.true c.loop-i.invariant.joined t c.args.dst.now c.loop-i.dst c.size_within-size.ensures
+          c.loop-i.invariant.so_far;
     }

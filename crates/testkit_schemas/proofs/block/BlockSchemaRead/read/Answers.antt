@@ -6,7 +6,8 @@ use Rattle.testkit_schemas.proofs.block.BlockSchemaRead.read.Goals as goal
 
 pub returns-in_err-take_zeros : goal.returns-in_err-take_zeros
 returns-in_err-take_zeros g c =
-    let h = denied_refuses (block_read 4611686018427387904).reads 4611686018427387904 (λ b v r. r.0) 0 true _ _ c.in_err-take_zeros.field-0.0 c.in_err-take_zeros.ensures.err in search (rules, h)
+    let h = denied_refuses (block_read 4611686018427387904).reads 4611686018427387904 (λ b v r. r.0)
+    0 true _ _ c.in_err-take_zeros.field-0.0 c.in_err-take_zeros.ensures.err in search (rules, h)
 
 pub returns-then-not-branch : goal.returns-then-not-branch
 returns-then-not-branch g c =
@@ -16,4 +17,10 @@ returns-then-not-branch g c =
 pub returns : goal.returns
 returns g c =
     let taken = c.in_ok-take_zeros.ensures.ok in
-    record { ok = puts (block_read 4611686018427387904).reads (λ x. x) _ _ tt (takes_gives (block_read 4611686018427387904).reads 4611686018427387904 _ _ taken.0 tt taken.1 (taken.1.size, taken.2.0 c.if-not-branch.false)); refused = tt; place = tt; same = tt }
+    record {
+      ok = puts (block_read 4611686018427387904).reads (λ x. x) _ _ tt
+          (takes_gives (block_read 4611686018427387904).reads 4611686018427387904 _ _ taken.0 tt taken.1 (taken.1.size, taken.2.0 c.if-not-branch.false));
+      refused = tt;
+      place = tt;
+      same = tt;
+    }

@@ -15,4 +15,8 @@ pub returns : goal.returns
 returns g c =
     let t = arrays_takes _ _ _ _ _ c.in_ok-bytes.ensures.ok c.consume_unchecked.ensures in
     let small : get_or c.in_ok-bytes.bytes 0 0 < 256 = search rules in
-    record { ok = takes_gives (IsLength byte_scheme c.args._prealloc) 1 _ _ _ _ t (byte_length c.args._prealloc _ _ small (one_byte _ t.size)); refused = tt; place = tt }
+    record {
+      ok = takes_gives (IsLength byte_scheme c.args._prealloc) 1 _ _ _ _ t (byte_length c.args._prealloc _ _ small (one_byte _ t.size));
+      refused = tt;
+      place = tt;
+    }

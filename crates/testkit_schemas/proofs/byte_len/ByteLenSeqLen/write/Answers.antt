@@ -21,4 +21,9 @@ returns g c =
     let n = c.args.len in
     let small : n < 256 = search rules in
     let is = byte_encoding n small in
-    record { ok = encoding_wrote (length_write byte_scheme) n (n ∷ []) is (sym (ap encoding_len is)) _ _ (n ∷ [], is) c.in_ok-write.ensures.ok; value = tt; refused = tt; place = tt }
+    record {
+      ok = encoding_wrote (length_write byte_scheme) n (n ∷ []) is (sym (ap encoding_len is)) _ _ (n ∷ [], is) c.in_ok-write.ensures.ok;
+      value = tt;
+      refused = tt;
+      place = tt;
+    }

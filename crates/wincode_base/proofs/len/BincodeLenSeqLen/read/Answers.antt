@@ -22,7 +22,12 @@ returns-in-Some-2 g c =
     let taken = c.in_ok-len.ensures.ok in
     let first = c.in-Some.ensures in
     let needed : c.in-Some.needed ≡ min (c.in_ok-len.len * c.args.prealloc) byte_limit = omega (arith, first.0, first.1) in
-    rw c.preallocation_size_limit.ensures (record { ok = tt; refused = length_not_accepted g.row.MAX_SIZE c.args.prealloc _ _ _ taken over _ _; place = (_, (taken, over, needed, refl)) })
+    rw c.preallocation_size_limit.ensures (record {
+      ok = tt;
+      refused = length_not_accepted g.row.MAX_SIZE c.args.prealloc _ _ _ taken over _ _;
+      place =
+          (_, (taken, over, needed, refl));
+    })
 
 pub returns-in-None : goal.returns-in-None
 returns-in-None g c =
@@ -31,4 +36,9 @@ returns-in-None g c =
     let over : g.row.MAX_SIZE < c.in_ok-len.len * c.args.prealloc = omega (arith, product) in
     let taken = c.in_ok-len.ensures.ok in
     let needed : byte_limit ≡ min (c.in_ok-len.len * c.args.prealloc) byte_limit = omega (arith, product) in
-    rw c.preallocation_size_limit-in-None.ensures (record { ok = tt; refused = length_not_accepted g.row.MAX_SIZE c.args.prealloc _ _ _ taken over _ _; place = (_, (taken, over, needed, refl)) })
+    rw c.preallocation_size_limit-in-None.ensures (record {
+      ok = tt;
+      refused = length_not_accepted g.row.MAX_SIZE c.args.prealloc _ _ _ taken over _ _;
+      place =
+          (_, (taken, over, needed, refl));
+    })

@@ -12,7 +12,8 @@ returns-then-first-lt128 c = (omega (arith, c.if-first-lt128.true), grouped_last
 pub returns-in_err-second : goal.returns-in_err-second
 returns-in_err-second c =
     let least : 128 ≤ c.in_ok-first.field-0-0.now = omega (arith, c.if-first-lt128.false) in
-    rw c.from_residual-in_err-second.ensures (λ n b. nothing_grouped 1 _ _ c.in_err-second.ensures.cases (grouped_after 1 _ c.in_ok-first.ensures.cases.0 n least b.1).1)
+    rw c.from_residual-in_err-second.ensures (λ n b. nothing_grouped 1 _ _ c.in_err-second.ensures.cases
+    (grouped_after 1 _ c.in_ok-first.ensures.cases.0 n least b.1).1)
 
 pub returns-then-second-eq0 : goal.returns-then-second-eq0
 returns-then-second-eq0 c = λ n b.
@@ -24,8 +25,11 @@ pub returns-then-second-lt128 : goal.returns-then-second-lt128
 returns-then-second-lt128 c =
     let least : 128 ≤ c.in_ok-first.field-0-0.now = omega (arith, c.if-first-lt128.false) in
     let most : c.in_ok-first.field-0-0.now < 256 = search rules in
-    let some : 0 < c.in_ok-second.field-0-0.now = omega (arith, c.if-second-eq0.false) in
-    (omega (arith, most, c.if-second-lt128.true), grouped_before 1 _ c.in_ok-first.ensures.cases.0 _ least most some (grouped_last 1 _ c.in_ok-second.ensures.cases.0 c.if-second-lt128.true))
+    let some : 0 < c.in_ok-second.field-0-0.now = omega (arith, c.if-second-eq0.false) in (
+      omega (arith, most, c.if-second-lt128.true),
+      grouped_before 1 _ c.in_ok-first.ensures.cases.0 _ least most some
+          (grouped_last 1 _ c.in_ok-second.ensures.cases.0 c.if-second-lt128.true),
+    )
 
 pub returns-in_err-third : goal.returns-in_err-third
 returns-in_err-third c =

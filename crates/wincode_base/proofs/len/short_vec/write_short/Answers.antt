@@ -9,10 +9,12 @@ pub returns-then-value-lt128-clause-err : goal.returns-then-value-lt128-clause-e
 returns-then-value-lt128-clause-err g c = rw (short_in_one _ c.if-value-lt128.true) c.write.ensures.err
 
 pub returns-then-high-lt128-clause-ok : goal.returns-then-high-lt128-clause-ok
-returns-then-high-lt128-clause-ok g c = rw (short_in_two c.args.value (omega (arith, c.if-value-lt128.false)) c.if-high-lt128.true) c.write-then-high-lt128.ensures.ok
+returns-then-high-lt128-clause-ok g c = rw (short_in_two c.args.value (omega (arith, c.if-value-lt128.false)) c.if-high-lt128.true)
+    c.write-then-high-lt128.ensures.ok
 
 pub returns-then-high-lt128-clause-err : goal.returns-then-high-lt128-clause-err
-returns-then-high-lt128-clause-err g c = rw (short_in_two c.args.value (omega (arith, c.if-value-lt128.false)) c.if-high-lt128.true) c.write-then-high-lt128.ensures.err
+returns-then-high-lt128-clause-err g c = rw (short_in_two c.args.value (omega (arith, c.if-value-lt128.false)) c.if-high-lt128.true)
+    c.write-then-high-lt128.ensures.err
 
 pub returns-clause-ok : goal.returns-clause-ok
 returns-clause-ok g c = rw (short_in_three c.args.value (omega (arith, c.if-high-lt128.false))) c.write-2.ensures.ok

@@ -23,7 +23,8 @@ loop-i-preserved g c =
     let l = c.loop-i in let n = c.args.count in let told = c.take.ensures in (
       record { start = told.places.start ∙ l.invariant.0.start; count = told.places.count ∙ l.invariant.0.count },
       omega (arith, l.invariant.1, told.places.count),
-      Filled-apart l.row.filled _ l.i false (l.i + 1) n told.filled (inl (omega arith)) (Filled-within l.row.filled l.i n (l.i + 1) n (omega arith) (omega arith) l.invariant.2),
+      Filled-apart l.row.filled _ l.i false (l.i + 1) n told.filled (inl (omega arith))
+          (Filled-within l.row.filled l.i n (l.i + 1) n (omega arith) (omega arith) l.invariant.2),
     )
 
 pub returns : goal.returns

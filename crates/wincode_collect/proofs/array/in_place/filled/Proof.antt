@@ -10,7 +10,33 @@ use seplogic.Ra.Ura.{Ura}
 use base.Fraction.{full_share}
 use base.Logic.{SProp, ent, sep, emp, wand, wand_i, apply∗, id⊢}
 use base.Fml.{ftrue, fat, froom, flft}
-use mir.Syntax.{Fn, Ty, Sym, Args, Dict, Callee, Width, w8, w16, w32, w64, w128, named, a_type, a_number, dcons, dnil, ty_int, ty_array, ty_struct, ty_enum, tcons, tnil, ttcons, ttnil}
+use mir.Syntax.{
+  Fn,
+  Ty,
+  Sym,
+  Args,
+  Dict,
+  Callee,
+  Width,
+  w8,
+  w16,
+  w32,
+  w64,
+  w128,
+  named,
+  a_type,
+  a_number,
+  dcons,
+  dnil,
+  ty_int,
+  ty_array,
+  ty_struct,
+  ty_enum,
+  tcons,
+  tnil,
+  ttcons,
+  ttnil,
+}
 use mir.Syntax.{Body, seq, assign, place, rv_opd, copy, aggregate, int}
 use mir.MapTy.{inst_fn}
 use mir.Val.{Val, vint, vstruct, vcons, vnil, of_list, bytes, has_ty, WT}
@@ -24,7 +50,41 @@ use contract.Lifetimes.{Lfts}
 use contract.Monad.{Fun, fact, fact_i}
 use contract.Running.{tables, tables_of}
 use sound.WpLaws.{fm_of, WpFn-mono}
-use types.Kit.{any_q, ‵, raw, ◌⊛◌, some, later, at_ret, ◌$◌, ◌∵◌, !, qed, by, move, keep, drop, use0, use1, use2, use3, split, split3, join, fsplit, fsplit3, fjoin, fpick, feq_i, feq_l, pick, rewrite, suffices, await, done}
+use types.Kit.{
+  any_q,
+  ‵,
+  raw,
+  ◌⊛◌,
+  some,
+  later,
+  at_ret,
+  ◌$◌,
+  ◌∵◌,
+  !,
+  qed,
+  by,
+  move,
+  keep,
+  drop,
+  use0,
+  use1,
+  use2,
+  use3,
+  split,
+  split3,
+  join,
+  fsplit,
+  fsplit3,
+  fjoin,
+  fpick,
+  feq_i,
+  feq_l,
+  pick,
+  rewrite,
+  suffices,
+  await,
+  done,
+}
 use types.Part.{whole, sub, agg}
 use types.Match.{live}
 use types.Run.{stop, fld, addr, from, load, look, lit, num_lit, align_word, no_more, and_then, of_opd, bin, first, blocks, branches, exec, returns, enter}
@@ -82,7 +142,23 @@ use types.Kit.{given, learn}
 use types.ByLocal.{lands_last, is}
 use Rattle.std_alloc.proofs.VecSteps.El.{El as Elem, no_al}
 use Rattle.std_alloc.proofs.vec.Blocks.{el, all as places-at}
-use Rattle.std_alloc.proofs.vec.Spares.{Row, row_Typed, parts_typed, Row-seen, from_key, into_key, From, at_from, Made, from_goes, from_gives, Into, at_into, Into-goes, Into-gives}
+use Rattle.std_alloc.proofs.vec.Spares.{
+  Row,
+  row_Typed,
+  parts_typed,
+  Row-seen,
+  from_key,
+  into_key,
+  From,
+  at_from,
+  Made,
+  from_goes,
+  from_gives,
+  Into,
+  at_into,
+  Into-goes,
+  Into-gives,
+}
 use Rattle.core.proofs.slots.Slots.from_raw_parts.Met as froms
 use Rattle.core.proofs.slots.Slots.into_raw_parts.Met as intos
 
@@ -100,7 +176,8 @@ alike w64 s h = (omega arith, tt, refl)
 alike w128 s h = (omega arith, tt, refl)
 
 laid_alike : (τ : Ty) → Alike (align τ) (size τ)
-laid_alike τ = subst (λ (a : ℕ). Alike a (size τ)) (sym (align-bytes τ)) (alike _ (size τ) (subst (λ (a : ℕ). size τ % a ≡ 0) (align-bytes τ) (dv→ (align τ) (size τ) (align_size τ))))
+laid_alike τ = subst (λ (a : ℕ). Alike a (size τ)) (sym (align-bytes τ))
+    (alike _ (size τ) (subst (λ (a : ℕ). size τ % a ≡ 0) (align-bytes τ) (dv→ (align τ) (size τ) (align_size τ))))
 
 abbrev wraps : Body
 wraps = seq (assign (place 19 []) (rv_opd (copy (place 20 [])))) (assign (place 18 []) (aggregate (int w8 0 ∷ copy (place 19 []) ∷ [])))
@@ -187,7 +264,8 @@ module _ (A : Elem) (X : RattleType) (n : ℕ) (g : Ghosts X.Denot A.row.Denot) 
     abbrev Puts : Contract 𝓤
     Puts = triple_of 𝓛 inner.signature (callee.spec E.row X g d d' 𝓛 at_mem run)
 
-    module _ (𝓣 : Tables 𝓤 H) (met : Triple 𝓤 (𝓣.C key) Puts) (from-met : Triple 𝓤 (𝓣.C (from_key A)) (From A 𝓛 at_mem run)) (into-met : Triple 𝓤 (𝓣.C (into_key A)) (Into A 𝓛 at_mem run)) (fn : n < 2 ^ 64) where
+    module _ (𝓣 : Tables 𝓤 H) (met : Triple 𝓤 (𝓣.C key) Puts) (from-met : Triple 𝓤 (𝓣.C (from_key A)) (From A 𝓛 at_mem run))
+        (into-met : Triple 𝓤 (𝓣.C (into_key A)) (Into A 𝓛 at_mem run)) (fn : n < 2 ^ 64) where
       abbrev held : Clauses 𝓤 ended
       held = F.clauses E.row X (number n) g d d' 𝓛 at_mem run
 
@@ -207,10 +285,12 @@ module _ (A : Elem) (X : RattleType) (n : ℕ) (g : Ghosts X.Denot A.row.Denot) 
       Said s r w = MatchResult r (λ ys. (length ys ≡ n) × GaveEach g.gives s ys w) (λ _. Stops g.gives s n w)
 
       exits : (z : Bound) (r : Out.Denot) (v : Val) (w : X.Denot) → Said z.0.3.0.now r w
-          → ent 𝓤 (sep 𝓤 (sem 𝓛 (Out.own_val r (v ∷ []))) (sep 𝓤 (sem 𝓛 (Gone z w)) (alive 𝓛 ended.signature z.0.0 z.0.1))) ((walk_of 𝓛 ended stayed held).post (spelled z) v)
+          → ent 𝓤 (sep 𝓤 (sem 𝓛 (Out.own_val r (v ∷ []))) (sep 𝓤 (sem 𝓛 (Gone z w)) (alive 𝓛 ended.signature z.0.0 z.0.1)))
+          ((walk_of 𝓛 ended stayed held).post (spelled z) v)
       exits z r v w said =
           qed 𝓛 (‵ (Out.own_val r (v ∷ [])) ∷ ‵ (Gone z w) ∷ raw (alive 𝓛 ended.signature z.0.0 z.0.1) ∷ []) ∵
-          suffices ! _ (ends_at 𝓛 ended stayed held (spelled z) v r (w, tt) (tt, tt)) $ says ! said $ nothing ! $ move ! (2 ∷ 0 ∷ []) $ fjoin ! $ move ! (2 ∷ 0 ∷ 1 ∷ []) $ done !
+          suffices ! _ (ends_at 𝓛 ended stayed held (spelled z) v r (w, tt) (tt, tt)) $ says ! said $ nothing ! $ move ! (2 ∷ 0 ∷ []) $ fjoin ! $ move !
+          (2 ∷ 0 ∷ 1 ∷ []) $ done !
 
       walk : (z : Bound) → Goes (spelled z)
       walk z =
@@ -219,10 +299,14 @@ module _ (A : Elem) (X : RattleType) (n : ℕ) (g : Ghosts X.Denot A.row.Denot) 
           let f = z.0.3.0 in let s : X.Denot = f.now in
           let τ : Ty = elτ E in let o : ℕ = capped (align τ) + 0 in
           let Post : Val → SProp 𝓤 = (walk_of 𝓛 ended stayed held).post (spelled z) in
-          qed 𝓛 (((‵ (flft κ q) ⊛ ‵ (flft κT qT) ⊛ ‵ (flft κX qX) ⊛ ‵ (flft κN qN) ⊛ ‵ ftrue) ⊛ ‵ (owns (types_at ended.signature.params z.0.0) z.0.3 (spelled z).0.4))
-          ∷ (raw (fact 𝓤 (κT ⊑ E.row.lives)) ⊛ raw (fact 𝓤 (κX ⊑ X.lives)) ⊛ raw (fact 𝓤 (κN ⊑ [])) ⊛ raw (fact 𝓤 (n * size τ < 2 ^ 63)) ⊛ raw (fact 𝓤 E.row.Denot)) ∷ []) ∵
-          move ! (1 ∷ []) $ split ! $ heard ! (κT ⊑ E.row.lives) (λ inT. split ! $ heard ! (κX ⊑ X.lives) (λ inX. split ! $ drop ! $ split ! $ heard ! (n * size τ < 2 ^ 63) (λ fit. heard ! E.row.Denot (λ x.
-          split ! $ split ! $ move ! (1 ∷ []) $ split ! $ move ! (1 ∷ []) $ split3 ! $ move ! (2 ∷ []) $ drop ! $ move ! (4 ∷ []) $ fsplit ! $ move ! (1 ∷ []) $ drop ! $ move ! (0 ∷ 4 ∷ 3 ∷ 1 ∷ 2 ∷ []) $
+          qed 𝓛 (((‵ (flft κ q) ⊛ ‵ (flft κT qT) ⊛ ‵ (flft κX qX) ⊛ ‵ (flft κN qN) ⊛ ‵ ftrue) ⊛ ‵
+          (owns (types_at ended.signature.params z.0.0) z.0.3 (spelled z).0.4))
+          ∷ (raw (fact 𝓤 (κT ⊑ E.row.lives)) ⊛ raw (fact 𝓤 (κX ⊑ X.lives)) ⊛ raw (fact 𝓤 (κN ⊑ [])) ⊛ raw (fact 𝓤 (n * size τ < 2 ^ 63)) ⊛ raw
+          (fact 𝓤 E.row.Denot)) ∷ []) ∵
+          move ! (1 ∷ []) $ split ! $ heard ! (κT ⊑ E.row.lives)
+          (λ inT. split ! $ heard ! (κX ⊑ X.lives) (λ inX. split ! $ drop ! $ split ! $ heard ! (n * size τ < 2 ^ 63) (λ fit. heard ! E.row.Denot (λ x.
+          split ! $ split ! $ move ! (1 ∷ []) $ split ! $ move ! (1 ∷ []) $ split3 ! $ move ! (2 ∷ []) $ drop ! $ move ! (4 ∷ []) $ fsplit ! $ move ! (1 ∷ [])
+          $ drop ! $ move ! (0 ∷ 4 ∷ 3 ∷ 1 ∷ 2 ∷ []) $
           -- [f; its token; T's; F's; N's]
           enter ! 𝓣.C 𝓣.Λ here (mut_vals f) _ $ alloc_all ! (λ l. pass_all ! refl ((tt, tt), tt) $
           let En : Env 𝓤 H = env here.locals l in let b : ℕ = l 2 in
@@ -241,8 +325,10 @@ module _ (A : Elem) (X : RattleType) (n : ℕ) (g : Ghosts X.Denot A.row.Denot) 
           -- [the places; the way back; f; its token; T's; F's; N's]
           first ! $ blocks ! $ sets ! (of_opd ! (get ! refl)) refl (tt, tt) $
           move ! (0 ∷ 4 ∷ []) $ use2 𝓛 (raw ((From A 𝓛 at_mem run).pre y)) (from_goes A 𝓛 at_mem run κT qT b o n xs fs inT (sym long) flagged fn fit) $
-          calls_at_last ! (fm_of 𝓤 H 𝓛.laws 𝓣) (From A 𝓛 at_mem run) from-met y (and_then ! (get ! refl) (and_then ! (num_lit ! (record { fits = fn })) (no_more !))) (λ v.
-          use1 𝓛 (later (some (λ (r : (Row A).Denot). given ((v ≡ row_val b o n) × Made A 𝓛 at_mem run κT qT b o n xs fs r) (‵ ((Row A).own_val r (row_val b o n ∷ [])) ⊛ ‵ (flft κT qT)))))
+          calls_at_last ! (fm_of 𝓤 H 𝓛.laws 𝓣) (From A 𝓛 at_mem run) from-met y
+          (and_then ! (get ! refl) (and_then ! (num_lit ! (record { fits = fn })) (no_more !))) (λ v.
+          use1 𝓛 (later (some (λ (r : (Row A).Denot). given ((v ≡ row_val b o n) × Made A 𝓛 at_mem run κT qT b o n xs fs r)
+          (‵ ((Row A).own_val r (row_val b o n ∷ [])) ⊛ ‵ (flft κT qT)))))
           (from_gives A 𝓛 at_mem run κT qT b o n xs fs v) $ await ! tt $ pick ! (λ new. learn ! (λ made. split ! $
           lands_last ! refl (row_Typed A v b o n made.0 fn) $ exec ! 𝓣.C 𝓣.Λ En (after 5 here.body) (at_ret En Post) $
           sets ! (is ! (of_opd ! (get ! refl)) made.0) refl (tt, words) $ sets ! (addr ! (through ! refl (stop !))) refl (tt, tt) $
@@ -251,12 +337,14 @@ module _ (A : Elem) (X : RattleType) (n : ℕ) (g : Ghosts X.Denot A.row.Denot) 
           let y' : Puts.Ghost = ((κs, (q, (qT, (qX, tt))), (z.0.2.0, tt), (new, (f, tt)), (row_val b o n ∷ [], (mut_vals f, tt))), tt) in
           move ! (3 ∷ []) $ nothing ! $ move ! (1 ∷ 0 ∷ []) $ fjoin ! $ move ! (1 ∷ 0 ∷ []) $ fjoin ! $
           nothing ! $ move ! (5 ∷ 0 ∷ []) $ join ! $ move ! (2 ∷ 0 ∷ []) $ join ! $ move ! (3 ∷ 0 ∷ []) $ join ! $ join ! $
-          nothing ! $ use0 𝓛 (raw (fact 𝓤 (κX ⊑ X.lives))) (fact_i 𝓤 (κX ⊑ X.lives) (emp 𝓤) inX) $ join ! $ use0 𝓛 (raw (fact 𝓤 (κT ⊑ E.row.lives))) (fact_i 𝓤 (κT ⊑ E.row.lives) (emp 𝓤) inT) $ join ! $
+          nothing ! $ use0 𝓛 (raw (fact 𝓤 (κX ⊑ X.lives))) (fact_i 𝓤 (κX ⊑ X.lives) (emp 𝓤) inX) $ join ! $ use0 𝓛 (raw (fact 𝓤 (κT ⊑ E.row.lives)))
+          (fact_i 𝓤 (κT ⊑ E.row.lives) (emp 𝓤) inT) $ join ! $
           move ! (1 ∷ 0 ∷ []) $ join ! $ use1 𝓛 (raw (Puts.pre y')) (id⊢ 𝓤 (Puts.pre y')) $
           calls_at ! (fm_of 𝓤 H 𝓛.laws 𝓣) Puts met y' (and_then ! (get ! refl) (and_then ! (get ! refl) (no_more !))) (λ got.
           let Told : Two.Denot → X.Denot → Type 0 = λ r w. MatchBool r.1 (IsFull r.0 × GaveEach g.gives s r.0.items w) (Stops g.gives s new.len w) in
           use1 𝓛 (later (some (λ (r : Two.Denot). ((‵ (flft κ q) ⊛ ‵ (flft κT qT) ⊛ ‵ (flft κX qX) ⊛ ‵ ftrue) ⊛ ‵ (Two.own_val r (got ∷ [])))
-          ⊛ some (λ (ws : Lasts inner κs (new, (f, tt))). ‵ (lasts inner κs (new, (f, tt)) ws) ⊛ raw (fact 𝓤 (SamePlaces new r.0)) ⊛ raw (fact 𝓤 (Told r ws.1.0)))))) (id⊢ 𝓤 (Puts.post y' got)) $
+          ⊛ some (λ (ws : Lasts inner κs (new, (f, tt))). ‵ (lasts inner κs (new, (f, tt)) ws) ⊛ raw (fact 𝓤 (SamePlaces new r.0)) ⊛ raw
+          (fact 𝓤 (Told r ws.1.0)))))) (id⊢ 𝓤 (Puts.post y' got)) $
           await ! tt $ pick ! (λ r. split ! $ move ! (1 ∷ []) $ pick ! (λ ws. split3 ! $ fsplit ! $ drop ! $ fsplit ! $ move ! (1 ∷ []) $ drop ! $
           move ! (1 ∷ []) $ heard ! (SamePlaces new r.0) (λ same. move ! (1 ∷ []) $ heard ! (Told r ws.1.0) (λ told.
           let back : el_d E = r.0 in let ys : List (el_x E) = back.items in let w : X.Denot = ws.1.0 in
@@ -273,17 +361,21 @@ module _ (A : Elem) (X : RattleType) (n : ℕ) (g : Ghosts X.Denot A.row.Denot) 
           first ! $ blocks ! $ sets ! (of_opd ! (get ! refl)) refl (tt, (tt, (record { fits = fl }, tt))) $
           use2 𝓛 (raw ((Into A 𝓛 at_mem run).pre yi)) (Into-goes A 𝓛 at_mem run κT qT back b' o' inT) $
           calls_at_last ! (fm_of 𝓤 H 𝓛.laws 𝓣) (Into A 𝓛 at_mem run) into-met yi (and_then ! (get ! refl) (no_more !)) (λ parts.
-          use1 𝓛 (later (given (parts ≡ row_val b' o' back.len) (‵ (places-at A b' o' ys back.filled) ⊛ ‵ (flft κT qT)))) (Into-gives A 𝓛 at_mem run κT qT back b' o' parts at') $ await ! tt $ learn ! (λ ev. split ! $
+          use1 𝓛 (later (given (parts ≡ row_val b' o' back.len) (‵ (places-at A b' o' ys back.filled) ⊛ ‵ (flft κT qT))))
+          (Into-gives A 𝓛 at_mem run κT qT back b' o' parts at') $ await ! tt $ learn ! (λ ev. split ! $
           lands_last ! refl (parts_typed parts b' o' back.len ev fl) $ exec ! 𝓣.C 𝓣.Λ En (after 11 here.body) (at_ret En Post) $
           sets ! (is ! (of_opd ! (get ! refl)) ev) refl (tt, (tt, (record { fits = fl }, tt))) $ sets ! (of_opd ! (get ! refl)) refl (tt, tt) $
           rewrite ! 0 (λ p. ‵ (slots (R E) p ys back.filled)) (sym at' ∙ same.start ∙ made.1.0) refl $
-          nothing ! $ move ! (7 ∷ 0 ∷ []) $ join ! $ move ! (3 ∷ 0 ∷ []) $ join ! $ move ! (2 ∷ 0 ∷ []) $ join ! $ move ! (2 ∷ 0 ∷ []) $ join ! $ move ! (1 ∷ 0 ∷ 3 ∷ []) $
+          nothing ! $ move ! (7 ∷ 0 ∷ []) $ join ! $ move ! (3 ∷ 0 ∷ []) $ join ! $ move ! (2 ∷ 0 ∷ []) $ join ! $ move ! (2 ∷ 0 ∷ []) $ join ! $ move !
+          (1 ∷ 0 ∷ 3 ∷ []) $
           -- [the places; the tokens; the way back; f's last value]
           first ! $ branches ! (get ! refl)
           (λ full. let gave = if_true r.1 _ _ full told in
-          use1 𝓛 (‵ (row (R E) full_share ys b o)) (to_row E 𝓛 b ys back.filled o flags (λ k lt. gave.0 k (omega arith) (subst (λ (m : ℕ). k < m) (sym back.ok.1) lt))) $
+          use1 𝓛 (‵ (row (R E) full_share ys b o)) (to_row E 𝓛 b ys back.filled o flags
+          (λ k lt. gave.0 k (omega arith) (subst (λ (m : ℕ). k < m) (sym back.ok.1) lt))) $
           feq_i ! ℕ (length ys) n all $ fjoin ! $ use1 𝓛 (‵ (part_at (Array (R E) n) full_share ys b o)) (Array-whole 𝓛 (R E) full_share n ys b o) $
-          use1 𝓛 (some (λ (v : Val). ‵ (fat full_share (ty_array τ n) b o v) ⊛ ‵ ((Array (R E) n).own_val ys (v ∷ [])))) (part_out 𝓛 (Array (R E) n) refl full_share ys b o) $ pick ! (λ v. split ! $ move ! (1 ∷ []) $
+          use1 𝓛 (some (λ (v : Val). ‵ (fat full_share (ty_array τ n) b o v) ⊛ ‵ ((Array (R E) n).own_val ys (v ∷ []))))
+          (part_out 𝓛 (Array (R E) n) refl full_share ys b o) $ pick ! (λ v. split ! $ move ! (1 ∷ []) $
           peeks ! (Array (R E) n) (Is (Array (R E) n)) (shows 𝓛 (Array (R E) n)) ys (v ∷ []) (λ is.
           let good : T (has_ty (ty_array τ n) v) × WT v = (((array_laws (R E) (param_laws 0 E.row E.laws) n).lawful 𝓛).typed ys (v ∷ []) is).0 in
           let out : Val = live 0 (vcons v vnil) in
@@ -297,13 +389,16 @@ module _ (A : Elem) (X : RattleType) (n : ℕ) (g : Ghosts X.Denot A.row.Denot) 
           use2 𝓛 (‵ (froom (option 𝓛 _ _ τ n b) b 0)) (apply∗ 𝓤 (H.room (ty_array τ n) b o) _) $ give_at ! 2 $
           returns ! (look_at ! 0 refl) $ free_all ! refl $ move ! (0 ∷ 2 ∷ []) $ by ! (exits z (Ok ys) out w (all, gave.1)))))
           (λ short. let v : Val = vstruct vnil in let out : Val = live 1 (vcons v vnil) in let typed : WT out = (record { fits = lit< tt }, (tt, tt)) in
-          use1 𝓛 (‵ (froom (ty_array τ (length ys)) b o)) (to_room E 𝓛 b ys back.filled o flags) $ rewrite ! 0 (λ (k : ℕ). ‵ (froom (ty_array τ k) b o)) all refl $
+          use1 𝓛 (‵ (froom (ty_array τ (length ys)) b o)) (to_room E 𝓛 b ys back.filled o flags) $ rewrite ! 0 (λ (k : ℕ). ‵ (froom (ty_array τ k) b o))
+          all refl $
           move ! (0 ∷ 2 ∷ []) $ use2 𝓛 (‵ (froom (option 𝓛 _ _ τ n b) b 0)) (apply∗ 𝓤 (H.room (ty_array τ n) b o) _) $ give_at ! 2 $
           sets ! (agg ! (no_more !)) refl (tt, tt) $ sets_last ! (agg ! (and_then ! (lit ! tt) (and_then ! (get ! refl) (no_more !)))) refl (tt, typed) $
           exec ! 𝓣.C 𝓣.Λ En (after 14 here.body) (at_ret En Post) $ sets ! (of_opd ! (get ! refl)) refl (tt, typed) $
-          owned ! (Struct (Declared.shape AE.the_type)) (Is (Struct (Declared.shape AE.the_type))) (Struct-Makes 𝓛 (Declared.shape AE.the_type) tt) tt (v ∷ []) (tt, (refl, tt)) $
+          owned ! (Struct (Declared.shape AE.the_type)) (Is (Struct (Declared.shape AE.the_type))) (Struct-Makes 𝓛 (Declared.shape AE.the_type) tt) tt (v ∷ [])
+          (tt, (refl, tt)) $
           use1 𝓛 (‵ (Out.own_val (Err (record {})) (out ∷ []))) (err_of 𝓛 Arr AE.the_row (record {}) v) $
-          returns ! (look_at ! 0 refl) $ free_all ! refl $ move ! (0 ∷ 2 ∷ []) $ by ! (exits z (Err (record {})) out w (subst (λ (k : ℕ). Stops g.gives s k w) made.1.1 (if_false r.1 _ _ short told)))))))))))))))))))))))
+          returns ! (look_at ! 0 refl) $ free_all ! refl $ move ! (0 ∷ 2 ∷ []) $ by !
+          (exits z (Err (record {})) out w (subst (λ (k : ℕ). Stops g.gives s k w) made.1.1 (if_false r.1 _ _ short told)))))))))))))))))))))))
 
       meets : Meets 𝓛 ended.signature (WpFn 𝓤 H 𝓣.C 𝓣.Λ here) (closing 𝓛 ended held)
       meets =
@@ -317,6 +412,8 @@ unfolding tables_of
 filled_spec 𝓤 𝓛 𝓜 𝓡 wired X Z n L LZ fn g d d' met md =
     let A : Elem = record { row = X; laws = L; al = no_al } in
     let 𝓣 : Tables 𝓤 𝓛.H = tables_of 𝓤 𝓛.H 𝓜 (tables 𝓤 𝓛.H 𝓜 𝓡 𝓡.env) in
-    entered 𝓤 𝓛.H (triple_of 𝓛 (ended A Z n g d d').signature (F.spec X Z (number n) g d d' 𝓛 𝓜.mem 𝓡.returns)) 𝓣.C 𝓣.Λ (#self (args A Z n g d d')) (here A Z n g d d') (code.unfolded 𝓤 𝓛.H 𝓜 𝓡 wired (X, (Z, (number n, tt))) d d')
+    entered 𝓤 𝓛.H (triple_of 𝓛 (ended A Z n g d d').signature (F.spec X Z (number n) g d d' 𝓛 𝓜.mem 𝓡.returns)) 𝓣.C 𝓣.Λ (#self (args A Z n g d d'))
+    (here A Z n g d d') (code.unfolded 𝓤 𝓛.H 𝓜 𝓡 wired (X, (Z, (number n, tt))) d d')
     (meets A Z n g d d' 𝓛 𝓜.mem 𝓡.returns 𝓣 (theirs.met 𝓤 𝓛 𝓜 𝓡 (code.calls-wincode_collect::array::in_place::put_all 𝓡.env wired) X Z L LZ g d d' met md)
-    (froms.met 𝓤 𝓛 𝓜 𝓡 (code.calls-core::slots::Slots::from_raw_parts 𝓡.env wired) X L) (intos.met 𝓤 𝓛 𝓜 𝓡 (code.calls-core::slots::Slots::into_raw_parts 𝓡.env wired) X L) fn.fits)
+    (froms.met 𝓤 𝓛 𝓜 𝓡 (code.calls-core::slots::Slots::from_raw_parts 𝓡.env wired) X L)
+    (intos.met 𝓤 𝓛 𝓜 𝓡 (code.calls-core::slots::Slots::into_raw_parts 𝓡.env wired) X L) fn.fits)

@@ -7,11 +7,13 @@ returns-in_err-first g c =
     let A = g.A.SchemaRead in
     let C = g.Rest.CasesRead in
     let o = c.in_err-first.ensures in
-    get_refused _ _ _ _ c.from_residual.ensures (first_refused g.row.TAG C.tag C.own A.reading C.part C.refused c.args.given _ _ _ c.if-given.true (o.refused, o.place))
+    get_refused _ _ _ _ c.from_residual.ensures (first_refused g.row.TAG C.tag C.own A.reading C.part C.refused c.args.given _ _ _ c.if-given.true
+    (o.refused, o.place))
 
 pub returns-in_err-other : goal.returns-in_err-other
 returns-in_err-other g c =
     let A = g.A.SchemaRead in
     let C = g.Rest.CasesRead in
     let o = c.in_err-other.ensures in
-    get_refused _ _ _ _ c.from_residual-in_err-other.ensures (other_refused g.row.TAG C.tag C.own A.reading C.part C.refused c.args.given _ _ _ c.if-given.false (o.refused, o.place))
+    get_refused _ _ _ _ c.from_residual-in_err-other.ensures (other_refused g.row.TAG C.tag C.own A.reading C.part C.refused c.args.given _ _ _
+    c.if-given.false (o.refused, o.place))

@@ -12,7 +12,8 @@ returns-in_err-write_tag g c =
     let t = c.in_ok-tag.ensures.ok in
     let u = rw t.1 at c.in_err-write_tag.ensures.refused in
     let h = rw t.1 at c.in_err-write_tag.ensures.place in
-    write_refused _ _ _ _ _ c.from_residual-in_err-write_tag.ensures (enum_tag_unwritten laws k C.tag C.own C.part_laws v u) (enum_tag_halted laws k C.tag C.own C.part_laws v h)
+    write_refused _ _ _ _ _ c.from_residual-in_err-write_tag.ensures (enum_tag_unwritten laws k C.tag C.own C.part_laws v u)
+    (enum_tag_halted laws k C.tag C.own C.part_laws v h)
 
 pub returns : goal.returns
 returns g c =

@@ -10,7 +10,8 @@ returns-in-Ok-clause-ok g c =
     let within = c.in-Ok.ensures.within in
     record {
       piece = slice_range bytes at (at + c.in-Ok.n);
-      behind = came_behind c.make_room.new.bytes.value.items bytes c.args.self.now c.in_ok-place.place at c.in-Ok.n (omega arith) c.in-Ok.ensures.front (c.in_ok-place.ensures.same ∙ c.self.view_is);
+      behind = came_behind c.make_room.new.bytes.value.items bytes c.args.self.now c.in_ok-place.place at c.in-Ok.n (omega arith) c.in-Ok.ensures.front
+          (c.in_ok-place.ensures.same ∙ c.self.view_is);
       size = range_length bytes at c.in-Ok.n within.0;
       step = within.1;
       gave = c.in-Ok.ensures.ok;
@@ -19,4 +20,5 @@ returns-in-Ok-clause-ok g c =
 pub returns-in-Err-clause-kept : goal.returns-in-Err-clause-kept
 returns-in-Err-clause-kept g c =
     let at = c.in_ok-place.place + (c.self.inside.end - c.self.inside.place) in
-    same_front c.read_behind.new.bytes.value.items c.make_room.new.bytes.value.items c.in_ok-place.place at (omega arith) c.in-Err.ensures.front ∙ (c.in_ok-place.ensures.same ∙ c.self.view_is)
+    same_front c.read_behind.new.bytes.value.items c.make_room.new.bytes.value.items c.in_ok-place.place at (omega arith) c.in-Err.ensures.front
+    ∙ (c.in_ok-place.ensures.same ∙ c.self.view_is)

@@ -13,13 +13,17 @@ returns-clause-ok g c =
     let n = c.args.n in
     elim c.match-form_size.branch [
       | in-Some w ↦
-          let all = YieldsList-from_map _ T.value (chunks_yield T.size n b (search (arith, rules)) (search rules) (search rules) c.requires) w.map.ensures.closure (λ x r q k. (search rules, k.met)) in
+          let all = YieldsList-from_map _ T.value (chunks_yield T.size n b (search (arith, rules)) (search rules) (search rules) c.requires)
+          w.map.ensures.closure (λ x r q k. (search rules, k.met)) in
           let h = items_from_extend w.extend-added.result w.extend-added.ensures.ran all in
           appended (ap (λ v. v.items) w.into-is ∙ (went w.extend-added.result (search rules) h).0) c.reserve.ensures.items (chunk_values T.value T.size n b)
       | in-Some-2 w ↦
-          let all = YieldsList-from_map _ (λ i. T.value []) (YieldsList-from_range 0 n n (search rules) (search (arith, rules))) w.map-in-Some-2.ensures.closure (λ x r q k. (search rules, k.met)) in
+          let all = YieldsList-from_map _ (λ i. T.value []) (YieldsList-from_range 0 n n (search rules) (search (arith, rules)))
+          w.map-in-Some-2.ensures.closure (λ x r q k. (search rules, k.met)) in
           let h = items_from_extend w.extend-added-in-Some-2.result w.extend-added-in-Some-2.ensures.ran all in
-          appended (ap (λ v. v.items) w.into-is ∙ (went w.extend-added-in-Some-2.result (search rules) h).0) c.reserve.ensures.items (same_values T.value T.size n b (search (arith, rules)))
+          appended (ap (λ v. v.items) w.into-is ∙ (went w.extend-added-in-Some-2.result (search rules) h).0) c.reserve.ensures.items
+          (same_values T.value T.size n b (search (arith, rules)))
       | in-None w ↦
-          appended (ap (λ v. v.items) w.into-is ∙ sym (append-nil c.reserve.new.self.items)) c.reserve.ensures.items (sym (no_values T.value T.size byte_limit n b (search rules) c.requires (search (arith, rules))))
+          appended (ap (λ v. v.items) w.into-is ∙ sym (append-nil c.reserve.new.self.items)) c.reserve.ensures.items
+          (sym (no_values T.value T.size byte_limit n b (search rules) c.requires (search (arith, rules))))
     ]

@@ -14,7 +14,8 @@ loop-rest-preserved g c =
     let more = c.split_at.result.1.now in
     let so_far = c.loop-rest.invariant in
     let done = length xs - length rest in
-    let cut : rest ≡ block ++ more = sym (take-append-drop c.min.result rest) ∙ ap (λ l. l ++ drop c.min.result rest) (sym c.split_at.ensures.front) ∙ ap (λ l. block ++ l) (sym c.split_at.ensures.back) in
+    let cut : rest ≡ block ++ more = sym (take-append-drop c.min.result rest) ∙ ap (λ l. l ++ drop c.min.result rest) (sym c.split_at.ensures.front)
+    ∙ ap (λ l. block ++ l) (sym c.split_at.ensures.back) in
     let left = sym so_far.rest ∙ cut in
     let put = c.put_forms.ensures in
     let wrote = c.write_ready.ensures in
@@ -23,7 +24,8 @@ loop-rest-preserved g c =
     let long = length-joined T.form T.size block (λ k d h. g.T.ZeroCopy.byte_form.long _ (put.is_valid k d h)) in
     let ready = rw put.forms at wrote.ready in
     record {
-      took = took_more xs block more done left g.met.W.Writer.writer_laws T.form T.size (W.state c.args.writer.now) (W.state c.loop-rest.writer) _ (λ k d h. g.T.ZeroCopy.byte_form.long _ (so_far.is_valid k d h)) (λ k d h. g.T.ZeroCopy.byte_form.long _ (put.is_valid k d h))
+      took = took_more xs block more done left g.met.W.Writer.writer_laws T.form T.size (W.state c.args.writer.now) (W.state c.loop-rest.writer) _
+          (λ k d h. g.T.ZeroCopy.byte_form.long _ (so_far.is_valid k d h)) (λ k d h. g.T.ZeroCopy.byte_form.long _ (put.is_valid k d h))
           (omega (arith, c.requires.room, g.met.W.Writer.ready_room c.args.writer.now)) so_far.took (rw put.forms at wrote.took);
       rest = left_more xs block more done left;
       within = omega (arith, so_far.within, counts);

@@ -27,7 +27,8 @@ loop-value-preserved g c =
           never_fails = wrote.took.same.never_fails ∙ so_far.took.same.never_fails;
         };
         content = wrote.took.content ∙ ap (λ t. W.put t (form v)) so_far.took.content
-            ∙ g.met.W.Writer.writer_laws.join old front (form v) (omega (arith, size, so_far.long, c.requires, g.met.W.Writer.ready_room c.args.writer.now, fits))
+            ∙ g.met.W.Writer.writer_laws.join old front (form v)
+            (omega (arith, size, so_far.long, c.requires, g.met.W.Writer.ready_room c.args.writer.now, fits))
             ∙ ap (λ x. W.put old (front ++ form x)) at
             ∙ ap (W.put old) (form_more form s vs i v c.loop-value-test.true so_far.long);
       };

@@ -27,7 +27,8 @@ loop-rest-preserved g c =
     let size : length run ≡ n = search rules in
     let written : n * T.size ≡ length run * T.size = ap (λ k. k * T.size) (sym size) in
     record {
-      took = took_more xs run more done left g.met.W.Writer.writer_laws T.form T.size (W.state c.args.writer.now) (W.state c.loop-rest.writer) _ (λ k d h. g.T.ZeroCopy.byte_form.long _ (so_far.is_valid k d h)) (λ k d h. g.T.ZeroCopy.byte_form.long _ (is_valid k d h))
+      took = took_more xs run more done left g.met.W.Writer.writer_laws T.form T.size (W.state c.args.writer.now) (W.state c.loop-rest.writer) _
+          (λ k d h. g.T.ZeroCopy.byte_form.long _ (so_far.is_valid k d h)) (λ k d h. g.T.ZeroCopy.byte_form.long _ (is_valid k d h))
           (omega (arith, c.requires.room, g.met.W.Writer.ready_room c.args.writer.now)) so_far.took took;
       rest = left_more xs run more done left;
       within = omega (arith, so_far.within, counts);

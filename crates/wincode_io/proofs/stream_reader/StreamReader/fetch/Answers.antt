@@ -12,4 +12,5 @@ pub returns-in_err-more-clause-refused : goal.returns-in_err-more-clause-refused
 returns-in_err-more-clause-refused g c =
     let p = err_from_is_err_and c.from_residual.result c.from_residual.ensures.1 in
     let short = c.in_err-more.ensures.refused c.args.n (search rules) in
-    rw (p.1, p.2) (stream_refused_on g.S.Source.state c.args.n c.args.self.now c.loop-self.self c.more.new.self c.in_err-more.field-0.0 c.loop-self.invariant.sound short)
+    rw (p.1, p.2) (stream_refused_on g.S.Source.state c.args.n c.args.self.now c.loop-self.self c.more.new.self c.in_err-more.field-0.0
+    c.loop-self.invariant.sound short)

@@ -11,7 +11,8 @@ loop-i-init g c =
     let stays : g.R.Reader.state c.read_at_once.new.reader ≡ g.R.Reader.state c.args.reader.now = search rules in
     let size : c.len-before.result ≡ length c.args.into.now.items = search rules in
     let same : c.match-front_at_hand.into.items ≡ c.args.into.now.items = elim c.match-front_at_hand.branch [
-      | in-Some-front_at_hand+else-take_items w ↦ ap (λ v. v.items) w.into-is ∙ cut_back _ _ _ _ _ size (w.take_items.ensures.1 ∙ ap (λ t. t ++ w.take_items.ensures.0) (c.reserve.ensures.items ∙ still)) w.truncate.ensures.items
+      | in-Some-front_at_hand+else-take_items w ↦ ap (λ v. v.items) w.into-is
+          ∙ cut_back _ _ _ _ _ size (w.take_items.ensures.1 ∙ ap (λ t. t ++ w.take_items.ensures.0) (c.reserve.ensures.items ∙ still)) w.truncate.ensures.items
       | in_default-front_at_hand w ↦ ap (λ v. v.items) w.into-is ∙ c.reserve.ensures.items ∙ still
     ] in
     rw stays (adds_none T.reading.reads T.model _ _ _ same)
@@ -20,7 +21,8 @@ pub loop-i-preserved : goal.loop-i-preserved
 loop-i-preserved g c =
     let T = g.Self.SchemaRead in
     let pushed : c.push.new.self.items ≡ c.loop-i.into.items ++ (c.in-Some-item.value ∷ []) = rw c.if-is_err-2.ensures.negation at c.push.ensures.items in
-    adds_more T.reading.reads T.model _ _ _ _ _ _ _ _ c.loop-i.invariant (put_gives T.reading.reads T.model _ _ _ _ c.in_default-read.ensures.ok c.in-Some-item.is) pushed
+    adds_more T.reading.reads T.model _ _ _ _ _ _ _ _ c.loop-i.invariant
+    (put_gives T.reading.reads T.model _ _ _ _ c.in_default-read.ensures.ok c.in-Some-item.is) pushed
 
 pub returns-then-is_err : goal.returns-then-is_err
 returns-then-is_err g c =
@@ -41,14 +43,16 @@ returns-in-Err g c =
     let size : c.len-before.result ≡ length c.args.into.now.items = search rules in
     record {
       ok = tt;
-      refused = items_refused T.reading.reads g.met.Self.SchemaRead.read_laws.one_front c.loop-i._i c.args.n T.reading.borrow T.reading.takes_no_memory c.loop-i-test.true _ _ _ _ _ c.loop-i.invariant.gives o.refused;
+      refused = items_refused T.reading.reads g.met.Self.SchemaRead.read_laws.one_front c.loop-i._i c.args.n T.reading.borrow T.reading.takes_no_memory
+          c.loop-i-test.true _ _ _ _ _ c.loop-i.invariant.gives o.refused;
       place = λ dynamic. item_stopped c.args.n T.reading c.loop-i._i _ _ _ _ _ c.loop-i-test.true c.loop-i.invariant.gives (o.refused, o.place);
       same = cut_back _ _ _ _ _ size c.loop-i.invariant.is c.truncate-in-Err.ensures.items;
     }
 
 pub returns-then-is_err-2 : goal.returns-then-is_err-2
 returns-then-is_err-2 g c = let T = g.Self.SchemaRead in
-    let all = items_more T.reading.reads _ _ _ _ _ _ c.loop-i.invariant.gives (put_gives T.reading.reads T.model _ _ _ _ c.in_default-read.ensures.ok c.in-Some-item.is) in
+    let all = items_more T.reading.reads _ _ _ _ _ _ c.loop-i.invariant.gives
+    (put_gives T.reading.reads T.model _ _ _ _ c.in_default-read.ensures.ok c.in-Some-item.is) in
     let l : c.loop-i._i + 1 ≤ c.args.n = omega (arith, c.loop-i-test.true) in
     let size : c.len-before.result ≡ length c.args.into.now.items = search rules in
     let kept : c.push.new.self.items ≡ c.loop-i.into.items = rw c.if-is_err-2.ensures.negation at c.push.ensures.items in

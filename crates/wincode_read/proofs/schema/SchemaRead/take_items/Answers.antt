@@ -20,17 +20,26 @@ pub returns-then-not-decode : goal.returns-then-not-decode
 returns-then-not-decode g c =
     let T = g.Self.SchemaRead in
     let pushed : c.push.new.self.items ≡ c.loop-i.into.items ++ (c.in-Some.blank ∷ []) = rw c.if-is_err.ensures.negation at c.push.ensures.items in
-    let size : c.len-last.result ≡ length c.loop-i.into.items = search rules in
-    (c.loop-i.invariant.items ++ (c.decode.new.place ∷ []), ap (λ k. slice_set c.push.new.self.items k c.decode.new.place) size ∙ put_last T.reading.reads T.model _ _ _ _ _ _ c.loop-i.invariant.is pushed, λ t. absurd (cc t))
+    let size : c.len-last.result ≡ length c.loop-i.into.items = search rules in (
+      c.loop-i.invariant.items ++ (c.decode.new.place ∷ []),
+      ap (λ k. slice_set c.push.new.self.items k c.decode.new.place) size
+          ∙ put_last T.reading.reads T.model _ _ _ _ _ _ c.loop-i.invariant.is pushed,
+      λ t. absurd (cc t),
+    )
 
 pub loop-i-preserved : goal.loop-i-preserved
 loop-i-preserved g c =
     let T = g.Self.SchemaRead in
     let pushed : c.push.new.self.items ≡ c.loop-i.into.items ++ (c.in-Some.blank ∷ []) = rw c.if-is_err.ensures.negation at c.push.ensures.items in
     let size : c.len-last.result ≡ length c.loop-i.into.items = search rules in
-    rw size (added_more T.reading.reads T.model _ _ _ c.in-Static.size _ _ _ _ _ _ _ c.loop-i.invariant pushed c.split_at.ensures.front c.split_at.ensures.back (c.if-not-decode.ensures refl))
+    rw size (added_more T.reading.reads T.model _ _ _ c.in-Static.size _ _ _ _ _ _ _ c.loop-i.invariant pushed c.split_at.ensures.front c.split_at.ensures.back
+    (c.if-not-decode.ensures refl))
 
 pub returns : goal.returns
 returns g c =
-    let T = g.Self.SchemaRead in
-    (c.loop-i.invariant.items, c.loop-i.invariant.is, λ t. added_all T.reading.reads T.model _ _ c.loop-i._i _ _ _ c.loop-i.invariant (omega (arith, c.loop-i-test.false, c.loop-i.auto._i-end)) (search (rules, t)))
+    let T = g.Self.SchemaRead in (
+      c.loop-i.invariant.items,
+      c.loop-i.invariant.is,
+      λ t. added_all T.reading.reads T.model _ _ c.loop-i._i _ _ _ c.loop-i.invariant
+          (omega (arith, c.loop-i-test.false, c.loop-i.auto._i-end)) (search (rules, t)),
+    )

@@ -9,7 +9,8 @@ pub loop-place-preserved : goal.loop-place-preserved
 loop-place-preserved g c =
     let T = g.Self.SchemaRead in
     let within : c.loop-place.place-index < length c.loop-place.places = omega (arith, c.loop-place-test.true, c.loop-place.auto.places) in
-    decoded_more T.reading.reads T.model _ _ _ c.in-Static.size c.loop-place.places _ _ _ c.loop-place.invariant within c.split_at.ensures.front c.split_at.ensures.back (c.if-not-decode.ensures refl)
+    decoded_more T.reading.reads T.model _ _ _ c.in-Static.size c.loop-place.places _ _ _ c.loop-place.invariant within c.split_at.ensures.front
+    c.split_at.ensures.back (c.if-not-decode.ensures refl)
 
 pub returns : goal.returns
 returns g c = λ t.

@@ -18,4 +18,6 @@ returns-clause-ok g c =
     let follows = rw c.in_ok-bytes.was at c.fill_exact.follows.holds-at-none in
     let shown = c.in_ok-bytes.ensures.shown in
     let size = c.in-Some.ensures in
-    forms_added g.T.ZeroCopy.byte_form c.args.n _ _ _ c.in_ok-bytes.bytes.now _ _ (are_bytes c.in_ok-bytes.bytes.now c.add_forms.ensures.small) (rw size at shown.0) (rw size at shown.1) follows.0 (rw size at c.consume_unchecked.ensures) (went_well c.add_forms.result c.if-is_err.ensures.negation c.add_forms.ensures.ok)
+    forms_added g.T.ZeroCopy.byte_form c.args.n _ _ _ c.in_ok-bytes.bytes.now _ _ (are_bytes c.in_ok-bytes.bytes.now c.add_forms.ensures.small)
+    (rw size at shown.0) (rw size at shown.1) follows.0 (rw size at c.consume_unchecked.ensures)
+    (went_well c.add_forms.result c.if-is_err.ensures.negation c.add_forms.ensures.ok)

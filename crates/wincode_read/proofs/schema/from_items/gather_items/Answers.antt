@@ -21,7 +21,8 @@ returns-in_err-item g c =
     let T = g.T.SchemaRead in
     let o = c.in_err-item.ensures in
     make_refused (items_read c.args.n T.reading) T.model _ _ _ c.from_residual.ensures (
-      items_refused T.reading.reads g.met.T.SchemaRead.read_laws.one_front c.loop-i._i c.args.n T.reading.borrow T.reading.takes_no_memory c.loop-i-test.true _ _ _ _ _ c.loop-i.invariant.1 o.refused,
+      items_refused T.reading.reads g.met.T.SchemaRead.read_laws.one_front c.loop-i._i c.args.n T.reading.borrow T.reading.takes_no_memory c.loop-i-test.true _
+          _ _ _ _ c.loop-i.invariant.1 o.refused,
       λ dynamic. item_stopped c.args.n T.reading c.loop-i._i _ _ _ _ _ c.loop-i-test.true c.loop-i.invariant.1 (o.refused, o.place),
     )
 

@@ -9,7 +9,9 @@ use Rattle.wincode_base.proofs.Runs.{known_size, run_each, run_encoding, run_pla
 use Rattle.wincode_read.proofs.schema.from_items.get_run.Goals as goal
 
 pub returns-in-Unknown : goal.returns-in-Unknown
-returns-in-Unknown g c = let T = g.T.SchemaRead.reading in let S = g.T.SchemaRead.model in make_map (items_read c.args.n T) S _ (run_read c.args.n c.args.size T) c.from_items.result (λ vs x. x) (λ e p. (p.0, run_each T c.args.n c.args.size c.in-Unknown.is c.requires.size _ _ e p.1)) c.from_items.ensures
+returns-in-Unknown g c = let T = g.T.SchemaRead.reading in let S = g.T.SchemaRead.model in
+    make_map (items_read c.args.n T) S _ (run_read c.args.n c.args.size T) c.from_items.result (λ vs x. x)
+    (λ e p. (p.0, run_each T c.args.n c.args.size c.in-Unknown.is c.requires.size _ _ e p.1)) c.from_items.ensures
 
 pub returns-in_err-window-in-Some : goal.returns-in_err-window-in-Some
 returns-in_err-window-in-Some g c = let T = g.T.SchemaRead.reading in let S = g.T.SchemaRead.model in
@@ -26,8 +28,12 @@ returns-in_ok-window-in-Some g c = let T = g.T.SchemaRead.reading in let S = g.T
     let is = sym c.times.ensures ∙ c.in-Some.is in
     let sized = run_encoding T c.args.n c.args.size c.in-Some.total c.requires.size is in
     let w = c.in_ok-window-in-Some.ensures.ok in
-    make_map (items_read c.args.n T) S _ (run_read c.args.n c.args.size T) c.from_items-in-Some.result (λ vs x. run_gives T c.args.n c.in-Some.total sized _ _ _ _ vs w x)
-    (λ e p. (window_refuses (AreItems c.args.n T.reads) c.in-Some.total sized T.borrow false _ _ _ _ e w p.0, run_placed T c.args.n c.args.size c.in-Some.total is _ _ e (inr (_, _, w, p.1)))) c.from_items-in-Some.ensures
+    make_map (items_read c.args.n T) S _ (run_read c.args.n c.args.size T) c.from_items-in-Some.result
+    (λ vs x. run_gives T c.args.n c.in-Some.total sized _ _ _ _ vs w x)
+    (λ e p. (
+      window_refuses (AreItems c.args.n T.reads) c.in-Some.total sized T.borrow false _ _ _ _ e w p.0,
+      run_placed T c.args.n c.args.size c.in-Some.total is _ _ e (inr (_, _, w, p.1)),
+    )) c.from_items-in-Some.ensures
 
 pub returns-in-None : goal.returns-in-None
 returns-in-None g c = let T = g.T.SchemaRead.reading in let S = g.T.SchemaRead.model in

@@ -11,7 +11,9 @@ returns-in_ok-window-in-Static g c =
     let is = sym c.type_meta.ensures ∙ c.in-Static.is in
     let sized = sized_of T.reads _ _ _ g.met.T.SchemaRead.read_laws.statics is in
     let w = c.in_ok-window-in-Static.ensures.ok in
-    get_map T _ _ _ c.get.result (λ d x. window_gives T.reads _ sized _ _ _ _ _ w x) (λ e x. (window_refuses T.reads _ sized T.borrow T.takes_no_memory _ _ _ _ e w x.0, static_place T.meta _ _ e T.refused is (inr (_, _, w, x.1)))) c.get.ensures
+    get_map T _ _ _ c.get.result (λ d x. window_gives T.reads _ sized _ _ _ _ _ w x)
+    (λ e x. (window_refuses T.reads _ sized T.borrow T.takes_no_memory _ _ _ _ e w x.0, static_place T.meta _ _ e T.refused is (inr (_, _, w, x.1))))
+    c.get.ensures
 
 pub returns-in_err-window-in-Static : goal.returns-in_err-window-in-Static
 returns-in_err-window-in-Static g c =
@@ -26,4 +28,5 @@ returns-in_err-window-in-Static g c =
 pub returns-in-Dynamic : goal.returns-in-Dynamic
 returns-in-Dynamic g c =
     let T = g.T.SchemaRead.reading in
-    get_map T _ _ _ c.get-in-Dynamic.result (λ d x. x) (λ e x. (x.0, dynamic_place T.meta _ _ e T.refused (sym c.type_meta.ensures ∙ c.in-Dynamic.is) x.1)) c.get-in-Dynamic.ensures
+    get_map T _ _ _ c.get-in-Dynamic.result (λ d x. x) (λ e x. (x.0, dynamic_place T.meta _ _ e T.refused (sym c.type_meta.ensures ∙ c.in-Dynamic.is) x.1))
+    c.get-in-Dynamic.ensures

@@ -12,7 +12,11 @@ pub returns-then-is_err : goal.returns-then-is_err
 returns-then-is_err g c =
     let follows = rw c.in_ok-bytes.was at c.fill_exact.follows.holds-at-none in
     let shown = c.in_ok-bytes.ensures.shown in
-    record { each = record { ok = tt; refused = wanted_refuses _ _ _ _ follows.0; place = search rules; same = search rules }; at_once = bytes_wanted c.args.n _ _ _ follows.0 shown.0 shown.1 }
+    record {
+      each = record { ok = tt; refused = wanted_refuses _ _ _ _ follows.0; place = search rules; same = search rules };
+      at_once =
+          bytes_wanted c.args.n _ _ _ follows.0 shown.0 shown.1;
+    }
 
 pub returns : goal.returns
 returns g c =
@@ -20,7 +24,8 @@ returns g c =
     let shown = c.in_ok-bytes.ensures.shown in
     record {
       each = record {
-        ok = bytes_added c.args.n _ _ _ c.in_ok-bytes.bytes.now _ _ c.add_bytes.ensures.small shown.0 shown.1 follows.0 c.consume_unchecked.ensures (went_well c.add_bytes.result c.if-is_err.ensures.negation c.add_bytes.ensures.ok);
+        ok = bytes_added c.args.n _ _ _ c.in_ok-bytes.bytes.now _ _ c.add_bytes.ensures.small shown.0 shown.1 follows.0 c.consume_unchecked.ensures
+            (went_well c.add_bytes.result c.if-is_err.ensures.negation c.add_bytes.ensures.ok);
         refused = tt;
         place = tt;
         same = tt;

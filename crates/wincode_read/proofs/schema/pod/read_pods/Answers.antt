@@ -14,10 +14,23 @@ returns-in-Some g c =
     let T = g.T.ZeroCopy in
     let within : T.size ≤ byte_limit = search rules in
     let o = c.read_all.ensures in
-    record { each = add_at_once c.args.n (pod_read T.is_valid T.size T.form) (λ v. v) _ _ c.read_all.result (form_is_sized T.size true within) o.ok o.err o.same; at_once = o.at_once }
+    record {
+      each = add_at_once c.args.n (pod_read T.is_valid T.size T.form) (λ v. v) _ _ c.read_all.result (form_is_sized T.size true within)
+          o.ok o.err o.same;
+      at_once = o.at_once;
+    }
 
 pub returns-in-None : goal.returns-in-None
-returns-in-None g c = record { each = record { ok = forms_none g.T.ZeroCopy.byte_form c.args.n _ c.args.into.now.items (search rules); refused = tt; place = tt; same = tt }; at_once = tt }
+returns-in-None g c = record {
+  each = record {
+    ok = forms_none g.T.ZeroCopy.byte_form c.args.n _ c.args.into.now.items (search rules);
+    refused = tt;
+    place =
+        tt;
+    same = tt;
+  };
+  at_once = tt;
+}
 
 pub returns-in-None-2 : goal.returns-in-None-2
 returns-in-None-2 g c =
@@ -28,7 +41,13 @@ returns-in-None-2 g c =
     let vast : byte_limit < s = search rules in
     let reads = (pod_read T.is_valid s T.form).reads in
     let old = g.R.Reader.state c.args.reader.now in
-    let stays : Stays old old = record { kept = record { lends = refl; never_fails = refl; counts_windows = refl; is_known = refl }; rest = λ t. refl; ready = omega arith; place = refl } in
+    let stays : Stays old old = record {
+      kept = record { lends = refl; never_fails = refl; counts_windows = refl; is_known = refl };
+      rest = λ t. refl;
+      ready =
+          omega arith;
+      place = refl;
+    } in
     rw c.read_length_encoding_overflow.ensures (record {
       each = record {
         ok = tt;

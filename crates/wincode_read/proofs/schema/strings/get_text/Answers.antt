@@ -13,4 +13,5 @@ returns-in_err-n g c =
 pub returns : goal.returns
 returns g c =
     let n = c.in_ok-n.ensures.ok in
-    get_map (body_read c.in_ok-n.n 0 false) _ (str_read 24 0 false) _ c.take_text.result (λ s p. text_gives 24 0 false _ _ _ _ _ n p) (λ e p. (text_second 24 0 false _ _ _ _ e n p.0, inr (_, _, n, p.1))) c.take_text.ensures
+    get_map (body_read c.in_ok-n.n 0 false) _ (str_read 24 0 false) _ c.take_text.result (λ s p. text_gives 24 0 false _ _ _ _ _ n p)
+    (λ e p. (text_second 24 0 false _ _ _ _ e n p.0, inr (_, _, n, p.1))) c.take_text.ensures

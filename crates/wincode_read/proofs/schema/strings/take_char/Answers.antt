@@ -26,7 +26,8 @@ returns-in_err-text g c =
     let peeked = c.in_ok-lead.ensures.ok in
     let fills = rw c.in_ok-bytes.was at c.fill_exact.follows.holds-at-none in
     let shown = c.in_ok-bytes.ensures.shown in
-    let r = char_not _ _ _ c.in_ok-lead.lead _ _ c.in_err-text.field-0.0 c.announced-count.ensures peeked.0 peeked.1 fills.0 shown.0 shown.1 (c.in_err-text.ensures.cases.0, c.in_err-text.ensures.valid_len, c.in_err-text.ensures.fault) in
+    let r = char_not _ _ _ c.in_ok-lead.lead _ _ c.in_err-text.field-0.0 c.announced-count.ensures peeked.0 peeked.1 fills.0 shown.0 shown.1
+    (c.in_err-text.ensures.cases.0, c.in_err-text.ensures.valid_len, c.in_err-text.ensures.fault) in
     let u = char_refuses _ _ (reading.InvalidUtf8Encoding c.in_err-text.field-0.0) r in search (rules, u, r)
 
 pub returns : goal.returns
@@ -36,4 +37,9 @@ returns g c =
     let shown = c.in_ok-bytes.ensures.shown in
     let text = c.in_ok-text.ensures.cases in
     let steps = c.in-Some.ensures.steps in
-    record { ok = char_gives _ _ _ _ c.in_ok-lead.lead _ c.in-Some.found _ _ c.announced-count.ensures peeked.0 peeked.1 fills.0 shown.0 shown.1 text.1 (sym text.0 ∙ sym c.chars.ensures.rest ∙ steps.0) c.consume_unchecked.ensures; refused = tt; place = tt }
+    record {
+      ok = char_gives _ _ _ _ c.in_ok-lead.lead _ c.in-Some.found _ _ c.announced-count.ensures peeked.0 peeked.1 fills.0 shown.0 shown.1 text.1
+          (sym text.0 ∙ sym c.chars.ensures.rest ∙ steps.0) c.consume_unchecked.ensures;
+      refused = tt;
+      place = tt;
+    }

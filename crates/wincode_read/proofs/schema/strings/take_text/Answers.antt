@@ -11,12 +11,18 @@ use Rattle.wincode_read.proofs.schema.strings.take_text.Goals as goal
 pub returns-in_err-bytes : goal.returns-in_err-bytes
 returns-in_err-bytes g c =
     let d = c.in_err-bytes.ensures.err in
-    let h = body_refuses ⊥ (Unit {0}) c.args.n 0 false (g.R.Reader.state c.args.reader.now) (g.R.Reader.state c.copy_bytes.new.reader) c.in_err-bytes.field-0.0 (λ x. absurd x) (λ x. refl) d in search (rules, h, d)
+    let h = body_refuses ⊥ (Unit {0}) c.args.n 0 false (g.R.Reader.state c.args.reader.now) (g.R.Reader.state c.copy_bytes.new.reader) c.in_err-bytes.field-0.0
+    (λ x. absurd x) (λ x. refl) d in search (rules, h, d)
 
 pub returns-in-Ok : goal.returns-in-Ok
 returns-in-Ok g c =
     let vec = c.in-Ok.ensures.ok in
-    record { ok = body_gives _ _ _ _ _ (arrays_takes _ _ _ _ _ c.in_ok-bytes.ensures.ok c.consume_unchecked.ensures) (ap (λ v. v.items) vec) (IsUtf8-string_bytes c.in-Ok.text); refused = tt; place = tt }
+    record {
+      ok = body_gives _ _ _ _ _ (arrays_takes _ _ _ _ _ c.in_ok-bytes.ensures.ok c.consume_unchecked.ensures) (ap (λ v. v.items) vec)
+          (IsUtf8-string_bytes c.in-Ok.text);
+      refused = tt;
+      place = tt;
+    }
 
 pub returns-in-Err : goal.returns-in-Err
 returns-in-Err g c =
@@ -26,6 +32,7 @@ returns-in-Err g c =
     let fault = subst P (sym text.valid_len) text.fault in
     rw c.invalid_utf8_encoding.ensures (rw c.utf8_error.ensures (record {
       ok = tt;
-      refused = body_refuses ⊥ (Unit {0}) c.args.n 0 false _ _ (reading.InvalidUtf8Encoding _) (λ x. absurd x) (λ x. refl) (_, takes, (λ u. absurd (cc (text.succeeds u)), text.valid_len, fault));
+      refused = body_refuses ⊥ (Unit {0}) c.args.n 0 false _ _ (reading.InvalidUtf8Encoding _) (λ x. absurd x) (λ x. refl)
+          (_, takes, (λ u. absurd (cc (text.succeeds u)), text.valid_len, fault));
       place = (_, takes, (λ u. absurd (cc (text.succeeds u)), text.valid_len, fault));
     }))

@@ -12,13 +12,24 @@ returns-in_err-value-in-1 g c =
     let o = c.in_err-value-in-1.ensures in
     let one : c.in_ok-tag.tag ≡ 1 = omega arith in
     let t = subst (Gives (number_read k true).reads (g.R.Reader.state c.args.reader.now) (g.R.Reader.state c.read_tag.new.reader)) one c.in_ok-tag.ensures.ok in
-    get_refused _ _ _ _ c.from_residual-in_err-value-in-1.ensures (some_refused k (some_bytes g.met.Tag.TagCode.tag_law) g.T.SchemaRead.reading _ _ _ _ _ refl t o.refused, inr (_, t, (o.refused, o.place)))
+    get_refused _ _ _ _ c.from_residual-in_err-value-in-1.ensures
+    (some_refused k (some_bytes g.met.Tag.TagCode.tag_law) g.T.SchemaRead.reading _ _ _ _ _ refl t o.refused, inr (_, t, (o.refused, o.place)))
 
 pub returns-in_ok-value-in-1 : goal.returns-in_ok-value-in-1
-returns-in_ok-value-in-1 g c = record { ok = some_gives g.Tag.TagCode.size (some_bytes g.met.Tag.TagCode.tag_law) g.T.SchemaRead.reading _ _ _ _ c.in_ok-tag.tag (omega arith) c.in_ok-tag.ensures.ok c.in_ok-value-in-1.ensures.ok; refused = tt; place = tt }
+returns-in_ok-value-in-1 g c = record {
+  ok = some_gives g.Tag.TagCode.size (some_bytes g.met.Tag.TagCode.tag_law)
+      g.T.SchemaRead.reading _ _ _ _ c.in_ok-tag.tag (omega arith) c.in_ok-tag.ensures.ok c.in_ok-value-in-1.ensures.ok;
+  refused = tt;
+  place = tt;
+}
 
 pub returns-in_default : goal.returns-in_default
 returns-in_default g c =
     let t = c.in_ok-tag.ensures.ok in
     let two : 2 ≤ c.in_ok-tag.tag = omega arith in
-    rw c.invalid_tag_encoding.ensures (record { ok = tt; refused = option_bad g.Tag.TagCode.size (some_bytes g.met.Tag.TagCode.tag_law) g.T.SchemaRead.reading _ _ _ _ two t; place = inl (two, t) })
+    rw c.invalid_tag_encoding.ensures (record {
+      ok = tt;
+      refused =
+          option_bad g.Tag.TagCode.size (some_bytes g.met.Tag.TagCode.tag_law) g.T.SchemaRead.reading _ _ _ _ two t;
+      place = inl (two, t);
+    })

@@ -12,10 +12,18 @@ returns-in_err-value-in-0 g c =
     let o = c.in_err-value-in-0.ensures in
     let is : c.in_ok-side.side ≡ 0 = omega arith in
     let t = subst (Gives (number_read k true).reads (g.R.Reader.state c.args.reader.now) (g.R.Reader.state c.read_tag.new.reader)) is c.in_ok-side.ensures.ok in
-    get_refused _ _ _ _ c.from_residual-in_err-value-in-0.ensures (ok_refused k (some_bytes g.met.Tag.TagCode.tag_law) g.T.SchemaRead.reading g.E.SchemaRead.reading _ _ _ _ _ refl t o.refused, inr (inl (_, t, (o.refused, o.place))))
+    get_refused _ _ _ _ c.from_residual-in_err-value-in-0.ensures (
+      ok_refused k (some_bytes g.met.Tag.TagCode.tag_law) g.T.SchemaRead.reading g.E.SchemaRead.reading _ _ _ _ _ refl t o.refused,
+      inr (inl (_, t, (o.refused, o.place))),
+    )
 
 pub returns-in_ok-value-in-0 : goal.returns-in_ok-value-in-0
-returns-in_ok-value-in-0 g c = record { ok = ok_gives g.Tag.TagCode.size (some_bytes g.met.Tag.TagCode.tag_law) g.T.SchemaRead.reading g.E.SchemaRead.reading _ _ _ _ c.in_ok-side.side (omega arith) c.in_ok-side.ensures.ok c.in_ok-value-in-0.ensures.ok; refused = tt; place = tt }
+returns-in_ok-value-in-0 g c = record {
+  ok = ok_gives g.Tag.TagCode.size (some_bytes g.met.Tag.TagCode.tag_law)
+      g.T.SchemaRead.reading g.E.SchemaRead.reading _ _ _ _ c.in_ok-side.side (omega arith) c.in_ok-side.ensures.ok c.in_ok-value-in-0.ensures.ok;
+  refused = tt;
+  place = tt;
+}
 
 pub returns-in_err-error-in-1 : goal.returns-in_err-error-in-1
 returns-in_err-error-in-1 g c =
@@ -23,13 +31,27 @@ returns-in_err-error-in-1 g c =
     let o = c.in_err-error-in-1.ensures in
     let is : c.in_ok-side.side ≡ 1 = omega arith in
     let t = subst (Gives (number_read k true).reads (g.R.Reader.state c.args.reader.now) (g.R.Reader.state c.read_tag.new.reader)) is c.in_ok-side.ensures.ok in
-    get_refused _ _ _ _ c.from_residual-in_err-error-in-1.ensures (err_refused k (some_bytes g.met.Tag.TagCode.tag_law) g.T.SchemaRead.reading g.E.SchemaRead.reading _ _ _ _ _ refl t o.refused, inr (inr (_, t, (o.refused, o.place))))
+    get_refused _ _ _ _ c.from_residual-in_err-error-in-1.ensures (
+      err_refused k (some_bytes g.met.Tag.TagCode.tag_law) g.T.SchemaRead.reading g.E.SchemaRead.reading _ _ _ _ _ refl t o.refused,
+      inr (inr (_, t, (o.refused, o.place))),
+    )
 
 pub returns-in_ok-error-in-1 : goal.returns-in_ok-error-in-1
-returns-in_ok-error-in-1 g c = record { ok = err_gives g.Tag.TagCode.size (some_bytes g.met.Tag.TagCode.tag_law) g.T.SchemaRead.reading g.E.SchemaRead.reading _ _ _ _ c.in_ok-side.side (omega arith) c.in_ok-side.ensures.ok c.in_ok-error-in-1.ensures.ok; refused = tt; place = tt }
+returns-in_ok-error-in-1 g c = record {
+  ok = err_gives g.Tag.TagCode.size (some_bytes g.met.Tag.TagCode.tag_law)
+      g.T.SchemaRead.reading g.E.SchemaRead.reading _ _ _ _ c.in_ok-side.side (omega arith) c.in_ok-side.ensures.ok c.in_ok-error-in-1.ensures.ok;
+  refused = tt;
+  place = tt;
+}
 
 pub returns-in_default : goal.returns-in_default
 returns-in_default g c =
     let t = c.in_ok-side.ensures.ok in
     let two : 2 ≤ c.in_ok-side.side = omega arith in
-    rw c.invalid_tag_encoding.ensures (record { ok = tt; refused = result_bad g.Tag.TagCode.size (some_bytes g.met.Tag.TagCode.tag_law) g.T.SchemaRead.reading g.E.SchemaRead.reading _ _ _ _ two t; place = inl (two, t) })
+    rw c.invalid_tag_encoding.ensures (record {
+      ok = tt;
+      refused =
+          result_bad g.Tag.TagCode.size (some_bytes g.met.Tag.TagCode.tag_law) g.T.SchemaRead.reading g.E.SchemaRead.reading _ _ _ _ two t;
+      place =
+          inl (two, t);
+    })

@@ -19,4 +19,9 @@ returns g c =
     let T = g.T.ZeroCopy in
     let takes = rw c.in-Some.ensures at c.in_ok-bytes.ensures.ok.takes in
     let same = ap (λ b. T.value (g.B.Lent.Held.holds b)) (sym c.over.ensures) in
-    record { ok = subst (Gives (reads_form T.is_valid T.form) _ _) same (form_gives g.T.ZeroCopy.byte_form _ _ _ takes c.in_ok-bytes.ensures.bytes); refused = tt; place = tt }
+    record {
+      ok = subst (Gives (reads_form T.is_valid T.form) _ _) same (form_gives g.T.ZeroCopy.byte_form _ _ _ takes c.in_ok-bytes.ensures.bytes);
+      refused =
+          tt;
+      place = tt;
+    }

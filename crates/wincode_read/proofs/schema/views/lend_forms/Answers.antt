@@ -16,4 +16,5 @@ returns g c =
     let borrow = g.B.Borrowed.borrow in
     let items = form_item_read T.is_valid T.size T.form in
     let n = c.in_ok-n.ensures.ok in
-    get_map (lent_run borrow T.size items _) _ (forms_read T.is_valid T.size T.form borrow) _ c.lend_run.result (λ v p. lent_gives items _ _ _ _ _ n p) (λ e p. (lent_second items borrow _ _ _ _ e n p.0, inr (_, _, n, p.1))) c.lend_run.ensures
+    get_map (lent_run borrow T.size items _) _ (forms_read T.is_valid T.size T.form borrow) _ c.lend_run.result (λ v p. lent_gives items _ _ _ _ _ n p)
+    (λ e p. (lent_second items borrow _ _ _ _ e n p.0, inr (_, _, n, p.1))) c.lend_run.ensures

@@ -14,4 +14,8 @@ returns g c =
     let takes = rw c.in-Some.ensures at c.in_ok-bytes.ensures.ok.takes in
     let few : c.args.n ≤ byte_limit = search rules in
     let within : c.args.n * g.T.ZeroCopy.size ≤ byte_limit = search rules in
-    record { ok = rw (c.over.ensures.forms, c.over.ensures.n) (run_gives g.T.ZeroCopy.byte_form c.args.n _ _ _ few within takes c.in_ok-bytes.ensures.bytes); refused = tt; place = tt }
+    record {
+      ok = rw (c.over.ensures.forms, c.over.ensures.n) (run_gives g.T.ZeroCopy.byte_form c.args.n _ _ _ few within takes c.in_ok-bytes.ensures.bytes);
+      refused = tt;
+      place = tt;
+    }

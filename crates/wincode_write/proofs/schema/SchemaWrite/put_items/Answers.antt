@@ -9,7 +9,8 @@ pub loop-i-preserved : goal.loop-i-preserved
 loop-i-preserved g c =
     let T = g.Self.SchemaWrite in
     let size : length c.encode.new.dst ≡ c.in-Static.size = search rules in
-    sized_more T.writing T.model T.is_valid c.args.items.now c.loop-i.i c.in-Static.size _ c.index-items-i.result c.loop-i-test.true c.index-items-i.is c.loop-i.dst c.encode.new.dst c.loop-i.invariant size (c.if-not-encode.ensures refl)
+    sized_more T.writing T.model T.is_valid c.args.items.now c.loop-i.i c.in-Static.size _ c.index-items-i.result c.loop-i-test.true c.index-items-i.is
+    c.loop-i.dst c.encode.new.dst c.loop-i.invariant size (c.if-not-encode.ensures refl)
 
 pub returns : goal.returns
 returns g c =

@@ -7,5 +7,6 @@ use Rattle.wincode_write.proofs.schema.SchemaWrite.write_items.Given as goal
 -- so far the items were written
 abbrev pub invariant-loop-item : goal.invariant-loop-item
 invariant-loop-item g l =
-    Wrote (items_write g.Self.SchemaWrite.writing) (g.W.Writer.state l.fn.writer) (g.W.Writer.state l.writer) (map g.Self.SchemaWrite.model (take l.item-index l.items))
+    Wrote (items_write g.Self.SchemaWrite.writing) (g.W.Writer.state l.fn.writer) (g.W.Writer.state l.writer)
+    (map g.Self.SchemaWrite.model (take l.item-index l.items))
     × Each g.Self.SchemaWrite.is_valid (take l.item-index l.items)

@@ -17,4 +17,13 @@ returns-in_err-write g c =
 pub returns : goal.returns
 returns g c =
     let small : AreSmall c.args.items.now = search rules in
-    record { each = record { ok = bytes_wrote c.args.items.now small c.in_ok-write.ensures.ok; value = each_small c.args.items.now small; refused = tt; place = tt }; at_once = tt }
+    record {
+      each = record {
+        ok = bytes_wrote c.args.items.now small c.in_ok-write.ensures.ok;
+        value = each_small c.args.items.now small;
+        refused = tt;
+        place =
+            tt;
+      };
+      at_once = tt;
+    }

@@ -11,11 +11,21 @@ returns-in_err-write_forms g c =
     let some : 0 < length c.args.items.now = search rules in
     let w = pod_writes g.T.ZeroCopy.byte_form true (form_prealloc T.size) in
     let u = forms_unwritten w c.args.items.now _ _ laws _ e.err (λ v. (search rules, (e.vast v).1)) in
-    let p = forms_halted w c.args.items.now _ _ laws _ e.err (λ v. (search rules, (e.vast v).1)) (λ a. pods_refused T.is_valid T.size T.form true (form_prealloc T.size) c.args.items.now _ _ some a) in
+    let p = forms_halted w c.args.items.now _ _ laws _ e.err (λ v. (search rules, (e.vast v).1))
+    (λ a. pods_refused T.is_valid T.size T.form true (form_prealloc T.size) c.args.items.now _ _ some a) in
     let b = at_once (length c.args.items.now * T.size) _ _ _ (λ l. e.err l) (λ l. (search rules, (e.vast l).1)) in search (rules, u, p, b)
 
 pub returns : goal.returns
 returns g c =
     let T = g.T.ZeroCopy in
     let o = c.in_ok-write_forms.ensures in
-    record { each = record { ok = forms_wrote (pod_writes g.T.ZeroCopy.byte_form true (form_prealloc T.size)) c.args.items.now _ _ g.T.ZeroCopy.byte_form o.is_valid o.ok; value = all_each T.is_valid c.args.items.now o.is_valid; refused = tt; place = tt }; at_once = tt }
+    record {
+      each = record {
+        ok = forms_wrote (pod_writes g.T.ZeroCopy.byte_form true (form_prealloc T.size))
+            c.args.items.now _ _ g.T.ZeroCopy.byte_form o.is_valid o.ok;
+        value = all_each T.is_valid c.args.items.now o.is_valid;
+        refused = tt;
+        place = tt;
+      };
+      at_once = tt;
+    }

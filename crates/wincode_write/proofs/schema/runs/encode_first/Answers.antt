@@ -9,7 +9,8 @@ pub slice_bounds-encode_front-count : goal.slice_bounds-encode_front-count
 slice_bounds-encode_front-count g c = c.loop-i.invariant.within
 
 pub returns-in-None-clause-within : goal.returns-in-None-clause-within
-returns-in-None-clause-within g c = let T = g.T.SchemaWrite in (filled_same T.writing T.model T.is_valid c.args.items.now c.loop-i.i c.loop-i.filled _ c.loop-i.dst c.encode_front.new.dst c.loop-i.invariant).within
+returns-in-None-clause-within g c = let T = g.T.SchemaWrite in
+    (filled_same T.writing T.model T.is_valid c.args.items.now c.loop-i.i c.loop-i.filled _ c.loop-i.dst c.encode_front.new.dst c.loop-i.invariant).within
 
 pub returns-in-None-clause-encoded : goal.returns-in-None-clause-encoded
 returns-in-None-clause-encoded g c =
@@ -23,7 +24,8 @@ returns-in-None-clause-is_valid g c = c.loop-i.invariant.each
 pub loop-i-preserved : goal.loop-i-preserved
 loop-i-preserved g c =
     let T = g.T.SchemaWrite in
-    filled_more T.writing T.model T.is_valid c.args.items.now c.loop-i.i c.loop-i.filled c.in-Some.size _ c.index-items-i.result c.loop-i-test.true c.index-items-i.is c.loop-i.dst c.encode_front.new.dst c.loop-i.invariant c.in-Some.ensures
+    filled_more T.writing T.model T.is_valid c.args.items.now c.loop-i.i c.loop-i.filled c.in-Some.size _ c.index-items-i.result c.loop-i-test.true
+    c.index-items-i.is c.loop-i.dst c.encode_front.new.dst c.loop-i.invariant c.in-Some.ensures
 
 pub returns-clause-within : goal.returns-clause-within
 returns-clause-within g c = c.loop-i.invariant.within

@@ -7,7 +7,10 @@ use Rattle.wincode_write.proofs.Fronts.{run_wrote}
 use Rattle.wincode_write.proofs.schema.runs.write_many.Goals as goal
 
 pub loop-rest-init : goal.loop-rest-init
-loop-rest-init g c = (record { done = []; joins = refl; items = items_wrote_none g.met.W.Writer.writer_laws g.T.SchemaWrite.write_laws _; each = tt }, omega arith)
+loop-rest-init g c = (
+  record { done = []; joins = refl; items = items_wrote_none g.met.W.Writer.writer_laws g.T.SchemaWrite.write_laws _; each = tt },
+  omega arith,
+)
 
 pub returns-in_err-write_items : goal.returns-in_err-write_items
 returns-in_err-write_items g c =
@@ -39,8 +42,11 @@ loop-rest-preserved g c =
     let filled = c.encode_first-count.result.1 in
     let bytes = c.encode_first-count.new.dst in
     let front = take-append-le filled bytes (drop c.min-room.result c.loop-rest.block) o.within in
-    let ready = g.met.W.Writer.ready_room c.loop-rest.writer in
-    (run_wrote laws T.write_laws count filled bytes _ c.loop-rest.invariant.0 c.split_at-else-count-eq0.ensures.back o.encoded o.is_valid front (search (rules, ready)) c.write_ready.ensures.took, omega arith)
+    let ready = g.met.W.Writer.ready_room c.loop-rest.writer in (
+      run_wrote laws T.write_laws count filled bytes _ c.loop-rest.invariant.0 c.split_at-else-count-eq0.ensures.back o.encoded o.is_valid front
+          (search (rules, ready)) c.write_ready.ensures.took,
+      omega arith,
+    )
 
 pub returns : goal.returns
 returns g c =

@@ -7,4 +7,5 @@ decreases-loop-rest g l = length l.rest
 
 -- the items before those that are left were written, and some go on at a time
 abbrev pub invariant-loop-rest : goal.invariant-loop-rest
-invariant-loop-rest g l = let T = g.T.SchemaWrite in WritesSoFar T.writing T.model T.is_valid (g.W.Writer.state l.fn.writer) (g.W.Writer.state l.writer) l.items l.rest × (0 < l.apart)
+invariant-loop-rest g l = let T = g.T.SchemaWrite in WritesSoFar T.writing T.model T.is_valid (g.W.Writer.state l.fn.writer) (g.W.Writer.state l.writer)
+    l.items l.rest × (0 < l.apart)

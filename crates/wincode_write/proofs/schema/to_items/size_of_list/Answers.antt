@@ -19,10 +19,13 @@ returns-in_err-length-clause-err g c =
     passed (SizeRefused (list_write g.Len.SeqLen.scheme g.row.COUNT T.writing) (map T.model xs)) _ _ c.from_residual.ensures h
 
 pub returns-clause-ok : goal.returns-clause-ok
-returns-clause-ok g c = IfOk-weaker c.add_sizes.result _ _ (λ n p. size_summed g.Len.SeqLen.scheme g.row.COUNT g.T.SchemaWrite.writing g.T.SchemaWrite.model (g.C.ToItems.listed c.args.src.now) _ n (rw c.count.ensures.count at c.in_ok-length.ensures.ok.0) (rw c.count.ensures.count at c.in_ok-length.ensures.ok.1) p) c.add_sizes.ensures.ok
+returns-clause-ok g c = IfOk-weaker c.add_sizes.result _ _ (λ n p. size_summed g.Len.SeqLen.scheme g.row.COUNT g.T.SchemaWrite.writing g.T.SchemaWrite.model
+    (g.C.ToItems.listed c.args.src.now) _ n (rw c.count.ensures.count at c.in_ok-length.ensures.ok.0) (rw c.count.ensures.count at c.in_ok-length.ensures.ok.1)
+    p) c.add_sizes.ensures.ok
 
 pub returns-clause-err : goal.returns-clause-err
-returns-clause-err g c = IfErr-weaker c.add_sizes.result _ _ (λ e p. size_unsummed g.Len.SeqLen.scheme g.row.COUNT g.T.SchemaWrite.writing g.T.SchemaWrite.model (g.C.ToItems.listed c.args.src.now) _ e (rw c.count.ensures.count at c.in_ok-length.ensures.ok.1) p) c.add_sizes.ensures.err
+returns-clause-err g c = IfErr-weaker c.add_sizes.result _ _ (λ e p. size_unsummed g.Len.SeqLen.scheme g.row.COUNT g.T.SchemaWrite.writing
+    g.T.SchemaWrite.model (g.C.ToItems.listed c.args.src.now) _ e (rw c.count.ensures.count at c.in_ok-length.ensures.ok.1) p) c.add_sizes.ensures.err
 
 pub returns-in_err-length-clause-unencoded : goal.returns-in_err-length-clause-unencoded
 returns-in_err-length-clause-unencoded g c =

@@ -11,8 +11,10 @@ pub returns-in_err-write : goal.returns-in_err-write
 returns-in_err-write g c =
     let T = g.T.SchemaWrite in
     let o = c.in_err-write.ensures in
-    let u = items_stopped c.args.items.now c.loop-item.item-index c.item-item.result c.loop-item-test.true c.item-item.is T.model g.met.W.Writer.writer_laws g.T.SchemaWrite.write_laws c.loop-item.invariant.0 o.refused in
-    let s = each_place c.args.items.now c.loop-item.item-index c.item-item.result c.loop-item-test.true c.item-item.is T.model g.met.W.Writer.writer_laws g.T.SchemaWrite.write_laws c.loop-item.invariant.0 o.place in
+    let u = items_stopped c.args.items.now c.loop-item.item-index c.item-item.result c.loop-item-test.true c.item-item.is T.model g.met.W.Writer.writer_laws
+    g.T.SchemaWrite.write_laws c.loop-item.invariant.0 o.refused in
+    let s = each_place c.args.items.now c.loop-item.item-index c.item-item.result c.loop-item-test.true c.item-item.is T.model g.met.W.Writer.writer_laws
+    g.T.SchemaWrite.write_laws c.loop-item.invariant.0 o.place in
     write_refused _ _ _ _ _ c.from_residual.ensures (unwritten_map (items_write T.writing) (each_write T.writing) _ _ (λ x. x) refl (λ b w. w) u) s
 
 pub returns : goal.returns
@@ -29,6 +31,8 @@ loop-item-init g c = (items_wrote_none g.met.W.Writer.writer_laws g.T.SchemaWrit
 pub loop-item-preserved : goal.loop-item-preserved
 loop-item-preserved g c =
     let T = g.T.SchemaWrite in (
-      items_after c.args.items.now c.loop-item.item-index c.item-item.result c.loop-item-test.true c.item-item.is T.model g.met.W.Writer.writer_laws g.T.SchemaWrite.write_laws c.loop-item.invariant.0 c.in_ok-write.ensures.ok,
-      each_after c.args.items.now c.loop-item.item-index c.item-item.result c.loop-item-test.true c.item-item.is T.is_valid c.loop-item.invariant.1 c.in_ok-write.ensures.value,
+      items_after c.args.items.now c.loop-item.item-index c.item-item.result c.loop-item-test.true c.item-item.is T.model g.met.W.Writer.writer_laws
+          g.T.SchemaWrite.write_laws c.loop-item.invariant.0 c.in_ok-write.ensures.ok,
+      each_after c.args.items.now c.loop-item.item-index c.item-item.result c.loop-item-test.true c.item-item.is T.is_valid c.loop-item.invariant.1
+          c.in_ok-write.ensures.value,
     )

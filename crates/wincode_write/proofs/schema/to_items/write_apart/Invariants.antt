@@ -7,5 +7,6 @@ use Rattle.wincode_write.proofs.schema.to_items.write_apart.Given as goal
 -- so far the items were written
 abbrev pub invariant-loop-item : goal.invariant-loop-item
 invariant-loop-item g l =
-    Wrote (items_write g.T.SchemaWrite.writing) (g.W.Writer.state l.fn.writer) (g.W.Writer.state l.writer) (map g.T.SchemaWrite.model (take l.item-index l.items))
+    Wrote (items_write g.T.SchemaWrite.writing) (g.W.Writer.state l.fn.writer) (g.W.Writer.state l.writer)
+    (map g.T.SchemaWrite.model (take l.item-index l.items))
     × Each g.T.SchemaWrite.is_valid (take l.item-index l.items)

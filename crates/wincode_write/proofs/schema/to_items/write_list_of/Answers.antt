@@ -4,7 +4,24 @@ use Rattle.wincode_base.specs.Lists.{parts_write, list_write_of}
 use Rattle.wincode_base.specs.ListLaws.{parts_write_laws}
 use Rattle.wincode_base.proofs.WriteAnswers.{write_refused, write_map}
 use Rattle.wincode_base.proofs.InWindow.{room_unwritten}
-use Rattle.wincode_base.proofs.Runs.{known_size, list_size, list_over, unfit_unwritten, window_unwritten, window_stopped, whole_wrote, whole_unwritten, parts_halted, textless_halted, bytes_are, text_at, textless_at, span_is, span_halted, whole_room_halted}
+use Rattle.wincode_base.proofs.Runs.{
+  known_size,
+  list_size,
+  list_over,
+  unfit_unwritten,
+  window_unwritten,
+  window_stopped,
+  whole_wrote,
+  whole_unwritten,
+  parts_halted,
+  textless_halted,
+  bytes_are,
+  text_at,
+  textless_at,
+  span_is,
+  span_halted,
+  whole_room_halted,
+}
 use Rattle.wincode_write.proofs.schema.to_items.write_list_of.Goals as goal
 
 pub returns-in-Unknown-clause-outcome : goal.returns-in-Unknown-clause-outcome
@@ -18,7 +35,8 @@ returns-in-Unknown-clause-outcome g c =
     let vs = map T.model xs in
     let W = g.met.W.Writer.writer_laws in
     let laws = parts_write_laws s k g.C.ToItems.listed T.is_valid T.model T.writing g.T.SchemaWrite.write_laws in
-    write_map list vs _ (list_write_of s k z T.writing) vs _ _ (λ r. whole_wrote s k z T.writing vs r) (λ p. p) (λ e u. whole_unwritten s k z T.writing vs u) (λ e h. parts_halted s k z T.writing vs c.in-Unknown.is h) c.write_parts.ensures.outcome
+    write_map list vs _ (list_write_of s k z T.writing) vs _ _ (λ r. whole_wrote s k z T.writing vs r) (λ p. p) (λ e u. whole_unwritten s k z T.writing vs u)
+    (λ e h. parts_halted s k z T.writing vs c.in-Unknown.is h) c.write_parts.ensures.outcome
 
 pub returns-in_err-length-clause-outcome : goal.returns-in_err-length-clause-outcome
 returns-in_err-length-clause-outcome g c =
@@ -58,7 +76,8 @@ returns-in-None-clause-outcome g c =
       ok = tt;
       value = tt;
       refused = whole_unwritten s k z T.writing vs (unfit_unwritten list vs W laws _ _ (rw c.write_length_encoding_overflow.ensures tt) over);
-      place = span_halted s k z T.writing vs has _ (bytes_are s z _ _ _ _ many c.in_ok-length.ensures.ok.1 none) W known refl (refl, rw c.write_length_encoding_overflow.ensures refl);
+      place = span_halted s k z T.writing vs has _ (bytes_are s z _ _ _ _ many c.in_ok-length.ensures.ok.1 none) W known refl
+          (refl, rw c.write_length_encoding_overflow.ensures refl);
     }
 
 pub returns-in_err-make_room-clause-outcome : goal.returns-in_err-make_room-clause-outcome
@@ -74,7 +93,8 @@ returns-in_err-make_room-clause-outcome g c =
     let laws = parts_write_laws s k g.C.ToItems.listed T.is_valid T.model T.writing g.T.SchemaWrite.write_laws in
     let many = length-map xs T.model ∙ sym c.count-n.ensures.count in
     let known = known_size z c.in_default.not-Unknown in
-    let sized = list_size T.writing c.count-n.result vs many s k z c.requires.size c.in_ok-length.length c.in_ok-length.ensures.ok.1 c.in-Some.total (sym c.times_behind.ensures ∙ c.in-Some.is) in
+    let sized = list_size T.writing c.count-n.result vs many s k z c.requires.size c.in_ok-length.length c.in_ok-length.ensures.ok.1 c.in-Some.total
+    (sym c.times_behind.ensures ∙ c.in-Some.is) in
     let d = c.in_err-make_room.ensures.err in
     let u = whole_unwritten s k z T.writing vs (room_unwritten list vs c.in-Some.total sized.0 _ _ W laws _ _ _ d) in
     let has = text_at s _ _ many c.in_ok-length.ensures.ok.0 in
@@ -95,7 +115,8 @@ returns-in_err-write_parts-clause-outcome g c =
     let laws = parts_write_laws s k g.C.ToItems.listed T.is_valid T.model T.writing g.T.SchemaWrite.write_laws in
     let many = length-map xs T.model ∙ sym c.count-n.ensures.count in
     let known = known_size z c.in_default.not-Unknown in
-    let sized = list_size T.writing c.count-n.result vs many s k z c.requires.size c.in_ok-length.length c.in_ok-length.ensures.ok.1 c.in-Some.total (sym c.times_behind.ensures ∙ c.in-Some.is) in
+    let sized = list_size T.writing c.count-n.result vs many s k z c.requires.size c.in_ok-length.length c.in_ok-length.ensures.ok.1 c.in-Some.total
+    (sym c.times_behind.ensures ∙ c.in-Some.is) in
     let has = text_at s _ _ many c.in_ok-length.ensures.ok.0 in
     let bytes = bytes_are s z _ _ _ _ many c.in_ok-length.ensures.ok.1 (sym c.times_behind.ensures ∙ c.in-Some.is) in
     let window = c.new-window.ensures in
@@ -104,7 +125,9 @@ returns-in_err-write_parts-clause-outcome g c =
     let made = c.in_ok-make_room.ensures.ok in
     let a = c.new-window.result in
     let b = c.write_parts-2.new.writer in
-    let u = whole_unwritten s k z T.writing vs (window_unwritten list vs c.in-Some.total sized _ _ (g.W.Writer.state a.writer.now) (g.W.Writer.state b.writer.now) a.writer.ghost_name b.writer.ghost_name a.left b.left _ made same window.left o.refused) in
-    let p = window_stopped list vs c.in-Some.total sized _ _ (g.W.Writer.state a.writer.now) (g.W.Writer.state b.writer.now) a.writer.ghost_name b.writer.ghost_name a.left b.left _ made same window.left o.refused {k = list_write_of s k z T.writing} o.place
+    let u = whole_unwritten s k z T.writing vs (window_unwritten list vs c.in-Some.total sized _ _ (g.W.Writer.state a.writer.now)
+    (g.W.Writer.state b.writer.now) a.writer.ghost_name b.writer.ghost_name a.left b.left _ made same window.left o.refused) in
+    let p = window_stopped list vs c.in-Some.total sized _ _ (g.W.Writer.state a.writer.now) (g.W.Writer.state b.writer.now)
+    a.writer.ghost_name b.writer.ghost_name a.left b.left _ made same window.left o.refused {k = list_write_of s k z T.writing} o.place
     (λ cannot inside added r. span_is s k z T.writing vs has _ bytes _ added _ known (inr ((λ q. cannot (has, q)), (inside, r)))) in
     record { ok = search rules; value = search rules; refused = search (rules, u); place = search (rules, p) }

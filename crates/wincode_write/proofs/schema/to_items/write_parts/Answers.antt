@@ -18,4 +18,5 @@ returns-clause-outcome g c =
     let l = g.T.SchemaWrite.write_laws in
     let xs = g.C.ToItems.listed c.args.src.now in
     let o = rw c.count.ensures.count at c.in_ok-write.ensures in
-    write_map _ _ _ _ _ _ _ (λ r. all_wrote laws s g.row.COUNT l xs o.ok r) (λ p. p) (λ e u. rest_unwritten laws s g.row.COUNT l xs o.ok u) (λ e h. rest_halted laws s g.row.COUNT l xs o.ok h) c.write_to.ensures
+    write_map _ _ _ _ _ _ _ (λ r. all_wrote laws s g.row.COUNT l xs o.ok r) (λ p. p) (λ e u. rest_unwritten laws s g.row.COUNT l xs o.ok u)
+    (λ e h. rest_halted laws s g.row.COUNT l xs o.ok h) c.write_to.ensures

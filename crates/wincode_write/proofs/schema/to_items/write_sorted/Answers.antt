@@ -6,7 +6,11 @@ use Rattle.wincode_write.proofs.Pending.{pending_none, pending_start, pending_mo
 use Rattle.wincode_write.proofs.schema.to_items.write_sorted.Goals as goal
 
 pub loop-key-init : goal.loop-key-init
-loop-key-init g c = (pending_start g.met.W.Writer.writer_laws (pair_write_laws g.K.SchemaWrite.write_laws g.V.SchemaWrite.write_laws) _ c.into_iter-key-iterator.ensures.into_iter_gives.0, omega (arith, c.requires.size))
+loop-key-init g c = (
+  pending_start g.met.W.Writer.writer_laws (pair_write_laws g.K.SchemaWrite.write_laws g.V.SchemaWrite.write_laws)
+      _ c.into_iter-key-iterator.ensures.into_iter_gives.0,
+  omega (arith, c.requires.size),
+)
 
 -- the block was refused, where a pair was not put together
 pub returns-in_err-write : goal.returns-in_err-write
@@ -38,8 +42,10 @@ loop-key-preserved-then-not-encode_pair g c =
     let laws = pair_write_laws g.K.SchemaWrite.write_laws g.V.SchemaWrite.write_laws in
     let within : c.loop-key.filled ≤ length c.loop-key.block = search rules in
     let w = pending_written writer laws (pending_same writer laws _ c.encode_pair.new.dst within c.loop-key.invariant.0) c.in_ok-write.ensures.ok in
-    let o = c.in_ok-write_pair.ensures in
-    (pending_none writer laws _ (walk_item_more writer laws {e = (c.in-Some.key.now, c.in-Some.value.now)} w c.in-Some.ensures.steps o.ok o.value), omega (arith, c.requires.size))
+    let o = c.in_ok-write_pair.ensures in (
+      pending_none writer laws _ (walk_item_more writer laws {e = (c.in-Some.key.now, c.in-Some.value.now)} w c.in-Some.ensures.steps o.ok o.value),
+      omega (arith, c.requires.size),
+    )
 
 pub returns-in_err-write-2 : goal.returns-in_err-write-2
 returns-in_err-write-2 g c =
@@ -48,7 +54,8 @@ returns-in_err-write-2 g c =
     let size : length c.encode_pair.new.dst ≡ c.args.size = search rules in
     let fits : c.loop-key.filled + c.args.size ≤ length c.loop-key.block = search rules in
     let put = c.if-not-encode_pair.ensures refl in
-    let w = pending_more writer laws {e = (c.in-Some.key.now, c.in-Some.value.now)} c.args.size _ c.encode_pair.new.dst c.loop-key.invariant.0 c.in-Some.ensures.steps size fits put in
+    let w = pending_more writer laws {e = (c.in-Some.key.now, c.in-Some.value.now)} c.args.size _ c.encode_pair.new.dst c.loop-key.invariant.0
+    c.in-Some.ensures.steps size fits put in
     let d = c.in_err-write-2.ensures.err in
     let u = pending_refused writer laws w d in
     let p = pending_halted writer laws c.requires.one_size w d in
@@ -61,7 +68,8 @@ loop-key-preserved-then-filled-size g c =
     let size : length c.encode_pair.new.dst ≡ c.args.size = search rules in
     let fits : c.loop-key.filled + c.args.size ≤ length c.loop-key.block = search rules in
     let put = c.if-not-encode_pair.ensures refl in
-    let w = pending_more writer laws {e = (c.in-Some.key.now, c.in-Some.value.now)} c.args.size _ c.encode_pair.new.dst c.loop-key.invariant.0 c.in-Some.ensures.steps size fits put in
+    let w = pending_more writer laws {e = (c.in-Some.key.now, c.in-Some.value.now)} c.args.size _ c.encode_pair.new.dst c.loop-key.invariant.0
+    c.in-Some.ensures.steps size fits put in
     (pending_none writer laws _ (pending_written writer laws w c.in_ok-write-2.ensures.ok), omega (arith, c.requires.size))
 
 pub loop-key-preserved : goal.loop-key-preserved
@@ -71,7 +79,8 @@ loop-key-preserved g c =
     let size : length c.encode_pair.new.dst ≡ c.args.size = search rules in
     let fits : c.loop-key.filled + c.args.size ≤ length c.loop-key.block = search rules in
     let put = c.if-not-encode_pair.ensures refl in
-    let w = pending_more writer laws {e = (c.in-Some.key.now, c.in-Some.value.now)} c.args.size _ c.encode_pair.new.dst c.loop-key.invariant.0 c.in-Some.ensures.steps size fits put in
+    let w = pending_more writer laws {e = (c.in-Some.key.now, c.in-Some.value.now)} c.args.size _ c.encode_pair.new.dst c.loop-key.invariant.0
+    c.in-Some.ensures.steps size fits put in
     let past = c.if-filled-size.false in
     (w, search (rules, past))
 

@@ -13,4 +13,6 @@ returns-in_err-get_list_of g c =
     let K = g.K.SchemaRead in
     let V = g.V.SchemaRead in
     let o = rw c.type_meta-2.ensures at (rw c.type_meta.ensures at (rw c.of_pair-size.ensures at c.in_err-get_list_of.ensures)) in
-    read_refused _ _ _ _ _ _ c.from_residual.ensures refl (gathered_refused (sees K.model V.model) (Made (IsMapOf g.K.Dst.Ord.cmp) (map (sees K.model V.model))) (bincode preallocation_limit) (pair_size K.reading.meta V.reading.meta) (pair_read K.reading V.reading) 1 _ _ _ (o.refused, o.place))
+    read_refused _ _ _ _ _ _ c.from_residual.ensures refl (gathered_refused (sees K.model V.model)
+    (Made (IsMapOf g.K.Dst.Ord.cmp) (map (sees K.model V.model))) (bincode preallocation_limit) (pair_size K.reading.meta V.reading.meta)
+    (pair_read K.reading V.reading) 1 _ _ _ (o.refused, o.place))

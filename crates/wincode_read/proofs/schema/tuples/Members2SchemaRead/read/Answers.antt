@@ -12,8 +12,16 @@ pub returns-in_err-second : goal.returns-in_err-second
 returns-in_err-second g c =
     let a = c.in_ok-first.ensures.ok in
     let o = c.in_err-second.ensures in
-    read_refused _ _ _ _ _ _ c.from_residual-in_err-second.ensures refl
-    (pair_second g.A.SchemaRead.reading g.B.SchemaRead.reading g.met.A.SchemaRead.read_laws.one_front _ _ _ _ _ a o.refused, inr (_, _, a, (o.refused, o.place)))
+    read_refused _ _ _ _ _ _ c.from_residual-in_err-second.ensures refl (
+      pair_second g.A.SchemaRead.reading g.B.SchemaRead.reading g.met.A.SchemaRead.read_laws.one_front _ _ _ _ _ a o.refused,
+      inr (_, _, a, (o.refused, o.place)),
+    )
 
 pub returns : goal.returns
-returns g c = record { ok = pair_gives g.A.SchemaRead.reading g.B.SchemaRead.reading _ _ _ _ _ c.in_ok-first.ensures.ok c.in_ok-second.ensures.ok; refused = tt; place = tt; same = tt }
+returns g c = record {
+  ok = pair_gives g.A.SchemaRead.reading g.B.SchemaRead.reading _ _ _ _ _ c.in_ok-first.ensures.ok c.in_ok-second.ensures.ok;
+  refused =
+      tt;
+  place = tt;
+  same = tt;
+}

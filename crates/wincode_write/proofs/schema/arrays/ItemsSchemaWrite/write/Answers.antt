@@ -15,7 +15,8 @@ returns-in-Static g c =
     let long : length c.args.src.now ≡ g.row.N = search rules in
     let n : length vs ≡ g.row.N = length-map c.args.src.now T.model ∙ long in
     write_map items vs _ array vs _ _ (λ r. wrote_map items array vs vs (λ e. (n, e)) refl (λ b w. (n, w)) r) (λ p. (long, p))
-    (λ e u. unwritten_map items array vs vs (λ a. a.1) refl (λ b w. (n, w)) u) (λ e h. stopped_map items array vs vs (λ a x dynamic. absurd (cc dynamic)) h) (rw c.as_slice.ensures at c.write_items.ensures)
+    (λ e u. unwritten_map items array vs vs (λ a. a.1) refl (λ b w. (n, w)) u) (λ e h. stopped_map items array vs vs (λ a x dynamic. absurd (cc dynamic)) h)
+    (rw c.as_slice.ensures at c.write_items.ensures)
 
 pub returns-in-Dynamic : goal.returns-in-Dynamic
 returns-in-Dynamic g c =
@@ -26,4 +27,5 @@ returns-in-Dynamic g c =
     let long : length c.args.src.now ≡ g.row.N = search rules in
     let n : length vs ≡ g.row.N = length-map c.args.src.now T.model ∙ long in
     write_map items vs _ array vs _ _ (λ r. wrote_map items array vs vs (λ e. (n, e)) refl (λ b w. (n, w)) r) (λ p. (long, p))
-    (λ e u. unwritten_map items array vs vs (λ a. a.1) refl (λ b w. (n, w)) u) (λ e h. stopped_map items array vs vs (λ a x dynamic. x) h) (rw c.as_slice-in-Dynamic.ensures at c.write_apart.ensures)
+    (λ e u. unwritten_map items array vs vs (λ a. a.1) refl (λ b w. (n, w)) u) (λ e h. stopped_map items array vs vs (λ a x dynamic. x) h)
+    (rw c.as_slice-in-Dynamic.ensures at c.write_apart.ensures)

@@ -7,4 +7,5 @@ use Rattle.wincode_write.proofs.schema.maps.HashSetSchemaWrite.write.Goals as go
 pub returns : goal.returns
 returns g c =
     let K = g.K.SchemaWrite in
-    sound_outcome _ _ _ _ c.write_list.ensures.sound _ (scattered_outcome (bincode preallocation_limit) (item_size K.writing.meta) K.writing _ _ c.write_list.ensures.outcome)
+    sound_outcome _ _ _ _ c.write_list.ensures.sound _ (scattered_outcome (bincode preallocation_limit) (item_size K.writing.meta)
+    K.writing _ _ c.write_list.ensures.outcome)

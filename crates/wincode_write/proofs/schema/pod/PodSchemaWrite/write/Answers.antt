@@ -14,7 +14,13 @@ returns-in_default g c =
     let writer = g.met.W.Writer.writer_laws in
     let laws = form_write_laws g.T.ZeroCopy.byte_form (λ v. v) true (form_prealloc T.size) in
     let form = form_write T.is_valid T.size T.form true (form_prealloc T.size) in
-    rw c.into.ensures (record { ok = tt; value = tt; refused = unfit_unwritten form c.args.src.now writer laws _ _ tt (λ can. over); place = nothing_stopped writer _ _ _ refl (inr (over, refl, refl)) })
+    rw c.into.ensures (record {
+      ok = tt;
+      value = tt;
+      refused = unfit_unwritten form c.args.src.now writer laws _ _ tt (λ can. over);
+      place =
+          nothing_stopped writer _ _ _ refl (inr (over, refl, refl));
+    })
 
 pub returns-in_err-make_room : goal.returns-in_err-make_room
 returns-in_err-make_room g c =
@@ -24,4 +30,5 @@ returns-in_err-make_room g c =
     let form = form_write T.is_valid T.size T.form true (form_prealloc T.size) in
     let d = c.in_err-make_room.ensures.err in
     let u = room_unwritten form c.args.src.now c.in-Some.size (λ can. sym c.in-Some.ensures) _ _ writer laws _ _ _ d in
-    let p = form_room_halted T.is_valid T.size T.form true (form_prealloc T.size) c.args.src.now writer c.in-Some.size c.in-Some.ensures _ d in search (rules, u, p)
+    let p = form_room_halted T.is_valid T.size T.form true (form_prealloc T.size) c.args.src.now writer c.in-Some.size c.in-Some.ensures _ d in
+    search (rules, u, p)

@@ -17,4 +17,10 @@ returns-in_err-write g c =
 pub returns : goal.returns
 returns g c =
     let is = c.as_bytes.ensures.value ∙ c.encode_utf8-text.ensures.value in
-    record { ok = encoding_wrote char_write c.args.src.now _ is (ap length is ∙ length-encode c.args.src.now) _ _ tt c.in_ok-write.ensures.ok; value = search rules; refused = tt; place = tt }
+    record {
+      ok = encoding_wrote char_write c.args.src.now _ is (ap length is ∙ length-encode c.args.src.now) _ _ tt c.in_ok-write.ensures.ok;
+      value =
+          search rules;
+      refused = tt;
+      place = tt;
+    }

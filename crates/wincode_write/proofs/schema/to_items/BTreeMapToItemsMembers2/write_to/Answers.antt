@@ -6,12 +6,15 @@ use Rattle.wincode_write.proofs.schema.to_items.BTreeMapToItemsMembers2.write_to
 pub loop-key-preserved : goal.loop-key-preserved
 loop-key-preserved g c =
     let laws = pair_write_laws g.K.SchemaWrite.write_laws g.V.SchemaWrite.write_laws in
-    walk_item_more g.met.W.Writer.writer_laws laws {e = (c.in-Some-2.key.now, c.in-Some-2.value.now)} c.loop-key.invariant c.in-Some-2.ensures.steps c.in_ok-write_pair.ensures.ok c.in_ok-write_pair.ensures.value
+    walk_item_more g.met.W.Writer.writer_laws laws {e = (c.in-Some-2.key.now, c.in-Some-2.value.now)} c.loop-key.invariant c.in-Some-2.ensures.steps
+    c.in_ok-write_pair.ensures.ok c.in_ok-write_pair.ensures.value
 
 pub returns-in_err-write_pair : goal.returns-in_err-write_pair
 returns-in_err-write_pair g c =
     let laws = pair_write_laws g.K.SchemaWrite.write_laws g.V.SchemaWrite.write_laws in
     let o = c.in_err-write_pair.ensures in
-    let u = walk_item_refused g.met.W.Writer.writer_laws laws {e = (c.in-Some-2.key.now, c.in-Some-2.value.now)} c.loop-key.invariant c.in-Some-2.ensures.steps o.refused in
-    let p = walk_item_halted g.met.W.Writer.writer_laws laws {e = (c.in-Some-2.key.now, c.in-Some-2.value.now)} c.loop-key.invariant c.in-Some-2.ensures.steps o.place in
+    let u = walk_item_refused g.met.W.Writer.writer_laws laws {e = (c.in-Some-2.key.now, c.in-Some-2.value.now)} c.loop-key.invariant c.in-Some-2.ensures.steps
+    o.refused in
+    let p = walk_item_halted g.met.W.Writer.writer_laws laws {e = (c.in-Some-2.key.now, c.in-Some-2.value.now)} c.loop-key.invariant c.in-Some-2.ensures.steps
+    o.place in
     write_refused _ _ _ _ _ c.from_residual.ensures u p

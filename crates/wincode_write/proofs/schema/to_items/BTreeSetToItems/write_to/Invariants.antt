@@ -4,4 +4,5 @@ use Rattle.wincode_write.proofs.schema.to_items.BTreeSetToItems.write_to.Given a
 -- the items before those that are left were written
 abbrev pub invariant-loop-key : goal.invariant-loop-key
 invariant-loop-key g l =
-    WritesSoFar g.K.SchemaWrite.writing g.K.SchemaWrite.model g.K.SchemaWrite.is_valid (g.W.Writer.state l.fn.writer) (g.W.Writer.state l.writer) l.self.keys l.key-iterator
+    WritesSoFar g.K.SchemaWrite.writing g.K.SchemaWrite.model g.K.SchemaWrite.is_valid (g.W.Writer.state l.fn.writer) (g.W.Writer.state l.writer)
+    l.self.keys l.key-iterator

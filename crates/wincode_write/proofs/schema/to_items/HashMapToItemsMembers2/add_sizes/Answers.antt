@@ -9,14 +9,16 @@ pub returns-in_err-size-clause-err : goal.returns-in_err-size-clause-err
 returns-in_err-size-clause-err g c =
     let K = g.K.SchemaWrite in
     let V = g.V.SchemaWrite in
-    let h = sum_refused (pair_write K.writing V.writing) (sees K.model V.model) c.args.before _ _ _ _ (c.in-Some-2.key.now, c.in-Some-2.value.now) _ c.loop-key.invariant c.in-Some-2.ensures.steps c.in_err-size.ensures.err in search (rules, h)
+    let h = sum_refused (pair_write K.writing V.writing) (sees K.model V.model) c.args.before _ _ _ _ (c.in-Some-2.key.now, c.in-Some-2.value.now)
+    _ c.loop-key.invariant c.in-Some-2.ensures.steps c.in_err-size.ensures.err in search (rules, h)
 
 pub returns-in_err-sum-clause-err : goal.returns-in_err-sum-clause-err
 returns-in_err-sum-clause-err g c =
     let K = g.K.SchemaWrite in
     let V = g.V.SchemaWrite in
     let d = c.in_err-sum.ensures.err in
-    let past = sum_past (pair_write K.writing V.writing) (sees K.model V.model) c.args.before _ _ _ _ (c.in-Some-2.key.now, c.in-Some-2.value.now) c.loop-key.invariant c.in-Some-2.ensures.steps (λ fits. absurd (omega (arith, d.0, c.in_ok-size.ensures.ok.1, fits))) in
+    let past = sum_past (pair_write K.writing V.writing) (sees K.model V.model) c.args.before _ _ _ _ (c.in-Some-2.key.now, c.in-Some-2.value.now)
+    c.loop-key.invariant c.in-Some-2.ensures.steps (λ fits. absurd (omega (arith, d.0, c.in_ok-size.ensures.ok.1, fits))) in
     let h = overflow_refused (pair_write K.writing V.writing).builtin _ past d.1 in search (rules, h)
 
 pub loop-key-preserved : goal.loop-key-preserved
@@ -24,4 +26,5 @@ loop-key-preserved g c =
     let K = g.K.SchemaWrite in
     let V = g.V.SchemaWrite in
     let e = c.in_ok-sum.ensures.ok in
-    sum_more (pair_write K.writing V.writing) (sees K.model V.model) c.args.before _ _ _ _ _ (c.in-Some-2.key.now, c.in-Some-2.value.now) c.loop-key.invariant c.in-Some-2.ensures.steps c.in_ok-size.ensures.ok.0 (e ∙ ap (λ n. c.loop-key.sum + n) c.in_ok-size.ensures.ok.1)
+    sum_more (pair_write K.writing V.writing) (sees K.model V.model) c.args.before _ _ _ _ _ (c.in-Some-2.key.now, c.in-Some-2.value.now)
+    c.loop-key.invariant c.in-Some-2.ensures.steps c.in_ok-size.ensures.ok.0 (e ∙ ap (λ n. c.loop-key.sum + n) c.in_ok-size.ensures.ok.1)

@@ -5,4 +5,5 @@ use Rattle.wincode_write.proofs.schema.to_items.HashMapToItemsMembers2.add_sizes
 
 -- the sizes of the pairs before those that are left were added
 abbrev pub invariant-loop-key : goal.invariant-loop-key
-invariant-loop-key g l = SumsSoFar (pair_write g.K.SchemaWrite.writing g.V.SchemaWrite.writing) (sees g.K.SchemaWrite.model g.V.SchemaWrite.model) l.before l.sum l.self.entries l.key-iterator
+invariant-loop-key g l = SumsSoFar (pair_write g.K.SchemaWrite.writing g.V.SchemaWrite.writing) (sees g.K.SchemaWrite.model g.V.SchemaWrite.model)
+    l.before l.sum l.self.entries l.key-iterator

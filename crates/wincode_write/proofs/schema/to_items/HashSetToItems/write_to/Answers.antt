@@ -4,7 +4,8 @@ use Rattle.wincode_write.proofs.schema.to_items.HashSetToItems.write_to.Goals as
 
 pub loop-key-preserved : goal.loop-key-preserved
 loop-key-preserved g c =
-    walk_item_more g.met.W.Writer.writer_laws g.K.SchemaWrite.write_laws c.loop-key.invariant c.in-Some.ensures.steps c.in_ok-write_item.ensures.ok c.in_ok-write_item.ensures.value
+    walk_item_more g.met.W.Writer.writer_laws g.K.SchemaWrite.write_laws c.loop-key.invariant c.in-Some.ensures.steps c.in_ok-write_item.ensures.ok
+    c.in_ok-write_item.ensures.value
 
 pub returns-in_err-write_item : goal.returns-in_err-write_item
 returns-in_err-write_item g c =

@@ -11,9 +11,11 @@ returns-in_err-sum-clause-err g c =
 pub returns-clause-ok : goal.returns-clause-ok
 returns-clause-ok g c =
     let T = g.T.SchemaWrite in
-    IfOk-weaker c.add_sizes-2.result _ _ (λ n p. sums_both T.writing T.model c.args.before _ _ _ _ n c.as_slices.ensures.items c.in_ok-sum.ensures.ok p) c.add_sizes-2.ensures.ok
+    IfOk-weaker c.add_sizes-2.result _ _ (λ n p. sums_both T.writing T.model c.args.before _ _ _ _ n c.as_slices.ensures.items c.in_ok-sum.ensures.ok p)
+    c.add_sizes-2.ensures.ok
 
 pub returns-clause-err : goal.returns-clause-err
 returns-clause-err g c =
     let T = g.T.SchemaWrite in
-    IfErr-weaker c.add_sizes-2.result _ _ (λ e p. sums_second T.writing T.model c.args.before _ _ _ _ e c.as_slices.ensures.items c.in_ok-sum.ensures.ok.1 p) c.add_sizes-2.ensures.err
+    IfErr-weaker c.add_sizes-2.result _ _ (λ e p. sums_second T.writing T.model c.args.before _ _ _ _ e c.as_slices.ensures.items c.in_ok-sum.ensures.ok.1 p)
+    c.add_sizes-2.ensures.err

@@ -7,7 +7,8 @@ returns-in_err-write_many g c =
     let laws = g.met.W.Writer.writer_laws in
     let l = g.T.SchemaWrite.write_laws in
     let o = c.in_err-write_many.ensures in
-    write_refused _ _ _ _ _ c.from_residual.ensures (runs_refused_first laws l _ _ _ c.as_slices.ensures.items o.refused) (runs_halted_first laws l _ _ _ c.as_slices.ensures.items o.place)
+    write_refused _ _ _ _ _ c.from_residual.ensures (runs_refused_first laws l _ _ _ c.as_slices.ensures.items o.refused)
+    (runs_halted_first laws l _ _ _ c.as_slices.ensures.items o.place)
 
 pub returns : goal.returns
 returns g c =
@@ -15,4 +16,5 @@ returns g c =
     let l = g.T.SchemaWrite.write_laws in
     let o = c.in_ok-write_many.ensures in
     write_map _ _ _ _ _ _ _ (λ r. runs_wrote laws l _ _ _ c.as_slices.ensures.items o.ok r) (λ p. runs_each _ _ _ _ c.as_slices.ensures.items o.value p)
-    (λ e u. runs_refused_second laws l _ _ _ c.as_slices.ensures.items o.ok u) (λ e h. runs_halted_second laws l _ _ _ c.as_slices.ensures.items o.ok h) c.write_many-2.ensures
+    (λ e u. runs_refused_second laws l _ _ _ c.as_slices.ensures.items o.ok u) (λ e h. runs_halted_second laws l _ _ _ c.as_slices.ensures.items o.ok h)
+    c.write_many-2.ensures

@@ -4,8 +4,12 @@ use Rattle.wincode_write.proofs.schema.tuples.shorter.size_of_members_4.Goals as
 
 pub returns-clause-ok : goal.returns-clause-ok
 returns-clause-ok g c =
-    pair_sized g.A.SchemaWrite.writing (pair_write g.B.SchemaWrite.writing (pair_write g.C.SchemaWrite.writing g.D.SchemaWrite.writing)) (g.A.SchemaWrite.model c.args.a.now) (g.B.SchemaWrite.model c.args.b.now, (g.C.SchemaWrite.model c.args.c.now, g.D.SchemaWrite.model c.args.d.now)) _ _ _ c.size_of.ensures.ok c.size_of_members_3.ensures.ok c.joined_size.ensures.ok
+    pair_sized g.A.SchemaWrite.writing (pair_write g.B.SchemaWrite.writing (pair_write g.C.SchemaWrite.writing g.D.SchemaWrite.writing))
+    (g.A.SchemaWrite.model c.args.a.now) (g.B.SchemaWrite.model c.args.b.now, (g.C.SchemaWrite.model c.args.c.now, g.D.SchemaWrite.model c.args.d.now))
+    _ _ _ c.size_of.ensures.ok c.size_of_members_3.ensures.ok c.joined_size.ensures.ok
 
 pub returns-clause-err : goal.returns-clause-err
 returns-clause-err g c =
-    pair_unsized g.A.SchemaWrite.writing (pair_write g.B.SchemaWrite.writing (pair_write g.C.SchemaWrite.writing g.D.SchemaWrite.writing)) (g.A.SchemaWrite.model c.args.a.now) (g.B.SchemaWrite.model c.args.b.now, (g.C.SchemaWrite.model c.args.c.now, g.D.SchemaWrite.model c.args.d.now)) _ _ _ c.size_of.ensures.ok c.size_of.ensures.err c.size_of_members_3.ensures.ok c.size_of_members_3.ensures.err c.joined_size.ensures.err
+    pair_unsized g.A.SchemaWrite.writing (pair_write g.B.SchemaWrite.writing (pair_write g.C.SchemaWrite.writing g.D.SchemaWrite.writing))
+    (g.A.SchemaWrite.model c.args.a.now) (g.B.SchemaWrite.model c.args.b.now, (g.C.SchemaWrite.model c.args.c.now, g.D.SchemaWrite.model c.args.d.now))
+    _ _ _ c.size_of.ensures.ok c.size_of.ensures.err c.size_of_members_3.ensures.ok c.size_of_members_3.ensures.err c.joined_size.ensures.err

@@ -10,4 +10,5 @@ returns g c =
     let p = form_prealloc T.size in
     let q = max T.size 1 in
     write_map _ _ _ _ _ _ _ (λ r. listed_wrote T.is_valid T.size T.form true p q _ r) (λ p. p)
-    (λ e u. listed_unwritten T.is_valid T.size T.form true p q _ e u) (λ e h. listed_halted T.is_valid T.size T.form true p q _ e h) c.write_list.ensures.outcome
+    (λ e u. listed_unwritten T.is_valid T.size T.form true p q _ e u) (λ e h. listed_halted T.is_valid T.size T.form true p q _ e h)
+    c.write_list.ensures.outcome

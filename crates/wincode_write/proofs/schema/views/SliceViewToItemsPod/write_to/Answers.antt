@@ -11,8 +11,10 @@ returns-in_err-write g c =
     let some : 0 < c.args.self.now.n = search rules in
     let fits : length b.result.now < 2 ^ 64 = search rules in
     let d = c.in_err-write.ensures.err in
-    let u = forms_unwritten law true (form_prealloc g.T.ZeroCopy.size) c.args.self.now.n b.result.now c.see_bytes.ensures b.ensures.size laws c.in_err-write.field-0.0 d in
-    let p = forms_halted law true (form_prealloc g.T.ZeroCopy.size) c.args.self.now.n b.result.now c.see_bytes.ensures b.ensures.size some fits laws c.in_err-write.field-0.0 d in
+    let u = forms_unwritten law true (form_prealloc g.T.ZeroCopy.size)
+    c.args.self.now.n b.result.now c.see_bytes.ensures b.ensures.size laws c.in_err-write.field-0.0 d in
+    let p = forms_halted law true (form_prealloc g.T.ZeroCopy.size)
+    c.args.self.now.n b.result.now c.see_bytes.ensures b.ensures.size some fits laws c.in_err-write.field-0.0 d in
     let h = rw b.ensures.value at u in
     let k = rw b.ensures.value at p in search (rules, h, k)
 
@@ -22,7 +24,8 @@ returns-then-len-eq0 g c =
     let law = g.T.ZeroCopy.byte_form in
     let none : c.args.self.now.n ≡ 0 = search rules in
     rw (← b.ensures.value) (record {
-      ok = none_wrote law true (form_prealloc g.T.ZeroCopy.size) c.args.self.now.n b.result.now c.see_bytes.ensures b.ensures.size g.met.W.Writer.writer_laws none refl;
+      ok = none_wrote law true (form_prealloc g.T.ZeroCopy.size)
+          c.args.self.now.n b.result.now c.see_bytes.ensures b.ensures.size g.met.W.Writer.writer_laws none refl;
       value = each_value law true (form_prealloc g.T.ZeroCopy.size) c.args.self.now.n b.result.now c.see_bytes.ensures b.ensures.size;
       refused = tt;
       place = tt;

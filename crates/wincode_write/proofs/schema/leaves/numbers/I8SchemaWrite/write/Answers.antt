@@ -9,7 +9,8 @@ use Rattle.wincode_write.proofs.schema.leaves.numbers.I8SchemaWrite.write.Goals 
 pub returns-in_err-write : goal.returns-in_err-write
 returns-in_err-write g c =
     let fits : FitsSigned w8 c.args.src.now = search rules in
-    let is : c.to_le_bytes.result ≡ to_le_bytes w8 (cast_unsigned w8 c.args.src.now) = (simp to_z-of_z at c.to_le_bytes.ensures) ∙ byte_encoding (cast_unsigned w8 c.args.src.now) (unsigned_below w8 refl c.args.src.now fits) in
+    let is : c.to_le_bytes.result ≡ to_le_bytes w8 (cast_unsigned w8 c.args.src.now) = (simp to_z-of_z at c.to_le_bytes.ensures) ∙ byte_encoding
+    (cast_unsigned w8 c.args.src.now) (unsigned_below w8 refl c.args.src.now fits) in
     let laws = g.met.W.Writer.writer_laws in
     let d = c.in_err-write.ensures.err in
     let u = signed_unwritten w8 true c.args.src.now is laws _ d in
@@ -18,5 +19,6 @@ returns-in_err-write g c =
 pub returns : goal.returns
 returns g c =
     let fits : FitsSigned w8 c.args.src.now = search rules in
-    let is : c.to_le_bytes.result ≡ to_le_bytes w8 (cast_unsigned w8 c.args.src.now) = (simp to_z-of_z at c.to_le_bytes.ensures) ∙ byte_encoding (cast_unsigned w8 c.args.src.now) (unsigned_below w8 refl c.args.src.now fits) in
+    let is : c.to_le_bytes.result ≡ to_le_bytes w8 (cast_unsigned w8 c.args.src.now) = (simp to_z-of_z at c.to_le_bytes.ensures) ∙ byte_encoding
+    (cast_unsigned w8 c.args.src.now) (unsigned_below w8 refl c.args.src.now fits) in
     record { ok = signed_wrote w8 true c.args.src.now is c.in_ok-write.ensures.ok; value = search rules; refused = tt; place = tt }

@@ -5,5 +5,6 @@ pub returns : goal.returns
 returns g c =
     let first = c.in_ok-first.ensures in
     let second = c.in_ok-second.ensures in
-    let both = pair_in_front g.A.SchemaWrite.writing g.B.SchemaWrite.writing (g.A.SchemaWrite.model c.args.src.now.0) (g.B.SchemaWrite.model c.args.src.now.1) c.in_ok-first.first c.in_ok-second.second _ c.encode_front.new.dst c.encode_front-2.new.dst (first.0, first.1) (second.0, second.1) in
+    let both = pair_in_front g.A.SchemaWrite.writing g.B.SchemaWrite.writing (g.A.SchemaWrite.model c.args.src.now.0) (g.B.SchemaWrite.model c.args.src.now.1)
+    c.in_ok-first.first c.in_ok-second.second _ c.encode_front.new.dst c.encode_front-2.new.dst (first.0, first.1) (second.0, second.1) in
     (both.0, both.1, (first.2, second.2))
