@@ -1,9 +1,9 @@
 //! Writing in parts and in windows, through any writer.
 ghost use Rattle.std.specs.Prelude.{◌≡◌, ℕ, ◌+◌, ◌-◌, ◌^◌, ◌<◌, ◌≤◌, ◌⊎◌, ◌/◌, List, length, take, drop, ◌++◌, OnOk, IfErr};
 ghost use Rattle.wincode_io.specs.Writers.{Took, Added, IsUnmoved, BytesWriteRefused, byte_limit};
-ghost use Rattle.wincode_io.specs.CursorWriters.{cursor_put, GrowthRefused};
+ghost use Rattle.wincode_io.specs.CursorWriters.{cursor_put};
 ghost use Rattle.wincode_io.specs.Places.{placed};
-ghost use Rattle.testkit_io.specs.WriterUses.{BothWriteRefused, IsOverrun};
+ghost use Rattle.testkit_io.specs.WriterUses.{BothWriteRefused, IsOverrun, IsUngrown};
 
 use wincode_io::{Cursor, SliceWriter, TrustedSliceWriter, WriteResult, WriteWindow, Writer};
 
@@ -89,7 +89,7 @@ pub fn overwrite_at(bytes: &mut [u8], position: usize, src: &[u8]) -> WriteResul
 /// Writes over the vector at a position, through a window, and grows it.
 pub fn grow_at(bytes: &mut Vec<u8>, position: usize, src: &[u8]) -> WriteResult<()>
     ensures ok { OnOk result ((length src.now ≤ byte_limit - position) × (bytes.new.items ≡ (cursor_put (placed bytes.old.items position) src.now).inner)) }
-    ensures err { IfErr result (λ e. (bytes.new.items ≡ bytes.old.items) × GrowthRefused position (length src.now) e) }
+    ensures err { IfErr result (λ e. (bytes.new.items ≡ bytes.old.items) × IsUngrown position (length src.now) e) }
 {
     let mut cursor = Cursor::new_at(bytes, position);
     write_within(&mut cursor, &[], src, &[], 0)
