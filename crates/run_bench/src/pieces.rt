@@ -1,5 +1,6 @@
 //! Values whose bytes come in pieces: in large ones, and a byte at a time.
 ghost use Rattle.std.specs.Prelude.{[], false};
+ghost use Rattle.std.specs.declared.io.ErrorKind.TheVariants.{Other};
 
 use crate::arguments::Asked;
 use crate::look::Look;
@@ -22,7 +23,7 @@ struct InPieces<'a> {
 }
 
 impl Source for InPieces<'_> {
-    ghost state = { λ p. record { coming = []; failures = 0; is_known = false } };
+    ghost state = { λ p. record { coming = []; failures = 0; last = Other; is_known = false } };
 
     fn read_some(&mut self, buf: &mut [u8]) -> io::Result<usize> {
         let n = self.size.min(self.rest.len()).min(buf.len());
