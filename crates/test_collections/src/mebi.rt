@@ -11,24 +11,24 @@ const COUNT: usize = 1_048_577;
 /// The length of a list of so many items.
 const LENGTH: [u8; 8] = [1, 0, 16, 0, 0, 0, 0, 0];
 
-/// A list of so many items of this size, all bytes of which are 1.
+/// A list of so many items, of this many bytes in all, each of which behind the length is 1.
 fn alike(alloc: Global, size: usize) -> Result<Vec<u8>, Fail> {
-    let mut bytes = vec![in alloc; 1u8; 8 + COUNT * size]?;
-    bytes[..8].copy_from_slice(&LENGTH);
+    let mut bytes = Vec::from_slice(alloc, LENGTH.as_slice())?;
+    bytes.resize(size, 1)?;
     Ok(bytes)
 }
 
 #[test]
 fn bytes(rt: HostRuntime) -> Result<(), Fail> {
     let alloc = rt.alloc();
-    assert!(rt; keeps_all::<_, Vec<u8>>(alloc, alike(alloc, 1)?.as_slice())?);
+    assert!(rt; keeps_all::<_, Vec<u8>>(alloc, alike(alloc, 8 + COUNT)?.as_slice())?);
     Ok(())
 }
 
 #[test]
 fn forms(rt: HostRuntime) -> Result<(), Fail> {
     let alloc = rt.alloc();
-    assert!(rt; keeps_all::<_, Vec<u16>>(alloc, alike(alloc, 2)?.as_slice())?);
+    assert!(rt; keeps_all::<_, Vec<u16>>(alloc, alike(alloc, 8 + COUNT * 2)?.as_slice())?);
     Ok(())
 }
 

@@ -108,11 +108,11 @@ fn relayed(alloc: Global, input: &[u8]) -> Result<Vec<u8>, RelayError> {
     }
 }
 
-/// Lists of so many bytes, from the first to the second size.
+/// Lists of so many bytes, from the first size up to the second.
 fn lists_of_sizes(rt: &(impl Abort + AllocGlobal), first: usize, last: usize) -> Result<(), Fail> {
     let alloc = rt.alloc();
     let body = body(alloc, 10_000)?;
-    for n in first..last + 1 {
+    for n in first..end {
         let list = one_list(alloc, n, body.as_slice())?;
         let text = if n < 16 { None } else { list.get(..n - n % 8) };
         assert!(rt; is_due(&relayed(alloc, list.as_slice()), text), "{n}");
@@ -126,25 +126,25 @@ fn lists_of_sizes(rt: &(impl Abort + AllocGlobal), first: usize, last: usize) ->
 
 #[test]
 fn lists_of_every_size_below_2100(rt: HostRuntime) -> Result<(), Fail> {
-    lists_of_sizes(&rt, 0, 2_099)
+    lists_of_sizes(&rt, 0, 2_100)
 }
 
 #[test]
 fn lists_of_every_size_from_2100(rt: HostRuntime) -> Result<(), Fail> {
-    lists_of_sizes(&rt, 2_100, 4_200)
+    lists_of_sizes(&rt, 2_100, 4_201)
 }
 
-/// A value with so many bytes of input in all, from the first to the second number.
+/// A value with so many bytes of input in all, from the first number up to the second.
 fn values_in_inputs_of(
     rt: &(impl Abort + AllocGlobal),
     first: usize,
-    last: usize,
+    end: usize,
 ) -> Result<(), Fail> {
     let alloc = rt.alloc();
     let text = Some(NESTED.as_slice());
     let mut input = Vec::from_slice(alloc, NESTED.as_slice())?;
     input.resize(first, 255)?;
-    for n in first..last + 1 {
+    for n in first..end {
         assert!(rt; is_due(&relayed(alloc, input.as_slice()), text), "{n}");
         input.push(255)?;
     }
@@ -153,12 +153,12 @@ fn values_in_inputs_of(
 
 #[test]
 fn values_with_few_bytes_behind(rt: HostRuntime) -> Result<(), Fail> {
-    values_in_inputs_of(&rt, 32, 4_999)
+    values_in_inputs_of(&rt, 32, 5_000)
 }
 
 #[test]
 fn values_with_many_bytes_behind(rt: HostRuntime) -> Result<(), Fail> {
-    values_in_inputs_of(&rt, 5_000, 10_000)
+    values_in_inputs_of(&rt, 5_000, 10_001)
 }
 
 /// Whether it ended as `Input`, by this failure.
