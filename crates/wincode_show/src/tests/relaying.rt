@@ -109,7 +109,7 @@ fn relayed(alloc: Global, input: &[u8]) -> Result<Vec<u8>, RelayError> {
 }
 
 /// Lists of so many bytes, from the first size up to the second.
-fn lists_of_sizes(rt: &(impl Abort + AllocGlobal), first: usize, last: usize) -> Result<(), Fail> {
+fn lists_of_sizes(rt: &(impl Abort + AllocGlobal), first: usize, end: usize) -> Result<(), Fail> {
     let alloc = rt.alloc();
     let body = body(alloc, 10_000)?;
     for n in first..end {
