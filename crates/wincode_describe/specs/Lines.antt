@@ -1,6 +1,7 @@
 -- What a line of a part begins with, and that of a refusal.
-use Rattle.std.specs.Prelude.{◌≡◌, ℕ, ◌-◌, ◌^◌, min, List, [], ◌∷◌, ◌++◌, length, get_or, codes, decimal, Option, Some, None}
+use Rattle.std.specs.Prelude.{◌≡◌, ℕ, ◌-◌, ◌^◌, min, List, [], ◌∷◌, ◌++◌, length, get_or, codes, decimal, Option, Some, None, Bool, is_none}
 use Rattle.wincode_base.specs.declared.error.ReadError.{ReadError}
+use Rattle.wincode_describe.specs.Explained.{Explains}
 use Rattle.wincode_describe.specs.Parts.{Part, parts_bytes}
 use Rattle.wincode_describe.specs.Places.{places}
 use Rattle.wincode_describe.specs.declared.described.Described.{Described}
@@ -26,3 +27,8 @@ IsRefusal offset place old new = (why : List ℕ) × (new ≡ old ++ (decimal of
 abbrev pub EndsRefused : Described → List Part → Option ReadError → List ℕ → Type 0
 EndsRefused d parts None text = Unit {0}
 EndsRefused d parts (Some e) text = (lines : List ℕ) × IsRefusal (end_of parts) (get_or (places d parts) (length parts) []) lines text
+
+-- Some parts explain the bytes, a refusal is the last line, and it is said whether there is none.
+abbrev pub Tells : Described → List ℕ → Bool → List ℕ → Type 0
+Tells d bytes whole text = (parts : List Part) × (refused : Option ReadError) × Explains d bytes parts refused × (whole ≡ is_none refused)
+    × EndsRefused d parts refused text

@@ -4,7 +4,8 @@ ghost use Rattle.std.specs.Prelude.{
     ◌≡◌, ◌+◌, ◌≤◌, List, [], ◌++◌, length, map, slice_range, MatchOption, IfOk, OnOk,
 };
 ghost use Rattle.std.specs.String.{string_bytes};
-ghost use Rattle.wincode_describe.specs.Lines.{IsLine, IsRefusal, EndsRefused, spaced, end_of};
+ghost use Rattle.wincode_describe.specs.Explained.{Explains};
+ghost use Rattle.wincode_describe.specs.Lines.{IsLine, IsRefusal, EndsRefused, Tells, spaced, end_of};
 ghost use Rattle.wincode_describe.specs.Parts.{Part, seen};
 ghost use Rattle.wincode_describe.specs.Spans.{AreSpans};
 
@@ -193,7 +194,10 @@ fn explain_spans(
     alloc: Global,
     described: &Described,
     bytes: &[u8],
-) -> Result<(Explained, Vec<Span>), AllocError> {
+) -> Result<(Explained, Vec<Span>), AllocError>
+    ensures { IfOk result (λ found. Explains described.now bytes.now (map seen found.0.parts.items) found.0.refused
+        × AreSpans 0 (map seen found.0.parts.items) found.1.items) }
+{
     let explained = explain::<Lifetime>(alloc, described, bytes);
     let spans = spans(alloc, explained.parts.as_slice())?;
     Ok((explained, spans))
@@ -206,7 +210,9 @@ pub fn explained_lines(
     alloc: Global,
     described: &Described,
     bytes: &[u8],
-) -> Result<(bool, String), AllocError> {
+) -> Result<(bool, String), AllocError>
+    ensures { IfOk result (λ told. Tells described.now bytes.now told.0 (string_bytes told.1)) }
+{
     let (explained, spans) = explain_spans(alloc, described, bytes)?;
     let lines = lines_of(alloc, described, &explained, spans.as_slice(), bytes)?;
     Ok((explained.refused.is_none(), lines))
