@@ -1,12 +1,10 @@
 -- The last part with a place, and items where all parts have theirs.
-use Rattle.std.proofs.Common.{◌≡◌, ◌∙◌, refl, sym, ap, subst, ℕ, ◌+◌, ◌-◌, ◌≤◌, zero, suc, true, false, if◌then◌else◌, List, [], ◌∷◌, length, map, Option, Some, None, Result, arith}
-use Rattle.std.specs.Prelude.{slice_get, option_map, OnOk, SomeIff, String}
-use Rattle.std.specs.String.{string_bytes}
-use Rattle.std.proofs.lemmas.Result.{on_ok_weaker}
+use Rattle.std.proofs.Common.{◌≡◌, ◌∙◌, sym, ap, subst, ℕ, ◌+◌, ◌-◌, ◌≤◌, zero, suc, true, if◌then◌else◌, List, [], ◌∷◌, length, map, Option, Some, arith}
+use Rattle.std.specs.Prelude.{slice_get, option_map, SomeIff}
 use Rattle.std.proofs.lemmas.List.{length-map}
 use Rattle.std.proofs.lemmas.Option.{slice_get-map}
 use Rattle.wincode_describe.specs.Parts.{Part, seen}
-use Rattle.wincode_describe.specs.Places.{Walk, Walked, is_full, number_of, last_number, item_at, items_walk}
+use Rattle.wincode_describe.specs.Places.{Walk, is_full, number_of, last_number, item_at, items_walk}
 use Rattle.wincode_describe.specs.Readers.{and_then}
 use Rattle.wincode_describe.specs.declared.shown.Shown.{Shown}
 

@@ -1,6 +1,6 @@
 -- One part more, behind others.
-use Rattle.std.proofs.Common.{◌≡◌, ◌∙◌, refl, sym, ap, ℕ, zero, suc, ◌+◌, List, [], ◌∷◌, ◌++◌, length, arith, length-append, append-nil}
-use Rattle.std.specs.Prelude.{slice_get, get_or, ◌-◌, ◌<◌, None, Some}
+use Rattle.std.proofs.Common.{◌≡◌, ◌∙◌, refl, ap, ℕ, zero, suc, ◌+◌, List, [], ◌∷◌, ◌++◌, length, arith, length-append, append-nil}
+use Rattle.std.specs.Prelude.{slice_get, ◌-◌, ◌<◌, None, Some}
 use Rattle.std.proofs.lemmas.Option.{none-some, same_Some, slice_get-get_or}
 use Rattle.wincode_describe.specs.Parts.{Part, part_bytes, parts_bytes}
 use Rattle.wincode_describe.specs.Spans.{AreSpans}

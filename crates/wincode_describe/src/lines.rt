@@ -1,7 +1,18 @@
 //! What is printed of bytes that are explained or checked.
 ghost use Rattle.std.specs.List.{slice_get};
 ghost use Rattle.std.specs.Prelude.{
-    ◌≡◌, ◌+◌, ◌≤◌, List, [], ◌++◌, length, map, slice_range, MatchOption, IfOk, OnOk,
+  ◌≡◌,
+  ◌+◌,
+  ◌≤◌,
+  List,
+  [],
+  ◌++◌,
+  length,
+  map,
+  slice_range,
+  MatchOption,
+  IfOk,
+  OnOk,
 };
 ghost use Rattle.std.specs.String.{string_bytes};
 ghost use Rattle.wincode_describe.specs.Explained.{Explains};

@@ -3,7 +3,15 @@ ghost use Rattle.std.specs.Prelude.{◌≡◌, map, IfOk};
 ghost use Rattle.std.specs.String.{string_bytes};
 ghost use Rattle.wincode_describe.specs.Parts.{seen};
 ghost use Rattle.wincode_describe.specs.Places.{
-    Walked, is_full, one_part, number_of, last_number, items_walk, type_walks, case_walk, places,
+  Walked,
+  is_full,
+  one_part,
+  number_of,
+  last_number,
+  items_walk,
+  type_walks,
+  case_walk,
+  places,
 };
 
 use crate::described::{Cases, Described};

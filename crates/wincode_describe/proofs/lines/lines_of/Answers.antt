@@ -1,4 +1,4 @@
-use Rattle.std.proofs.Common.{◌≡◌, ◌∙◌, sym, ap, ℕ, List, [], map, length}
+use Rattle.std.proofs.Common.{◌≡◌, ◌∙◌, sym, ap, [], map, length}
 use Rattle.std.specs.Prelude.{get_or}
 use Rattle.std.specs.String.{string_bytes}
 use Rattle.std.proofs.lemmas.List.{length-map}
@@ -13,8 +13,8 @@ returns c = λ are.
     let shown = c.args.explained.now.parts.items in
     let i = length c.as_slice-parts.result.now in
     let all : map string_bytes c.as_slice-in-Some.result.now ≡ places d (map seen shown) =
-        ap (map string_bytes) c.as_slice-in-Some.ensures.value ∙ c.in_ok-places.ensures ∙ ap (λ xs. places d (map seen xs)) c.as_slice-parts.ensures.value in
+    ap (map string_bytes) c.as_slice-in-Some.ensures.value ∙ c.in_ok-places.ensures ∙ ap (λ xs. places d (map seen xs)) c.as_slice-parts.ensures.value in
     let place = place_is c.as_slice-in-Some.result.now i c.place_at-place.result.now c.place_at-place.ensures
-        ∙ ap (λ ps. get_or ps i []) all
-        ∙ ap (λ k. get_or (places d (map seen shown)) k []) (ap length c.as_slice-parts.ensures.value ∙ sym (length-map shown seen)) in
+    ∙ ap (λ ps. get_or ps i []) all
+    ∙ ap (λ k. get_or (places d (map seen shown)) k []) (ap length c.as_slice-parts.ensures.value ∙ sym (length-map shown seen)) in
     rw c.in-Some.is (string_bytes c.in_ok-text.text, same_refusal _ _ _ _ _ _ (c.end_of.ensures (map seen shown) are) place c.in_ok-push_refusal-in-Some.ensures)
