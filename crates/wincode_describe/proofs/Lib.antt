@@ -7,3 +7,4 @@ mod ReadSteps
 mod ReadsBack
 mod WrittenSplits
 mod LineParts
+mod Placed

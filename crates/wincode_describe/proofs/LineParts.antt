@@ -1,8 +1,10 @@
 -- The pieces of a line, one behind another.
-use Rattle.std.proofs.Common.{◌≡◌, ◌∙◌, ap, ℕ, List, ◌++◌, append_assoc, decimal, codes, if◌then◌else◌, Result, Ok, Err}
-use Rattle.std.specs.Prelude.{OnOk}
+use Rattle.std.proofs.Common.{◌≡◌, ◌∙◌, ap, ℕ, zero, suc, List, [], ◌∷◌, ◌++◌, map, append_assoc, decimal, codes, if◌then◌else◌, Result, Ok, Err}
+use Rattle.std.specs.Prelude.{OnOk, MatchOption, String, get_or}
+use Rattle.std.specs.List.{slice_get}
+use Rattle.std.specs.String.{string_bytes}
 use Rattle.std.specs.Result.{is_ok}
-use Rattle.wincode_describe.specs.Lines.{IsLine, spaced}
+use Rattle.wincode_describe.specs.Lines.{IsLine, IsRefusal, spaced}
 
 seven : (a b c d e f g h : List ℕ) → ((((a ++ (b ++ (c ++ d))) ++ e) ++ f) ++ g) ++ h ≡ a ++ (b ++ (c ++ (d ++ (e ++ (f ++ (g ++ h))))))
 seven a b c d e f g h =
@@ -26,3 +28,17 @@ line_of n place digits space value end begin t0 t1 t2 t3 t4 t5 b e1 e2 e3 e4 e5 
 pub where_ok : {T E : Type 0} (r : Result T E) (x y new : List ℕ) → new ≡ (if is_ok r then x else y) → OnOk r (new ≡ x)
 where_ok (Ok a) x y new e = e
 where_ok (Err a) x y new e = tt
+
+-- what stands at that number is the place with it
+pub place_is : {Z : Type 0} (places : List (String Z)) (i : ℕ) (place : List ℕ)
+    → MatchOption (slice_get places i) (place ≡ []) (λ found. place ≡ string_bytes found) → place ≡ get_or (map string_bytes places) i []
+place_is [] i place h = h
+place_is (p ∷ ps) zero place h = h
+place_is (p ∷ ps) (suc i) place h = place_is ps i place h
+
+-- a refusal is that of the same offset and place
+pub same_refusal : (n m : ℕ) (p q old new : List ℕ) → n ≡ m → p ≡ q → IsRefusal n p old new → IsRefusal m q old new
+same_refusal n m p q old new e f h = (
+  h.0,
+  h.1 ∙ ap (λ k. old ++ (decimal k ++ (codes ":" ++ (spaced p ++ h.0)))) e ∙ ap (λ r. old ++ (decimal m ++ (codes ":" ++ (spaced r ++ h.0)))) f,
+)

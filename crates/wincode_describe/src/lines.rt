@@ -1,8 +1,24 @@
 //! What is printed of bytes that are explained or checked.
 ghost use Rattle.std.specs.List.{slice_get};
-ghost use Rattle.std.specs.Prelude.{◌≡◌, ◌+◌, ◌≤◌, [], ◌++◌, length, slice_range, MatchOption, OnOk};
+ghost use Rattle.std.specs.Prelude.{
+  ◌≡◌,
+  ◌+◌,
+  ◌≤◌,
+  List,
+  [],
+  ◌++◌,
+  length,
+  map,
+  slice_range,
+  MatchOption,
+  IfOk,
+  OnOk,
+};
 ghost use Rattle.std.specs.String.{string_bytes};
-ghost use Rattle.wincode_describe.specs.Lines.{IsLine, spaced};
+ghost use Rattle.wincode_describe.specs.Explained.{Explains};
+ghost use Rattle.wincode_describe.specs.Lines.{IsLine, IsRefusal, EndsRefused, Tells, spaced, end_of};
+ghost use Rattle.wincode_describe.specs.Parts.{Part, seen};
+ghost use Rattle.wincode_describe.specs.Spans.{AreSpans};
 
 use crate::described::{Described, LengthScheme};
 use crate::explaining::{Checked, Explained, check, check_read, explain};
@@ -13,7 +29,7 @@ use crate::shown::Shown;
 use crate::spans::{Span, spans};
 use crate::streaming::{bytes_left, explain_source};
 use std::alloc::{AllocError, Global};
-use wincode_base::error::ReadResult;
+use wincode_base::error::{ReadError, ReadResult};
 use wincode_base::len::{BincodeLen, PREALLOCATION_LIMIT, SeqLen, ShortU16Len};
 use wincode_io::{Lifetime, Source, StreamReader};
 
@@ -84,7 +100,9 @@ fn bytes_at(bytes: &[u8], span: Span) -> &[u8]
 }
 
 /// Where the parts end.
-fn end_of(spans: &[Span]) -> usize {
+fn end_of(spans: &[Span]) -> usize
+    ensures { (parts : List Part) → AreSpans 0 parts spans.now → result ≡ end_of parts }
+{
     match spans.last() {
         Some(span) => span.offset.saturating_add(span.size),
         None => 0,
@@ -124,6 +142,38 @@ fn push_line(
     text.push_str("\n")
 }
 
+/// The line of a refusal.
+fn push_refusal(
+    alloc: Global,
+    text: &mut String,
+    at: usize,
+    place: &str,
+    error: &ReadError,
+) -> Result<(), AllocError>
+    ensures { OnOk result (IsRefusal at place.now (string_bytes text.old) (string_bytes text.new)) }
+{
+    let begin = format!(in alloc; "{at}:")?;
+    text.push_str(begin.as_str())?;
+    push_place(text, place)?;
+    let end = format!(in alloc; " refused: {error}\n")?;
+    text.push_str(end.as_str())
+}
+
+/// A line for each part, of those places.
+fn part_lines(
+    alloc: Global,
+    parts: &[Shown],
+    places: &[String],
+    spans: &[Span],
+    bytes: &[u8],
+) -> Result<String, AllocError> {
+    let mut text = String::new(alloc);
+    for (i, (part, span)) in parts.iter().zip(spans.iter()).enumerate() {
+        push_line(alloc, &mut text, bytes, *span, place_at(places, i), part)?;
+    }
+    Ok(text)
+}
+
 /// A line for each part that was explained: its offset, its bytes in hexadecimal, the first 16 where there are more, its
 /// place in the type and its value. A refusal is the last line: the offset behind the parts that were read, the place and
 /// the error.
@@ -133,31 +183,21 @@ fn lines_of(
     explained: &Explained,
     spans: &[Span],
     bytes: &[u8],
-) -> Result<String, AllocError> {
-    let places = places_of(alloc, described, explained.parts.as_slice())?;
-    let mut text = String::new(alloc);
-    for (i, (part, span)) in explained.parts.iter().zip(spans.iter()).enumerate() {
-        push_line(
-            alloc,
-            &mut text,
-            bytes,
-            *span,
-            place_at(places.as_slice(), i),
-            part,
-        )?;
+) -> Result<String, AllocError>
+    ensures { AreSpans 0 (map seen explained.now.parts.items) spans.now
+        → IfOk result (λ text. EndsRefused described.now (map seen explained.now.parts.items) explained.now.refused (string_bytes text)) }
+{
+    let parts = explained.parts.as_slice();
+    let places = places_of(alloc, described, parts)?;
+    let mut text = part_lines(alloc, parts, places.as_slice(), spans, bytes)?;
+    match &explained.refused {
+        None => Ok(text),
+        Some(error) => {
+            let place = place_at(places.as_slice(), parts.len());
+            push_refusal(alloc, &mut text, end_of(spans), place, error)?;
+            Ok(text)
+        }
     }
-    if let Some(error) = &explained.refused {
-        let at = end_of(spans);
-        let begin = format!(in alloc; "{at}:")?;
-        text.push_str(begin.as_str())?;
-        push_place(
-            &mut text,
-            place_at(places.as_slice(), explained.parts.len()),
-        )?;
-        let end = format!(in alloc; " refused: {error}\n")?;
-        text.push_str(end.as_str())?;
-    }
-    Ok(text)
 }
 
 /// What was explained of bytes, and where its parts stand.
@@ -165,7 +205,10 @@ fn explain_spans(
     alloc: Global,
     described: &Described,
     bytes: &[u8],
-) -> Result<(Explained, Vec<Span>), AllocError> {
+) -> Result<(Explained, Vec<Span>), AllocError>
+    ensures { IfOk result (λ found. Explains described.now bytes.now (map seen found.0.parts.items) found.0.refused
+        × AreSpans 0 (map seen found.0.parts.items) found.1.items) }
+{
     let explained = explain::<Lifetime>(alloc, described, bytes);
     let spans = spans(alloc, explained.parts.as_slice())?;
     Ok((explained, spans))
@@ -178,7 +221,9 @@ pub fn explained_lines(
     alloc: Global,
     described: &Described,
     bytes: &[u8],
-) -> Result<(bool, String), AllocError> {
+) -> Result<(bool, String), AllocError>
+    ensures { IfOk result (λ told. Tells described.now bytes.now told.0 (string_bytes told.1)) }
+{
     let (explained, spans) = explain_spans(alloc, described, bytes)?;
     let lines = lines_of(alloc, described, &explained, spans.as_slice(), bytes)?;
     Ok((explained.refused.is_none(), lines))
