@@ -77,7 +77,6 @@ pub fn encode_list<Len: SeqLen, T: SchemaWrite, const COUNT: usize>(
 
 /// Writes items, one after another: more than a few that are put together a block at a time, for which the writer has
 /// room at hand, and others as their schema writes them, those too whose form is as short as in memory.
-#[inline]
 pub(crate) fn write_many<T: SchemaWrite, W: Writer>(
     writer: &mut W,
     items: &[T::Src],
