@@ -149,7 +149,12 @@ fn behind_a_refusal(rt: HostRuntime) -> Result<(), Fail> {
     let alloc = rt.alloc();
     let mut messages = cut_body(alloc, false)?;
     let first = messages.next();
-    assert!(rt; matches!(&first, Some(Err(ReadError::Io(io::ReadError::ReadSizeLimit(16))))));
+    assert!(rt;
+        matches!(
+            &first,
+            Some(Err(ReadError::Io(io::ReadError::ReadSizeLimit(16))))
+        )
+    );
     for _ in 0..3u8 {
         assert!(rt; matches!(&messages.next(), Some(Err(ReadError::Custom(_)))));
     }

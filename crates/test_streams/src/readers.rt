@@ -377,7 +377,10 @@ fn failure_of<R: Reader<Any>>(reader: &mut R, call: usize) -> ReadResult<Option<
         5 => reader.copy_into_t(&mut form),
         6 => reader.copy_into_slice_t(&mut bytes),
         7 => reader.as_trusted_for(3).map(|_| ()),
-        _ => reader.peek().map(|_| ()),
+        _ => match reader.peek() {
+            Ok(_) => Ok(()),
+            Err(e) => Err(e),
+        },
     };
     match answer {
         Ok(()) => Ok(None),
