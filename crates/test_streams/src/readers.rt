@@ -376,11 +376,11 @@ fn failure_of<R: Reader<Any>>(reader: &mut R, call: usize) -> ReadResult<Option<
         4 => reader.copy_into_slice(&mut bytes),
         5 => reader.copy_into_t(&mut form),
         6 => reader.copy_into_slice_t(&mut bytes),
-        7 => reader.as_trusted_for(3).map(|_| ()),
-        _ => match reader.peek() {
+        7 => match reader.as_trusted_for(3) {
             Ok(_) => Ok(()),
             Err(e) => Err(e),
         },
+        _ => reader.peek().map(|_| ()),
     };
     match answer {
         Ok(()) => Ok(None),
