@@ -7,9 +7,8 @@ ghost use Rattle.wincode_base.specs.LeafLaws.{number_write_laws, signed_write_la
 ghost use Rattle.wincode_base.specs.Leaves.{number_write, signed_write};
 
 use crate::schema::SchemaWrite;
-use crate::schema::as_forms::write_all;
+use crate::schema::as_forms::{encode_form, write_all};
 use wincode_base::error::WriteResult;
-use wincode_base::front::put_front;
 use wincode_base::meta::TypeMeta;
 use wincode_io::Writer;
 
@@ -58,7 +57,7 @@ impl SchemaWrite for u16 {
 
     #[inline(always)]
     fn encode_front(src: &u16, dst: &mut [u8]) -> Option<usize> {
-        put_front(&src.to_le_bytes(), dst)
+        encode_form::<u16>(src, dst)
     }
 
     #[inline(always)]
@@ -116,7 +115,7 @@ impl SchemaWrite for u32 {
 
     #[inline(always)]
     fn encode_front(src: &u32, dst: &mut [u8]) -> Option<usize> {
-        put_front(&src.to_le_bytes(), dst)
+        encode_form::<u32>(src, dst)
     }
 
     #[inline(always)]
@@ -174,7 +173,7 @@ impl SchemaWrite for u64 {
 
     #[inline(always)]
     fn encode_front(src: &u64, dst: &mut [u8]) -> Option<usize> {
-        put_front(&src.to_le_bytes(), dst)
+        encode_form::<u64>(src, dst)
     }
 
     #[inline(always)]
@@ -232,7 +231,7 @@ impl SchemaWrite for u128 {
 
     #[inline(always)]
     fn encode_front(src: &u128, dst: &mut [u8]) -> Option<usize> {
-        put_front(&src.to_le_bytes(), dst)
+        encode_form::<u128>(src, dst)
     }
 
     #[inline(always)]
@@ -290,7 +289,7 @@ impl SchemaWrite for i8 {
 
     #[inline(always)]
     fn encode_front(src: &i8, dst: &mut [u8]) -> Option<usize> {
-        put_front(&src.to_le_bytes(), dst)
+        encode_form::<i8>(src, dst)
     }
 
     #[inline(always)]
@@ -348,7 +347,7 @@ impl SchemaWrite for i16 {
 
     #[inline(always)]
     fn encode_front(src: &i16, dst: &mut [u8]) -> Option<usize> {
-        put_front(&src.to_le_bytes(), dst)
+        encode_form::<i16>(src, dst)
     }
 
     #[inline(always)]
@@ -406,7 +405,7 @@ impl SchemaWrite for i32 {
 
     #[inline(always)]
     fn encode_front(src: &i32, dst: &mut [u8]) -> Option<usize> {
-        put_front(&src.to_le_bytes(), dst)
+        encode_form::<i32>(src, dst)
     }
 
     #[inline(always)]
@@ -464,7 +463,7 @@ impl SchemaWrite for i64 {
 
     #[inline(always)]
     fn encode_front(src: &i64, dst: &mut [u8]) -> Option<usize> {
-        put_front(&src.to_le_bytes(), dst)
+        encode_form::<i64>(src, dst)
     }
 
     #[inline(always)]
@@ -522,7 +521,7 @@ impl SchemaWrite for i128 {
 
     #[inline(always)]
     fn encode_front(src: &i128, dst: &mut [u8]) -> Option<usize> {
-        put_front(&src.to_le_bytes(), dst)
+        encode_form::<i128>(src, dst)
     }
 
     #[inline(always)]

@@ -1,9 +1,0 @@
-use Rattle.std.proofs.Common.{rules, true, ◌<◌, ◌^◌}
-use Rattle.std.specs.Int.{w128}
-use Rattle.wincode_base.proofs.Integers.{number_put}
-use Rattle.wincode_write.proofs.schema.leaves.numbers.U128SchemaWrite.encode_front.Goals as goal
-
-pub returns : goal.returns
-returns g =
-    let small : g.args.src.now < 256 ^ 16 = search rules in
-    number_put w128 true g.args.src.now small g.to_le_bytes.ensures g.put_front.new.dst g.put_front.result g.put_front.ensures.put
