@@ -10,7 +10,12 @@ fn lines(alloc: Global, text: &str, bytes: &[u8]) -> Result<String, Fail> {
 }
 
 /// A type, bytes and their lines.
-const ROWS: [(&str, &[u8], &str); 28] = [
+const ROWS: [(&str, &[u8], &str); 29] = [
+    (
+        "(Option<u8>, u8)",
+        &[2, 5],
+        "0: 02 .0 tag 2\n1: .0 refused: Invalid tag encoding: 2\n",
+    ),
     ("u16", &[2, 1, 9], "0: 0201 u16 258\n"),
     ("i8", &[255], "0: ff i8 -1\n"),
     (
