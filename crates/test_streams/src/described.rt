@@ -105,8 +105,8 @@ fn short_lengths(rt: HostRuntime) -> Result<(), Fail> {
 #[test]
 fn a_text_of_more_than_a_mebibyte(rt: HostRuntime) -> Result<(), Fail> {
     let alloc = rt.alloc();
-    let mut bytes = vec![in alloc; 97u8; 1_048_585]?;
-    bytes[..8].copy_from_slice(&[1, 0, 16, 0, 0, 0, 0, 0]);
+    let mut bytes = Vec::from_slice(alloc, &[1, 0, 16, 0, 0, 0, 0, 0])?;
+    bytes.resize(1_048_585, 97)?;
     let described = Described::parse(alloc, "String")?;
     let source = StdSource::new(bytes.as_slice());
     let (ok, lines) = explained_source_lines(alloc, &described, source)?;

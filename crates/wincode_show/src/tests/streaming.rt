@@ -60,8 +60,8 @@ fn whole_values(rt: HostRuntime) -> Result<(), Fail> {
 #[test]
 fn more_than_a_mebibyte(rt: HostRuntime) -> Result<(), Fail> {
     let alloc = rt.alloc();
-    let mut input = vec![in alloc; 97u8; 1_048_585]?;
-    input[..8].copy_from_slice(&[1, 0, 16, 0, 0, 0, 0, 0]);
+    let mut input = Vec::from_slice(alloc, &[1, 0, 16, 0, 0, 0, 0, 0])?;
+    input.resize(1_048_585, 97)?;
     let (output, answer) = relayed(alloc, "text", StdSource::new(input.as_slice()));
     assert!(rt; answer.is_ok() && output == input);
     let mut output = Vec::new(alloc);
