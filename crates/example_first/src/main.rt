@@ -23,8 +23,8 @@ enum Fault {
     Memory(#[from] AllocError),
     #[error(transparent)]
     Write(#[from] WriteError),
-    #[error("refused in front of byte {offset}: {error}")]
-    Read { offset: usize, error: ReadError },
+    #[error("refused at position {position}: {error}")]
+    Read { position: usize, error: ReadError },
 }
 
 fn first_order(alloc: Global) -> Result<Order, Fault> {
@@ -48,8 +48,8 @@ fn load(rt: &(impl Files + AllocGlobal)) -> Result<Order, Fault> {
     match Order::get(rt.alloc(), &mut cursor) {
         Ok(order) => Ok(order),
         Err(error) => {
-            let offset = cursor.position();
-            Err(Fault::Read { offset, error })
+            let position = cursor.position();
+            Err(Fault::Read { position, error })
         }
     }
 }

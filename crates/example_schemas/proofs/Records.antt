@@ -1,38 +1,6 @@
 -- Reading and writing a record over a device, through one window of its size.
-use Rattle.std.proofs.Common.{
-  ◌≡◌,
-  ◌∙◌,
-  sym,
-  subst,
-  ap,
-  ℕ,
-  ◌<◌,
-  ◌≤◌,
-  ◌^◌,
-  ◌&&◌,
-  not,
-  Bool,
-  true,
-  false,
-  true≢false,
-  List,
-  [],
-  ◌∷◌,
-  ◌++◌,
-  length,
-  map,
-  refl,
-  arith,
-  lit≤,
-  lit<,
-  append-nil,
-  IsTrue,
-  inl,
-  inr,
-  Result,
-  Ok,
-  Err,
-}
+use Rattle.std.proofs.Common.{◌≡◌, ◌∙◌, sym, subst, ap, ℕ, ◌<◌, ◌≤◌, ◌^◌, ◌&&◌, not, Bool, true, false, true≢false, List, [], ◌∷◌, ◌++◌, length, map}
+use Rattle.std.proofs.Common.{refl, arith, lit≤, lit<, append-nil, IsTrue, inl, inr, Result, Ok, Err}
 use Rattle.std.proofs.lemmas.List.{take_all, map-id, length-append}
 use Rattle.std.specs.Result.{IfErr, IsOk}
 use Rattle.std.specs.Borrow.{GName}

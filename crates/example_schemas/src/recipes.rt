@@ -57,8 +57,8 @@ pub type Settings = (u32, bool, String);
 /// Why a file is refused, and where reading stopped.
 #[derive(Debug, Drop, Error)]
 pub enum Damaged {
-    #[error("in front of byte {offset}: {error}")]
-    At { offset: usize, error: ReadError },
+    #[error("at position {position}: {error}")]
+    At { position: usize, error: ReadError },
     #[error("{0} bytes behind the settings")]
     Longer(usize),
 }
@@ -69,8 +69,8 @@ pub fn settings_of(alloc: Global, bytes: &[u8]) -> Result<Settings, Damaged> {
     let settings = match <Settings as SchemaGet<Lifetime>>::get(alloc, &mut cursor) {
         Ok(settings) => settings,
         Err(error) => {
-            let offset = cursor.position();
-            return Err(Damaged::At { offset, error });
+            let position = cursor.position();
+            return Err(Damaged::At { position, error });
         }
     };
     match bytes.len().saturating_sub(cursor.position()) {

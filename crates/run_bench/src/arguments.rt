@@ -22,6 +22,16 @@ impl Asked {
     }
 }
 
+/// Whether one of the arguments is this word.
+pub fn is_asked(rt: &(impl Env + AllocGlobal), word: &str) -> Result<bool, Failure> {
+    for argument in env::args(rt)?.skip(1) {
+        if argument.as_str() == word {
+            return Ok(true);
+        }
+    }
+    Ok(false)
+}
+
 /// The words beside `--time`; `None` where no argument is `--time`.
 pub fn asked_by(rt: &(impl Env + AllocGlobal)) -> Result<Option<Asked>, Failure> {
     let mut words = Vec::new(rt.alloc());

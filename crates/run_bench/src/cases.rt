@@ -7,6 +7,7 @@ use crate::records::time_records;
 use crate::streams::time_streams;
 use crate::timing::Failure;
 use crate::values::time_value;
+use crate::writing::time_writing;
 use example_schemas::event::EventU8;
 use example_schemas::message::Message;
 use std::collections::{BTreeMap, HashMap, VecDeque};
@@ -111,5 +112,6 @@ pub fn time_cases(
     time_records(rt, asked)?;
     time_small(rt, asked)?;
     time_streams(rt, asked)?;
+    time_writing(rt, asked)?;
     time_all_pieces(rt, asked)
 }

@@ -5,7 +5,10 @@
 //! how many hundredths of the copy of as many bytes in the same run that is. `--time WORD..` times the
 //! cases alone whose names have one of the words in them. Each run looks at what it made, and what it reads
 //! and writes is made of a number that depends on the arguments, so that no run can leave anything out. Where values
-//! are read as they come, they stand in a file in the folder for such, which is removed afterwards.
+//! are read as they come or written as they go, they stand in a file in the folder for such, which is removed afterwards.
+//!
+//! With `--many` it reads back maps of more than a mebi of pairs, and as many tokens, which takes a test too long. With
+//! `--large` it writes a gibibyte of records through a writer's buffer to such a file, and prints how long that took.
 #![tactic(auto)]
 
 mod arguments;
@@ -13,19 +16,42 @@ mod cases;
 mod each;
 mod look;
 mod made;
+mod mebi;
 mod pieces;
 mod records;
 mod streams;
 mod timing;
 mod values;
+mod writing;
 
-use arguments::asked_by;
+use arguments::{asked_by, is_asked};
 use cases::time_cases;
+use mebi::{COUNT, are_hashed_pairs_kept, are_ordered_pairs_kept, are_tokens_kept};
 use timing::Failure;
+use writing::write_large;
+
+/// Whether more than a mebi of pairs and of tokens are kept.
+fn keep_many(rt: &(impl Print + AllocGlobal)) -> Result<(), Failure> {
+    let alloc = rt.alloc();
+    if !are_ordered_pairs_kept(alloc)?
+        || !are_hashed_pairs_kept(alloc)?
+        || !are_tokens_kept(alloc)?
+    {
+        return Err(Failure::Different);
+    }
+    println!(rt; "{COUNT} pairs of each map were read back, and as many tokens of a text")?;
+    Ok(())
+}
 
 fn main(rt: HostRuntime) -> Result<(), Failure> {
     if let Some(asked) = asked_by(&rt)? {
         return time_cases(&rt, &asked);
+    }
+    if is_asked(&rt, "--many")? {
+        return keep_many(&rt);
+    }
+    if is_asked(&rt, "--large")? {
+        return write_large(&rt);
     }
     println!(rt; "run_bench --time prints how long lists take")?;
     Ok(())

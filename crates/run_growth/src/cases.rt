@@ -1,5 +1,6 @@
 //! Calls that take memory, each with what it may answer, and calls that take none.
 pub mod reading;
+pub mod sinks;
 pub mod streaming;
 pub mod without;
 pub mod writing;

@@ -15,7 +15,8 @@ fn all(alloc: Global) -> Result<Ending, Unlike> {
     let reading = cases::reading::all(alloc)?;
     let streaming = cases::streaming::all(alloc)?;
     let writing = cases::writing::all(alloc)?;
-    Ok(reading.and(streaming).and(writing))
+    let sinks = cases::sinks::all(alloc)?;
+    Ok(reading.and(streaming).and(writing).and(sinks))
 }
 
 fn main(rt: HostRuntime) -> Result<(), Unlike> {

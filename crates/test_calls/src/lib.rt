@@ -8,6 +8,8 @@ mod bulk;
 #[cfg(test)]
 mod calls;
 #[cfg(test)]
+mod exact;
+#[cfg(test)]
 mod large;
 #[cfg(test)]
 mod leaves;

@@ -3,10 +3,11 @@
 /// What stands at the top.
 mod top {
     pub use wincode::{
-        By, Error, Key, Messages, OneText, ReadError, ReadResult, Result, RoundTrip, SchemaGet,
-        SchemaRead, SchemaReadOwned, SchemaWrite, Shape, TagCode, Told, TypeMeta, WriteError,
-        WriteResult, ZeroCopy, deserialize, deserialize_from, deserialize_mut, read_tag, serialize,
-        serialize_into, serialized_size, write_tag,
+        By, Error, ExactError, Key, Messages, OneText, ReadError, ReadResult, Result, RoundTrip,
+        SchemaGet, SchemaRead, SchemaReadOwned, SchemaWrite, Shape, TagCode, Told, TypeMeta,
+        WriteError, WriteResult, ZeroCopy, append_message, copy_front, deserialize,
+        deserialize_exact, deserialize_from, deserialize_mut, read_tag, rewrite, serialize,
+        VERSION, serialize_into, serialized_size, whole_length, write_tag,
     };
 }
 
@@ -15,10 +16,12 @@ mod modules {
     pub use wincode::containers::{
         BinaryHeap, BoxedSlice, Elem, Option, Pod, RcSlice, Result, Vec, VecDeque,
     };
+    pub use wincode::exact::ExactError;
     pub use wincode::laws::{edit_in_place, edit_one};
     pub use wincode::len::{
         BincodeLen, NO_LIMIT, PREALLOCATION_LIMIT, SeqLen, ShortU16, ShortU16Len, short_vec,
     };
+    pub use wincode::logs::{append_message, whole_length};
     pub use wincode::markers::{OneText, SchemaReadOwned};
     pub use wincode::meta::TypeMeta;
     pub use wincode::schema::{RoundTrip, SchemaGet, SchemaRead, SchemaWrite};
@@ -58,12 +61,13 @@ mod schemas {
 /// Readers and writers, as `wincode` passes them on.
 mod inputs {
     pub use wincode::io::{
-        Borrowed, CountedSliceReader, Cursor, Held, Input, InputMut, Lending, Lifetime, ReadError,
-        ReadResult, ReadWindow, Reader, Ref, RefMut, SharedBytes, SliceRef, SliceRefMut, SliceView,
-        SliceWriter, Source, StdSource, StreamReader, TrustedSliceReader,
-        TrustedSliceReaderZeroCopy, TrustedSliceReaderZeroCopyMut, TrustedSliceWriter, View,
-        WriteError, WriteResult, WriteWindow, Writer, ZeroCopy, copy_into_array, fill_array,
-        see_bytes, size_of_form, total_size,
+        Borrowed, CountedSliceReader, Cursor, Held, Input, InputMut, Lending, Lifetime, MemorySink,
+        ReadError, ReadResult, ReadWindow, Reader, Ref, RefMut, SharedBytes, Sink, SliceRef,
+        SliceRefMut, SliceView, SliceWriter, Source, StdSink, StdSource, StreamReader,
+        StreamWriter, TrustedSliceReader, TrustedSliceReaderZeroCopy,
+        TrustedSliceReaderZeroCopyMut, TrustedSliceWriter, Unfinished, View, WriteError,
+        WriteResult, WriteWindow, Writer, ZeroCopy, copy_into_array, fill_array, see_bytes,
+        size_of_form, total_size,
     };
 }
 
@@ -81,5 +85,6 @@ fn paths(rt: HostRuntime) -> Result<(), Fail> {
     let bad = errors::invalid_bool_encoding(2);
     assert!(rt; matches!(&bad, top::ReadError::InvalidBoolEncoding(2)));
     assert_eq!(rt; inputs::size_of_form::<u32>(), 4);
+    assert_eq!(rt; top::VERSION, "0.1.0");
     Ok(())
 }

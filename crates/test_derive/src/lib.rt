@@ -1,4 +1,4 @@
-//! Tests of the schemas that `wincode_derive` wrote, and of what it refuses.
+//! Tests of the schemas that `wincode_derive` wrote.
 #![tactic(auto)]
 
 #[cfg(test)]
@@ -11,8 +11,6 @@ mod labels;
 mod marks;
 #[cfg(test)]
 mod pages;
-#[cfg(test)]
-mod refusals;
 #[cfg(test)]
 mod reports;
 #[cfg(test)]

@@ -245,7 +245,7 @@ const UNDECLARED: [(&str, &str); 6] = [
     ),
     (
         "Ring",
-        "line 42: no schema for a type that has itself for a part",
+        "42:18: `Ring.next`: a type that has itself for a part has no schema",
     ),
     (
         "containers::Vec<u8, U>",

@@ -63,7 +63,7 @@ fn settings_of_a_file(rt: HostRuntime) -> Result<(), Fail> {
             let text = format!(in alloc; "{damaged}")?;
             assert_eq!(rt;
                 text.as_str(),
-                "in front of byte 5: Invalid bool encoding: 2"
+                "at position 5: Invalid bool encoding: 2"
             );
         }
         Ok(_) => return Err(Fail::from("settings")),

@@ -1,8 +1,10 @@
-//! Values read through a buffered reader, beside the same values read from a slice.
+//! Values read through a buffered reader, beside the same values read from a slice, and logs that were cut.
 #![tactic(auto)]
 
 #[cfg(test)]
 mod described;
+#[cfg(test)]
+mod logs;
 #[cfg(test)]
 mod messages;
 #[cfg(test)]

@@ -3,5 +3,6 @@
 
 pub mod counted;
 pub mod digits;
+pub mod few;
 pub mod readers;
 pub mod writers;

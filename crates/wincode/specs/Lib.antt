@@ -4,3 +4,4 @@ pub mod OneTextLaws
 pub mod Serde
 pub mod Messages
 pub mod Rewriting
+pub mod Logs

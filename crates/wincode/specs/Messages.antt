@@ -1,18 +1,22 @@
 -- What the next value of a source is.
-use Rattle.std.specs.Prelude.{◌≡◌, ◌<◌, ◌⊎◌, Bool, true, false, length, IsTrue, Result, OnOk, IfOk, IfErr}
+use Rattle.std.specs.Prelude.{◌≡◌, ℕ, ◌+◌, ◌<◌, ◌⊎◌, min, Bool, true, false, List, length, IsTrue, Option, Some, None, Result, Ok, Err, OnOk, IfOk, IfErr}
 use Rattle.std.specs.IoError.{error_kind}
 use Rattle.std.specs.declared.io.ErrorKind.TheVariants.{Other}
 use Rattle.wincode_io.specs.Readers.{ReaderState, Stays, BytesReadRefused}
+use Rattle.wincode_io.specs.Sources.{SourceState}
 use Rattle.wincode_io.specs.Streams.{Streamed}
+use Rattle.wincode_io.specs.Writers.{byte_limit}
 use Rattle.wincode_io.specs.declared.error.ReadError.TheVariants as reader
 use Rattle.wincode_base.specs.Grammar.{ReadGrammar}
 use Rattle.wincode_base.specs.Outcomes.{Gives, SchemaReadRefused}
 use Rattle.wincode_base.specs.declared.error.ReadError.{ReadError}
 use Rattle.wincode_base.specs.declared.error.ReadError.TheVariants as reading
 
--- the reader, whether a value was refused, and whether it was by a failure of the source
+-- the reader, where in it the last whole value ended, whether a value was refused, and whether it was by a failure of the
+-- source
 pub record Progress (S : Type 0) : Type 0 where
   pub reader : Streamed S
+  pub position : ℕ
   pub is_refused : Bool
   pub has_failed : Bool
 
@@ -49,3 +53,11 @@ abbrev pub RefusedAgain : Bool → ReadError → Type 0
 RefusedAgain true (reading.Io (reader.Io e)) = error_kind e ≡ Other
 RefusedAgain false (reading.Custom text) = Unit {0}
 RefusedAgain _ _ = ⊥
+
+-- The position is behind the value that was read, by as many bytes as its own encoding has; behind all else it stays.
+abbrev pub Advances : {S D V : Type 0} → (S → SourceState) → (List ℕ → V → Type 0) → (D → V) → Progress S → Progress S → Option (Result D ReadError) → Type 0
+Advances state reads model old new (Some (Ok d)) = (new.position ≡ min new.reader.position byte_limit)
+    × (IsTrue (state old.reader.source).is_known → (encoding : List ℕ) × reads encoding (model d)
+    × (new.reader.position ≡ old.reader.position + length encoding))
+Advances state reads model old new (Some (Err e)) = new.position ≡ old.position
+Advances state reads model old new None = new.position ≡ old.position

@@ -1,8 +1,14 @@
 -- What deserializing bytes answers.
-use Rattle.std.specs.Prelude.{ℕ, List, IsTrue, Option}
+use Rattle.std.specs.Prelude.{◌≡◌, ◌⊎◌, ℕ, ◌<◌, List, length, IsTrue, Option}
 use Rattle.std.specs.Option.{IsSomeAnd}
 use Rattle.wincode_io.specs.Readers.{ReaderState}
-use Rattle.wincode_base.specs.Outcomes.{Found}
+use Rattle.wincode_io.specs.Writers.{WriterState, BytesWriteRefused}
+use Rattle.wincode_base.specs.Grammar.{ReadGrammar, WriteGrammar}
+use Rattle.wincode_base.specs.Outcomes.{Found, FrontReadRefused, SizeRefused}
+use Rattle.wincode_base.specs.declared.error.WriteError.{WriteError}
+use Rattle.wincode_base.specs.declared.error.WriteError.TheVariants as writing
+use Rattle.wincode.specs.declared.exact.ExactError.{ExactError}
+use Rattle.wincode.specs.declared.exact.ExactError.TheVariants.{Read, Behind}
 
 -- a front of the bytes, where they are told, reads as the value
 abbrev pub IsInFront : {V : Type 0} → (List ℕ → V → Type 0) → ReaderState → V → Type 0
@@ -11,3 +17,17 @@ IsInFront reads old v = IsTrue old.is_known → (rest : List ℕ) × Found reads
 -- the destination holds a value that reads in front of the bytes
 abbrev pub HoldsFront : {D V : Type 0} → (List ℕ → V → Type 0) → (D → V) → ReaderState → Option D → Type 0
 HoldsFront reads model old dst = IsSomeAnd dst (λ d. IsInFront reads old (model d))
+
+-- Why bytes are not exactly one value: no front of them is one, as its schema says; or so many are left behind it.
+abbrev pub ExactRefused : {V : Type 0} → ReadGrammar V → ReaderState → ExactError → Type 0
+ExactRefused g s (Read e) = FrontReadRefused g s e
+ExactRefused {V} g s (Behind n) = (0 < n) × (v : V) × (rest : List ℕ) × Found g.reads s.rest v rest × (n ≡ length rest)
+
+-- room for the bytes of the value was refused by the writer
+abbrev pub NoRoom : {S K V : Type 0} {put : S → List ℕ → S} {room : S → ℕ} → WriteGrammar V → WriterState put room K → WriterState put room K → V → WriteError → Type 0
+NoRoom g old new v (writing.Io e) = BytesWriteRefused (g.size v) old new e
+NoRoom g old new v e = ⊥
+
+-- Why a value is not appended: its size is refused, or room for so many bytes is.
+abbrev pub AppendRefused : {S K V : Type 0} {put : S → List ℕ → S} {room : S → ℕ} → WriteGrammar V → WriterState put room K → WriterState put room K → V → WriteError → Type 0
+AppendRefused g old new v e = SizeRefused g v e ⊎ (g.can v × NoRoom g old new v e)

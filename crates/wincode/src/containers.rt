@@ -32,6 +32,7 @@ pub use tagged::{Option, Result};
 use wincode_base::error::{ReadResult, WriteResult};
 use wincode_base::meta::TypeMeta;
 pub use wincode_base::parts::Pod;
+use wincode_base::sizes::ItemSize;
 use wincode_read::Told;
 use wincode_read::schema::from_items::get_list;
 use wincode_write::schema::runs::encode_list;
@@ -60,7 +61,8 @@ impl<T: SchemaWrite, Len: SeqLen> SchemaWrite for Vec<T, Len> {
     }
 
     fn write<W: Writer>(writer: &mut W, src: &vec::Vec<T::Src>) -> WriteResult<()> {
-        write_list::<Len, T, &[T::Src], W, 24>(writer, &src.as_slice())
+        let size = ItemSize::of(T::type_meta());
+        write_list::<Len, T, &[T::Src], W, 24>(writer, &src.as_slice(), size)
     }
 
     #[inline]
@@ -188,7 +190,8 @@ impl<T: SchemaWrite, Len: SeqLen> SchemaWrite for VecDeque<T, Len> {
     }
 
     fn write<W: Writer>(writer: &mut W, src: &collections::VecDeque<T::Src>) -> WriteResult<()> {
-        write_list::<Len, T, collections::VecDeque<T::Src>, W, 24>(writer, src)
+        let size = ItemSize::of(T::type_meta());
+        write_list::<Len, T, collections::VecDeque<T::Src>, W, 24>(writer, src, size)
     }
 
     #[inline(always)]
@@ -318,7 +321,8 @@ impl<T: SchemaWrite, Len: SeqLen> SchemaWrite for BoxedSlice<T, Len> {
     }
 
     fn write<W: Writer>(writer: &mut W, src: &boxed::BoxedSlice<T::Src>) -> WriteResult<()> {
-        write_list::<Len, T, &[T::Src], W, 16>(writer, &src.as_slice())
+        let size = ItemSize::of(T::type_meta());
+        write_list::<Len, T, &[T::Src], W, 16>(writer, &src.as_slice(), size)
     }
 
     #[inline]
@@ -446,7 +450,8 @@ impl<T: SchemaWrite, Len: SeqLen> SchemaWrite for RcSlice<T, Len> {
     }
 
     fn write<W: Writer>(writer: &mut W, src: &rc::RcSlice<T::Src>) -> WriteResult<()> {
-        write_list::<Len, T, &[T::Src], W, 16>(writer, &src.as_slice())
+        let size = ItemSize::of(T::type_meta());
+        write_list::<Len, T, &[T::Src], W, 16>(writer, &src.as_slice(), size)
     }
 
     #[inline]
@@ -577,7 +582,8 @@ where
     }
 
     fn write<W: Writer>(writer: &mut W, src: &collections::BinaryHeap<T::Src>) -> WriteResult<()> {
-        write_list::<Len, T, collections::BinaryHeap<T::Src>, W, 24>(writer, src)
+        let size = ItemSize::of(T::type_meta());
+        write_list::<Len, T, collections::BinaryHeap<T::Src>, W, 24>(writer, src, size)
     }
 
     #[inline(always)]

@@ -1,10 +1,11 @@
 //! The values of a source, one after another.
-ghost use Rattle.std.specs.Prelude.{◌≡◌, [], false, IsErrAnd, IfOk, IfErr, IfSome, IsSomeAnd, IsNone, IsTrue};
+ghost use Rattle.std.specs.Prelude.{◌≡◌, min, [], false, IsErrAnd, IfOk, IfErr, IfSome, IsSomeAnd, IsNone, IsTrue};
 ghost use Rattle.wincode_base.specs.declared.error.ReadError.TheVariants as reading;
 ghost use Rattle.wincode_io.specs.Readers.{Stays};
 ghost use Rattle.wincode_io.specs.Streams.{stream_state};
 ghost use Rattle.wincode_io.specs.declared.error.ReadError.TheVariants as reader;
-ghost use Rattle.wincode.specs.Messages.{NextOutcome, Remembers, RefusedAgain, is_failure};
+ghost use Rattle.wincode_io.specs.Writers.{byte_limit};
+ghost use Rattle.wincode.specs.Messages.{Advances, NextOutcome, Remembers, RefusedAgain, is_failure};
 
 use crate::io::{self, Lifetime, Reader, Source, StreamReader};
 use crate::markers::SchemaReadOwned;
@@ -16,23 +17,28 @@ use wincode_base::error::{ReadError, ReadResult};
 
 /// The values of a source, one after another, to its end: those of a log or a snapshot file.
 ///
-/// `T` is their schema. To contracts it is the reader of the source, whether a value was refused, and whether by a
-/// failure of the source.
+/// `T` is their schema. To contracts it is the reader of the source, where in it the last whole value ended, whether a
+/// value was refused, and whether by a failure of the source.
 #[derive(Drop)]
 pub struct Messages<S: Source, T> {
     alloc: Global,
     reader: StreamReader<S>,
+    position: usize,
     is_refused: bool,
     has_failed: bool,
     values: PhantomData<T>,
 }
 
 impl<S: Source, T> Model for Messages<S, T> {
+    ghost use Rattle.std.specs.Prelude.{◌≡◌, min, false};
+    ghost use Rattle.wincode_io.specs.Writers.{byte_limit};
     ghost use Rattle.wincode.specs.Messages.{Progress};
 
     ghost Value = { Progress S };
 
-    ghost view = { λ m. record { reader = m.reader; is_refused = m.is_refused; has_failed = m.has_failed } };
+    ghost view = { λ m. record { reader = m.reader; position = m.position; is_refused = m.is_refused; has_failed = m.has_failed } };
+
+    ghost invariant = { λ m. m.is_refused ≡ false → m.position ≡ min m.reader.position byte_limit };
 }
 
 impl<S: Source, T> Messages<S, T> {
@@ -41,7 +47,7 @@ impl<S: Source, T> Messages<S, T> {
     pub fn new(alloc: Global, source: S) -> ReadResult<Self>
     where
         S: Drop,
-        ensures ok { IfOk result (λ m. (m.reader.at_hand ≡ []) × (m.reader.source ≡ source) × (m.is_refused ≡ false)) }
+        ensures ok { IfOk result (λ m. (m.position ≡ 0) × (m.reader.position ≡ 0) × (m.reader.at_hand ≡ []) × (m.reader.source ≡ source) × (m.is_refused ≡ false)) }
         ensures err { IfErr result (λ e. e ≡ reading.Io reader.OutOfMemory) }
     {
         match StreamReader::new(alloc, source) {
@@ -52,11 +58,13 @@ impl<S: Source, T> Messages<S, T> {
 
     /// The values of what the reader has.
     pub fn of_reader(alloc: Global, reader: StreamReader<S>) -> Self
-        ensures { result ≡ record { reader = reader; is_refused = false; has_failed = false } }
+        ensures { result ≡ record { reader = reader; position = min reader.position byte_limit; is_refused = false; has_failed = false } }
     {
+        let position = reader.position();
         Messages {
             alloc,
             reader,
+            position,
             is_refused: false,
             has_failed: false,
             values: PhantomData,
@@ -71,11 +79,21 @@ impl<S: Source, T> Messages<S, T> {
         let Messages {
             alloc: _,
             reader,
+            position: _,
             is_refused: _,
             has_failed: _,
             values: _,
         } = self;
         reader
+    }
+
+    /// Where the last whole value ended, or where the reader stood when there was none yet: how many bytes went by up to
+    /// there, at most `usize::MAX`. Of a log that is cut off that is how long its whole part is.
+    pub fn position(&self) -> usize
+        ensures now { result ≡ self.now.position }
+        ensures behind { self.now.is_refused ≡ false → result ≡ min self.now.reader.position byte_limit }
+    {
+        self.position
     }
 }
 
@@ -89,16 +107,22 @@ impl<S: Source, T: SchemaReadOwned<Lifetime<'static>>> Messages<S, T> {
         ensures again { IsTrue self.old.is_refused → (self.new ≡ self.old) × IsSomeAnd result (λ r. IsErrAnd r (RefusedAgain self.old.has_failed)) }
         ensures none { IsNone result → (self.new.is_refused ≡ false) × Stays (stream_state S.state self.old.reader) (stream_state S.state self.new.reader)
             × (IsTrue (stream_state S.state self.old.reader).is_known → (stream_state S.state self.old.reader).rest ≡ []) }
-        ensures some { self.old.is_refused ≡ false → IfSome result (NextOutcome T.SchemaRead.reading T.SchemaRead.model (stream_state S.state self.old.reader) (stream_state S.state self.new.reader)) }
+        ensures some { self.old.is_refused ≡ false → IfSome result (NextOutcome T.SchemaRead.reading T.SchemaRead.model
+            (stream_state S.state self.old.reader) (stream_state S.state self.new.reader)) }
         ensures remembered { IfSome result (Remembers self.new) }
+        ensures position { Advances S.state T.SchemaRead.reading.reads T.SchemaRead.model self.old self.new result }
     {
         if self.is_refused {
             return Some(Err(refused_again(self.has_failed)));
         }
         let next = next_of::<S, T>(self.alloc, &mut self.reader);
-        if let Some(Err(error)) = &next {
-            self.is_refused = true;
-            self.has_failed = is_failure(error);
+        match &next {
+            Some(Ok(_)) => self.position = self.reader.position(),
+            Some(Err(error)) => {
+                self.is_refused = true;
+                self.has_failed = is_failure(error);
+            }
+            None => {}
         }
         next
     }

@@ -1,9 +1,11 @@
 //! The calls that most programs make, as methods of every schema.
 ghost use Rattle.std.specs.Prelude.{◌≡◌, IfOk, IfErr, OnOk, OnErr};
 ghost use Rattle.wincode_base.specs.Outcomes.{Gives, Puts, ReadRefused, FrontReadRefused, IsSized, Wrote, SizeRefused, IsSerialized, SerializeRefused, SerializeIntoRefused};
-ghost use Rattle.wincode.specs.Serde.{IsInFront, HoldsFront};
+ghost use Rattle.wincode_io.specs.Readers.{memory, shared};
+ghost use Rattle.wincode.specs.Serde.{IsInFront, HoldsFront, ExactRefused};
 
-use crate::io::{Input, Lending, Reader, WriteWindow, Writer};
+use crate::exact::ExactError;
+use crate::io::{Input, Lending, Reader, TrustedSliceReaderZeroCopy, WriteWindow, Writer};
 use crate::markers::SchemaReadOwned;
 use crate::schema::{SchemaGet, SchemaRead, SchemaWrite};
 use std::alloc::Global;
@@ -54,7 +56,7 @@ impl<T: SchemaWrite> Serialize for T {
     }
 }
 
-/// A value from bytes, for every schema that reads. What follows the value is never looked at.
+/// A value from bytes, for every schema that reads. What follows the value is looked at by `deserialize_exact` alone.
 pub trait Deserialize<L: Lending>: SchemaRead<L> {
     /// The value at the front of the bytes. It is refused as `read` of a reader of the bytes is.
     fn deserialize<I: Input<Lends = L>>(alloc: Global, bytes: I) -> ReadResult<Self::Dst>
@@ -70,6 +72,12 @@ pub trait Deserialize<L: Lending>: SchemaRead<L> {
         ensures ok { OnOk result (HoldsFront Self.SchemaRead.reading.reads Self.SchemaRead.model (I.begins bytes) dst.new) }
         ensures err { IfErr result (FrontReadRefused Self.SchemaRead.reading (I.begins bytes)) }
         ensures same { OnErr result (dst.new ≡ dst.old) };
+
+    /// The value of exactly these bytes. It is refused as `deserialize` is, or as `Behind` of how many bytes are left
+    /// behind the value in front.
+    fn deserialize_exact(alloc: Global, bytes: L::Bytes) -> Result<Self::Dst, ExactError>
+        ensures ok { IfOk result (λ v. Self.SchemaRead.reading.reads (L.held bytes) (Self.SchemaRead.model v)) }
+        ensures err { IfErr result (ExactRefused Self.SchemaRead.reading (memory shared (L.held bytes))) };
 }
 
 impl<L: Lending, T: SchemaRead<L>> Deserialize<L> for T {
@@ -85,6 +93,16 @@ impl<L: Lending, T: SchemaRead<L>> Deserialize<L> for T {
     ) -> ReadResult<()> {
         let mut reader = bytes.reader();
         T::read(alloc, &mut reader, dst)
+    }
+
+    fn deserialize_exact(alloc: Global, bytes: L::Bytes) -> Result<T::Dst, ExactError> {
+        let mut reader = TrustedSliceReaderZeroCopy::<L>::new(bytes);
+        let value = <T as SchemaGet<L>>::get(alloc, &mut reader)?;
+        let behind = reader.at_hand().len();
+        if behind > 0 {
+            return Err(ExactError::Behind(behind));
+        }
+        Ok(value)
     }
 }
 

@@ -1,29 +1,6 @@
 -- Many numbers of one byte read or written at once.
-use Rattle.std.proofs.Common.{
-  ◌≡◌,
-  ◌∙◌,
-  sym,
-  ap,
-  subst,
-  ℕ,
-  ◌*◌,
-  ◌<◌,
-  ◌≤◌,
-  ◌^◌,
-  true,
-  false,
-  List,
-  [],
-  ◌∷◌,
-  ◌++◌,
-  length,
-  length-take,
-  map,
-  take,
-  suc,
-  refl,
-  arith,
-}
+use Rattle.std.proofs.Common.{◌≡◌, ◌∙◌, sym, ap, subst, ℕ, ◌*◌, ◌<◌, ◌≤◌, ◌^◌, true, false, List, [], ◌∷◌, ◌++◌, length, length-take, map, take, suc}
+use Rattle.std.proofs.Common.{refl, arith}
 use Rattle.std.proofs.lemmas.List.Elements.{All-head, All-tail}
 use Rattle.std.specs.Prelude.{Result, Ok, Err, is_ok, OnOk}
 use Rattle.wincode_io.specs.Bytes.{IsBytes}

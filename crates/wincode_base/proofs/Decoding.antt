@@ -1,29 +1,6 @@
 -- Values that are decoded from bytes, one after another.
-use Rattle.std.proofs.Common.{
-  ◌≡◌,
-  ◌∙◌,
-  sym,
-  ap,
-  subst,
-  refl,
-  ℕ,
-  ◌+◌,
-  ◌<◌,
-  List,
-  [],
-  ◌∷◌,
-  ◌++◌,
-  length,
-  map,
-  take,
-  drop,
-  slice_set,
-  append_assoc,
-  append-nil,
-  length-append,
-  take-append-drop,
-  arith,
-}
+use Rattle.std.proofs.Common.{◌≡◌, ◌∙◌, sym, ap, subst, refl, ℕ, ◌+◌, ◌<◌, List, [], ◌∷◌, ◌++◌, length, map, take, drop, slice_set, append_assoc}
+use Rattle.std.proofs.Common.{append-nil, length-append, take-append-drop, arith}
 use Rattle.std.proofs.lemmas.List.{map-append, take_more_set, take_all}
 use Rattle.std.proofs.Math.Seq.{set-append_seam}
 use Rattle.wincode_io.specs.Joins.{Joined, AreItems}

@@ -1,29 +1,6 @@
 -- What is read from, or written to, a window of the right size is read from, or written to, what is below.
-use Rattle.std.proofs.Common.{
-  ◌≡◌,
-  ◌∙◌,
-  sym,
-  subst,
-  ℕ,
-  ◌<◌,
-  ◌&&◌,
-  not,
-  Bool,
-  true,
-  false,
-  List,
-  [],
-  ◌++◌,
-  length,
-  refl,
-  arith,
-  append-nil,
-  IsTrue,
-  inl,
-  inr,
-  ◌-◌,
-  ap,
-}
+use Rattle.std.proofs.Common.{◌≡◌, ◌∙◌, sym, subst, ℕ, ◌<◌, ◌&&◌, not, Bool, true, false, List, [], ◌++◌, length, refl, arith, append-nil, IsTrue}
+use Rattle.std.proofs.Common.{inl, inr, ◌-◌, ap}
 use Rattle.wincode_io.specs.Readers.{ReaderState, Windowed, is_steady}
 use Rattle.wincode_io.specs.PlaceLaws.{loses_onward}
 use Rattle.wincode_io.specs.Writers.{WriterState, WriterLaws, BytesWriteRefused}

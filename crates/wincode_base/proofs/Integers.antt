@@ -1,35 +1,6 @@
 -- What numbers read and write, by the words of std.
-use Rattle.std.proofs.Common.{
-  ◌≡◌,
-  ◌∙◌,
-  sym,
-  ap,
-  subst,
-  ℕ,
-  ◌<◌,
-  ◌≤◌,
-  nat_eq,
-  zero,
-  suc,
-  ◌^◌,
-  Bool,
-  List,
-  [],
-  ◌∷◌,
-  ◌++◌,
-  w8,
-  length,
-  get_or,
-  refl,
-  arith,
-  Some,
-  None,
-  Option,
-  IfSome,
-  take,
-  false,
-  true,
-}
+use Rattle.std.proofs.Common.{◌≡◌, ◌∙◌, sym, ap, subst, ℕ, ◌<◌, ◌≤◌, nat_eq, zero, suc, ◌^◌, Bool, List, [], ◌∷◌, ◌++◌, w8, length, get_or, refl}
+use Rattle.std.proofs.Common.{arith, Some, false, true}
 use Rattle.std.proofs.lemmas.List.Elements.{All-from_get_or}
 use Rattle.std.specs.Int.{to_le_bytes, from_le_bytes, Width, byte_len}
 use Rattle.wincode_io.specs.Bytes.{IsBytes}
@@ -44,7 +15,7 @@ use Rattle.wincode_base.specs.Sequences.{gives_map, refuses_map}
 use Rattle.std.specs.Prelude.{ℤ}
 use Rattle.std.specs.Int.{cast_unsigned, cast_signed}
 use mir.Val.{bits}
-use Rattle.wincode_base.specs.Outcomes.{Gives, Puts, ReadRefused, Accepts, PieceReadRefused, Wrote, WriteRefused, Stopped, PieceWriteRefused, IsEncoded}
+use Rattle.wincode_base.specs.Outcomes.{Gives, Puts, ReadRefused, Accepts, PieceReadRefused, Wrote, WriteRefused, Stopped, PieceWriteRefused}
 use Rattle.wincode_base.specs.WriteSequences.{encoding_wrote, encoding_unwritten, encoding_stopped}
 use Rattle.wincode_base.specs.FixedSizeLaws.{takes_gives, takes_joins, denied_refuses, puts}
 use Rattle.wincode_base.specs.declared.error.ReadError.{ReadError}
@@ -114,13 +85,6 @@ module _ {S K : Type 0} {put : S → List ℕ → S} {room : S → ℕ} (w : Wid
       encoding_stopped (number_write (byte_len w) any) v encoding (number_is w v encoding is) size laws old new e d
       (λ x. subst (λ n. PieceWriteRefused n (room old.content) [] (writing.Io e)) size x)
 
--- the bytes of a number that were put over the front of others, where they were
-pub number_put : (w : Width) (any : Bool) (v : ℕ) {encoding : List ℕ} {P : Type 0} → P → encoding ≡ to_le_bytes w v → (bytes : List ℕ) (r : Option ℕ)
-    → IfSome r (λ n. (n ≤ length bytes) × (take n bytes ≡ encoding))
-    → IfSome r (λ n. (n ≤ length bytes) × IsEncoded (number_write (byte_len w) any) v (take n bytes) × P)
-number_put w any v small is bytes None p = tt
-number_put w any v {encoding} small is bytes (Some n) p = (p.0, (tt, p.1 ∙ number_is w v encoding is), small)
-
 -- the one byte of a byte
 pub byte_encoding : (v : ℕ) → v < 256 → v ∷ [] ≡ to_le_bytes w8 v
 byte_encoding v small = ap (λ b. b ∷ []) (omega arith)
@@ -165,14 +129,6 @@ module _ {S K : Type 0} {put : S → List ℕ → S} {room : S → ℕ} (w : Wid
       let size = signed_size w z encoding is in
       encoding_stopped (signed_write w any) z encoding (signed_is w z encoding is) size laws old new e d
       (λ x. subst (λ n. PieceWriteRefused n (room old.content) [] (writing.Io e)) size x)
-
--- the bytes of a signed number that were put over the front of others, where they were
-pub signed_put : (w : Width) (any : Bool) (z : ℤ) {encoding : List ℕ} {P : Type 0} → P → encoding ≡ to_le_bytes w (cast_unsigned w z)
-    → (bytes : List ℕ) (r : Option ℕ)
-    → IfSome r (λ n. (n ≤ length bytes) × (take n bytes ≡ encoding))
-    → IfSome r (λ n. (n ≤ length bytes) × IsEncoded (signed_write w any) z (take n bytes) × P)
-signed_put w any z fits is bytes None p = tt
-signed_put w any z {encoding} fits is bytes (Some n) p = (p.0, (tt, p.1 ∙ signed_is w z encoding is), fits)
 
 -- ---- booleans and values without bytes
 

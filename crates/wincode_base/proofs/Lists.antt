@@ -7,19 +7,8 @@ use Rattle.wincode_base.specs.Lengths.{Scheme, HasEncoding, encoding_len, length
 use Rattle.wincode_base.specs.Lists.{item_write, items_write, each_write, parts_write, list_write, SizesRefused}
 use Rattle.wincode_base.specs.Outcomes.{Wrote, WriteRefused, Stopped, IsSized, SizeRefused}
 use Rattle.wincode_base.specs.PairSizeLaws.{unsized_part, unsized_second, unwritable_first}
-use Rattle.wincode_base.specs.WriteSequences.{
-  items_wrote_none,
-  items_wrote_more,
-  items_unwritten,
-  each_halted,
-  items_halted,
-  item_halted,
-  list_halted_first,
-  list_halted_second,
-  list_wrote,
-  list_unwritten_first,
-  list_unwritten_second,
-}
+use Rattle.wincode_base.specs.WriteSequences.{items_wrote_none, items_wrote_more, items_unwritten, each_halted, items_halted, item_halted}
+use Rattle.wincode_base.specs.WriteSequences.{list_halted_first, list_halted_second, list_wrote, list_unwritten_first, list_unwritten_second}
 use Rattle.wincode_base.specs.declared.error.WriteError.{WriteError}
 use Rattle.wincode_io.specs.Joins.{Each, total}
 use Rattle.wincode_io.specs.JoinLaws.{map_more, map_parted, each_map_at, total_within}

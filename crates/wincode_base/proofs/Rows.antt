@@ -1,28 +1,6 @@
 -- The definitions, evaluated on worked rows of bytes and values.
-use Rattle.std.proofs.Common.{
-  ◌≡◌,
-  sym,
-  ap,
-  ℕ,
-  ◌<◌,
-  ◌^◌,
-  List,
-  [],
-  ◌∷◌,
-  ◌++◌,
-  length,
-  refl,
-  arith,
-  true,
-  length-append,
-  lit<,
-  lit≤,
-  false,
-  Option,
-  Some,
-  None,
-  Err,
-}
+use Rattle.std.proofs.Common.{◌≡◌, sym, ap, ℕ, ◌<◌, ◌^◌, List, [], ◌∷◌, ◌++◌, length, refl, arith, true, length-append, lit<, lit≤, false, Option}
+use Rattle.std.proofs.Common.{Some, None, Err}
 use Rattle.wincode_io.specs.Numbers.{le}
 use Rattle.wincode_io.specs.ShortNumbers.{groups, short_encoding}
 use Rattle.wincode_base.specs.Grammar.{ReadGrammar, WriteGrammar}

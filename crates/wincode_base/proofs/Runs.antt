@@ -1,41 +1,6 @@
 -- Items of one size together: reading and writing them through one window.
-use Rattle.std.proofs.Common.{
-  ◌≡◌,
-  ◌∙◌,
-  sym,
-  ap,
-  subst,
-  ℕ,
-  ◌+◌,
-  ◌*◌,
-  ◌<◌,
-  ◌≤◌,
-  ◌^◌,
-  Bool,
-  true,
-  false,
-  List,
-  [],
-  ◌∷◌,
-  ◌++◌,
-  length,
-  zero,
-  suc,
-  refl,
-  arith,
-  Some,
-  None,
-  IsTrue,
-  append-nil,
-  length-append,
-  true≢false,
-  cond,
-  nat_lt,
-  inl,
-  inr,
-  ◌⊎◌,
-  Bor,
-}
+use Rattle.std.proofs.Common.{◌≡◌, ◌∙◌, sym, ap, subst, ℕ, ◌+◌, ◌*◌, ◌<◌, ◌≤◌, ◌^◌, Bool, true, false, List, [], ◌∷◌, ◌++◌, length, zero, suc, refl}
+use Rattle.std.proofs.Common.{arith, Some, None, IsTrue, append-nil, length-append, true≢false, cond, nat_lt, inl, inr, ◌⊎◌, Bor}
 use Rattle.std.specs.Prelude.{Option}
 use Rattle.std.specs.Option.{is_some}
 use Rattle.std.specs.Borrow.{GName}
@@ -50,18 +15,8 @@ use Rattle.wincode_base.specs.Grammar.{ReadGrammar, WriteGrammar, WriteLaws, IsR
 use Rattle.wincode_base.specs.InWindow.{WindowReadRefused}
 use Rattle.wincode_base.specs.LeafLaws.{same_front}
 use Rattle.wincode_base.specs.Lengths.{Scheme, HasEncoding, LengthSizeRefused, encoding_len}
-use Rattle.wincode_base.specs.Lists.{
-  parts_write,
-  list_write_of,
-  list_bytes,
-  PartsWriteRefused,
-  ListWriteRefused,
-  WholeWriteRefused,
-  InnerWriteRefused,
-  SpanWriteRefused,
-  ItemsReadRefused,
-  RunReadRefused,
-}
+use Rattle.wincode_base.specs.Lists.{parts_write, list_write_of, list_bytes, PartsWriteRefused, ListWriteRefused, WholeWriteRefused}
+use Rattle.wincode_base.specs.Lists.{InnerWriteRefused, SpanWriteRefused, ItemsReadRefused, RunReadRefused}
 use Rattle.wincode_base.specs.Outcomes.{Gives, ReadRefused, Wrote, WriteRefused, Stopped, WriteDue, IsAble, IsOfValueAlone, past_usize}
 use Rattle.wincode_base.specs.ItemSizes.{item_size, is_known, run_size, behind_size, IsReadItemSize, IsWriteItemSize}
 use Rattle.wincode_base.specs.WriteSequences.{same_trans, wrote_map, unwritten_map, stopped_map, nothing_stopped, piece_denied}

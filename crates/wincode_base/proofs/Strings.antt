@@ -1,40 +1,6 @@
 -- What characters and texts read and write.
-use Rattle.std.proofs.Common.{
-  ◌≡◌,
-  ◌∙◌,
-  sym,
-  ap,
-  subst,
-  ℕ,
-  ◌+◌,
-  ◌-◌,
-  ◌<◌,
-  ◌≤◌,
-  ◌⊎◌,
-  inl,
-  inr,
-  Bool,
-  true,
-  false,
-  cond,
-  nat_lt,
-  ◌/◌,
-  ◌^◌,
-  ◌&&◌,
-  List,
-  [],
-  ◌∷◌,
-  ◌++◌,
-  length,
-  take,
-  refl,
-  arith,
-  append_assoc,
-  append-nil,
-  length-append,
-  length-take,
-  IsTrue,
-}
+use Rattle.std.proofs.Common.{◌≡◌, ◌∙◌, sym, ap, subst, ℕ, ◌+◌, ◌-◌, ◌<◌, ◌≤◌, ◌⊎◌, inl, inr, Bool, true, false, cond, nat_lt, ◌/◌, ◌^◌, ◌&&◌, List}
+use Rattle.std.proofs.Common.{[], ◌∷◌, ◌++◌, length, take, refl, arith, append_assoc, append-nil, length-append, length-take, IsTrue}
 use Rattle.std.specs.Prelude.{IsUtf8, encode_utf8}
 use Rattle.std.specs.Char.{IsScalar, len_utf8}
 use Rattle.std.proofs.Math.Seq.{take-append_seam}
@@ -51,18 +17,8 @@ use Rattle.wincode_base.specs.LeafLaws.{same_front}
 use Rattle.wincode_io.specs.Numbers.{le}
 use Rattle.wincode_io.specs.NumberLaws.{length-le}
 use Rattle.wincode_base.specs.Pairs.{pair_write}
-use Rattle.wincode_base.specs.Strings.{
-  char_read,
-  announced,
-  CharReadRefusedFor,
-  CharReadRefused,
-  str_read,
-  str_write,
-  StrWriteRefused,
-  IsStrBytes,
-  StrBytesReadRefused,
-  char_write,
-}
+use Rattle.wincode_base.specs.Strings.{char_read, announced, CharReadRefusedFor, CharReadRefused, str_read, str_write, StrWriteRefused, IsStrBytes}
+use Rattle.wincode_base.specs.Strings.{StrBytesReadRefused, char_write}
 use Rattle.wincode_base.specs.StringLaws.{str_then, then_encoding}
 use Rattle.wincode_base.specs.Sequences.{Then, refuses_map, then_first, then_second, gives_map, then_gives}
 use Rattle.wincode_base.specs.WriteSequences as sequence

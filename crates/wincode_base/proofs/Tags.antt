@@ -1,33 +1,6 @@
 -- Reading and writing a tag and then what it names.
-use Rattle.std.proofs.Common.{
-  ◌≡◌,
-  ◌∙◌,
-  sym,
-  ap,
-  subst,
-  ℕ,
-  ◌<◌,
-  ◌≤◌,
-  ◌&&◌,
-  true,
-  List,
-  [],
-  ◌++◌,
-  max,
-  refl,
-  arith,
-  Option,
-  Some,
-  None,
-  Result,
-  Ok,
-  Err,
-  length,
-  append-nil,
-  inl,
-  inr,
-  ◌-◌,
-}
+use Rattle.std.proofs.Common.{◌≡◌, ◌∙◌, sym, ap, subst, ℕ, ◌<◌, ◌≤◌, ◌&&◌, true, List, [], ◌++◌, max, refl, arith, Option, Some, None, Result, Ok}
+use Rattle.std.proofs.Common.{Err, length, append-nil, inl, inr, ◌-◌}
 use Rattle.std.specs.Int.{Width, byte_len, from_le_bytes}
 use Rattle.wincode_io.specs.Readers.{ReaderState, Takes}
 use Rattle.wincode_io.specs.Numbers.{le}
@@ -42,21 +15,8 @@ use Rattle.wincode_base.specs.Sequences.{gives_map, refuses_map}
 use Rattle.wincode_base.specs.WriteSequences.{stopped_map, stopped_behind, wrote_map, unwritten_map, pair_wrote, pair_unwritten_first, pair_unwritten_second}
 use Rattle.wincode_base.proofs.Integers.{AreSmall, number_taken, number_gives, number_refuses}
 use Rattle.wincode_base.specs.Outcomes.{Gives, ReadRefused, PieceReadRefused, Wrote, WriteRefused, Stopped, SchemaReadRefused}
-use Rattle.wincode_base.specs.Tags.{
-  tagged_write,
-  option_tag,
-  OptionReads,
-  option_part_read,
-  option_read,
-  option_part_write,
-  option_write,
-  result_tag,
-  SidesRead,
-  sides_read,
-  result_read,
-  sides_write,
-  result_write,
-}
+use Rattle.wincode_base.specs.Tags.{tagged_write, option_tag, OptionReads, option_part_read, option_read, option_part_write, option_write, result_tag}
+use Rattle.wincode_base.specs.Tags.{SidesRead, sides_read, result_read, sides_write, result_write}
 use Rattle.wincode_base.specs.TagLaws.{IsCase, tagged_gives, case_refused, bad_tag, option_small, option_part_laws, result_small, sides_laws}
 use Rattle.wincode_base.specs.declared.error.ReadError.{ReadError}
 use Rattle.wincode_base.specs.declared.error.ReadError.TheVariants as reading

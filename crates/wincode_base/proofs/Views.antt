@@ -1,25 +1,7 @@
 -- What forms, views of them and lists that are lent read and write.
 use Rattle.std.proofs.Common.{◌≡◌, ◌∙◌, sym, ap, subst, cond, ℕ, ◌+◌, ◌-◌, ◌*◌, ◌<◌, ◌≤◌, ◌^◌, Bool, true, false, List, inl, inr}
-use Rattle.std.proofs.Common.{
-  [],
-  ◌∷◌,
-  length,
-  map,
-  take,
-  drop,
-  refl,
-  arith,
-  zero,
-  suc,
-  Some,
-  None,
-  Option,
-  length-append,
-  length-take,
-  length-drop,
-  take-append-drop,
-  nat_lt,
-}
+use Rattle.std.proofs.Common.{[], ◌∷◌, length, map, take, drop, refl, arith, zero, suc, Some, None, Option, length-append, length-take, length-drop}
+use Rattle.std.proofs.Common.{take-append-drop, nat_lt}
 use Rattle.std.specs.Prelude.{max, min}
 use Rattle.wincode_io.specs.Bytes.{IsBytes}
 use Rattle.wincode_io.specs.Forms.{IsByteForm, values}
@@ -38,45 +20,16 @@ use Rattle.wincode_base.specs.Lengths.{bincode}
 use Rattle.wincode_base.specs.LengthLaws.{bincode_encoding, bincode_encoding_is}
 use Rattle.wincode_base.specs.Lengths.{bincode}
 use Rattle.wincode_base.specs.ItemSizes.{item_size}
-use Rattle.wincode_base.specs.Lists.{
-  items_write,
-  parts_write,
-  list_bytes,
-  ItemsWriteRefused,
-  ListWriteRefused,
-  WholeWriteRefused,
-  InnerWriteRefused,
-  SpanWriteRefused,
-  SizesRefused,
-  reads_list,
-}
-use Rattle.wincode_base.specs.Outcomes.{
-  Gives,
-  Accepts,
-  ReadRefused,
-  ReaderDue,
-  ReadDue,
-  PieceReadRefused,
-  Wrote,
-  WriteRefused,
-  Stopped,
-  PieceWriteRefused,
-  IsSizeError,
-}
+use Rattle.wincode_base.specs.Lists.{items_write, parts_write, list_bytes, ItemsWriteRefused, ListWriteRefused, WholeWriteRefused, InnerWriteRefused}
+use Rattle.wincode_base.specs.Lists.{SpanWriteRefused, SizesRefused, reads_list}
+use Rattle.wincode_base.specs.Outcomes.{Gives, Accepts, ReadRefused, ReaderDue, ReadDue, PieceReadRefused, Wrote, WriteRefused, Stopped}
+use Rattle.wincode_base.specs.Outcomes.{PieceWriteRefused, IsSizeError}
 use Rattle.wincode_base.specs.AsForms.{reads_form}
 use Rattle.wincode_base.specs.Sequences.{Then, gives_map, refuses_map, then_gives, then_first, then_second}
 use Rattle.wincode_base.specs.FixedSizeLaws.{takes_gives}
 use Rattle.wincode_base.specs.ViewLaws.{same_items}
-use Rattle.wincode_base.specs.WriteSequences.{
-  encoding_wrote,
-  encoding_unwritten,
-  encoding_stopped,
-  nothing_stopped,
-  piece_denied,
-  wrote_map,
-  unwritten_map,
-  stopped_map,
-}
+use Rattle.wincode_base.specs.WriteSequences.{encoding_wrote, encoding_unwritten, encoding_stopped, nothing_stopped, piece_denied, wrote_map}
+use Rattle.wincode_base.specs.WriteSequences.{unwritten_map, stopped_map}
 use Rattle.wincode_base.specs.Views.{form_item_read, form_meta, form_write, forms_read, lent_read, lent_write, IsLentRun, ViewReadRefused, LentRunReadRefused}
 use Rattle.std.proofs.lemmas.Bool.{lt-ltb}
 use Rattle.wincode_base.specs.declared.meta.TypeMeta.TheVariants.{Dynamic}

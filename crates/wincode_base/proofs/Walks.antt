@@ -1,28 +1,6 @@
 -- Going over the items of a collection, in writing.
-use Rattle.std.proofs.Common.{
-  ◌≡◌,
-  ◌∙◌,
-  sym,
-  ap,
-  subst,
-  ℕ,
-  ◌+◌,
-  ◌-◌,
-  ◌<◌,
-  ◌≤◌,
-  ◌^◌,
-  List,
-  [],
-  ◌∷◌,
-  ◌++◌,
-  length,
-  map,
-  refl,
-  arith,
-  append_assoc,
-  append-nil,
-  length-append,
-}
+use Rattle.std.proofs.Common.{◌≡◌, ◌∙◌, sym, ap, subst, ℕ, ◌+◌, ◌-◌, ◌<◌, ◌≤◌, ◌^◌, List, [], ◌∷◌, ◌++◌, length, map, refl, arith, append_assoc}
+use Rattle.std.proofs.Common.{append-nil, length-append}
 use Rattle.std.proofs.lemmas.List.{map-append}
 use Rattle.wincode_io.specs.Joins.{Joined, Each, total}
 use Rattle.wincode_io.specs.JoinLaws.{joined_append, each_split, each_append, total-append}
@@ -33,18 +11,8 @@ use Rattle.wincode_base.specs.ListLaws.{items_write_laws}
 use Rattle.wincode_base.specs.Outcomes.{Wrote, WriteRefused, Stopped, SizeRefused}
 use Rattle.wincode_base.specs.PairSizeLaws.{unsized_part}
 use Rattle.wincode_base.specs.Pairs.{pair_write}
-use Rattle.wincode_base.specs.WriteSequences.{
-  items_wrote_more,
-  items_unwritten,
-  item_halted,
-  stopped_map,
-  stopped_behind,
-  wrote_map,
-  unwritten_map,
-  pair_wrote,
-  pair_unwritten_first,
-  pair_unwritten_second,
-}
+use Rattle.wincode_base.specs.WriteSequences.{items_wrote_more, items_unwritten, item_halted, stopped_map, stopped_behind, wrote_map, unwritten_map}
+use Rattle.wincode_base.specs.WriteSequences.{pair_wrote, pair_unwritten_first, pair_unwritten_second}
 use Rattle.wincode_base.specs.declared.error.WriteError.{WriteError}
 
 -- so far the items before `rest` were written

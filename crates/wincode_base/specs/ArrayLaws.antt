@@ -1,31 +1,6 @@
 -- The laws of arrays, from those of their items.
-use Rattle.std.proofs.Common.{
-  ◌≡◌,
-  ◌∙◌,
-  sym,
-  ap,
-  ℕ,
-  zero,
-  suc,
-  ◌<◌,
-  ◌^◌,
-  ◌*◌,
-  Bool,
-  true,
-  false,
-  cond,
-  nat_lt,
-  List,
-  [],
-  ◌∷◌,
-  length,
-  map,
-  refl,
-  arith,
-  length-append,
-  take,
-  drop,
-}
+use Rattle.std.proofs.Common.{◌≡◌, ◌∙◌, sym, ap, ℕ, zero, suc, ◌<◌, ◌^◌, ◌*◌, Bool, true, false, cond, nat_lt, List, [], ◌∷◌, length, map, refl}
+use Rattle.std.proofs.Common.{arith, length-append, take, drop}
 use Rattle.std.proofs.lemmas.List.{take-append-drop, length-take, length-drop, length-map}
 use Rattle.std.proofs.lemmas.List.Elements.{All-take, All-drop}
 use Rattle.wincode_io.specs.Bytes.{IsBytes}

@@ -37,19 +37,8 @@ use Rattle.wincode_base.specs.Keys.{IsDecidable}
 use Rattle.wincode_base.specs.Gathered.{gathered_read, scattered_write_of, scattered_write}
 use Rattle.wincode_base.specs.ItemSizes.{item_size, pair_size}
 use Rattle.wincode_base.specs.declared.sizes.ItemSize.{ItemSize}
-use Rattle.wincode_base.specs.GatheredLaws.{
-  map_each,
-  set_each,
-  each_found,
-  each_of_see,
-  each_see,
-  each_reverse,
-  IfSome-map,
-  IfSome-unmap,
-  IfSome-first,
-  IfSome-second,
-  IfSome-both,
-}
+use Rattle.wincode_base.specs.GatheredLaws.{map_each, set_each, each_found, each_of_see, each_see, each_reverse, IfSome-map, IfSome-unmap}
+use Rattle.wincode_base.specs.GatheredLaws.{IfSome-first, IfSome-second, IfSome-both}
 use Rattle.wincode_base.specs.ScatteredLaws.{each_permutation, order_model}
 
 admits_less : (limit p m n : ℕ) → m ≤ n → (bincode limit).admits n p → (bincode limit).admits m p

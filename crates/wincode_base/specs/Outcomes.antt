@@ -1,30 +1,6 @@
 -- What reading and writing a value answer, said once for lengths, leaves and compounds.
-use Rattle.std.specs.Prelude.{
-  ⊤,
-  ◌≡◌,
-  ◌⊎◌,
-  ℕ,
-  ◌^◌,
-  ◌<◌,
-  ◌≤◌,
-  min,
-  Bool,
-  false,
-  ◌&&◌,
-  List,
-  [],
-  ◌++◌,
-  length,
-  map,
-  codes,
-  IsTrue,
-  Option,
-  Result,
-  OnOk,
-  IfErr,
-  OnErr,
-  IfOk,
-}
+use Rattle.std.specs.Prelude.{⊤, ◌≡◌, ◌⊎◌, ℕ, ◌^◌, ◌<◌, ◌≤◌, min, Bool, false, ◌&&◌, List, [], ◌++◌, length, map, codes, IsTrue, Option, Result, OnOk}
+use Rattle.std.specs.Prelude.{IfErr, OnErr, IfOk}
 use Rattle.std.specs.Option.{IsSomeAnd}
 use Rattle.wincode_io.specs.Joins.{AreItems}
 use Rattle.wincode_io.specs.Readers.{ReaderState, Kept, IsOnward, IsShort, BytesReadRefused, WindowRefused, is_steady}

@@ -1,29 +1,6 @@
 -- The laws of two parts, from those of each.
-use Rattle.std.proofs.Common.{
-  ◌≡◌,
-  ◌∙◌,
-  sym,
-  ap,
-  subst,
-  ℕ,
-  ◌+◌,
-  ◌^◌,
-  ◌≤◌,
-  ◌&&◌,
-  Bool,
-  true,
-  false,
-  List,
-  ◌++◌,
-  length,
-  min,
-  max,
-  nat_lt,
-  cond,
-  refl,
-  arith,
-  length-append,
-}
+use Rattle.std.proofs.Common.{◌≡◌, ◌∙◌, sym, ap, subst, ℕ, ◌+◌, ◌^◌, ◌≤◌, ◌&&◌, Bool, true, false, List, ◌++◌, length, min, max, nat_lt, cond, refl}
+use Rattle.std.proofs.Common.{arith, length-append}
 use Rattle.wincode_io.specs.Readers.{ReaderState}
 use Rattle.wincode_base.specs.Grammar.{ReadGrammar, WriteGrammar, ReadLaws, WriteLaws, ReadsBack, IsReadStatic, IsWriteStatic}
 use Rattle.wincode_base.specs.InWindow.{windowed_write, windowed_read}

@@ -1,27 +1,6 @@
 -- One encoding after another, and how what each call of a sequence answers makes what the whole answers.
-use Rattle.std.proofs.Common.{
-  ◌≡◌,
-  ◌∙◌,
-  sym,
-  ap,
-  ℕ,
-  ◌<◌,
-  ◌≤◌,
-  Bool,
-  true,
-  false,
-  ◌&&◌,
-  List,
-  ◌++◌,
-  length,
-  refl,
-  arith,
-  append_assoc,
-  IsTrue,
-  subst,
-  ◌^◌,
-  length-append,
-}
+use Rattle.std.proofs.Common.{◌≡◌, ◌∙◌, sym, ap, ℕ, ◌<◌, ◌≤◌, Bool, true, false, ◌&&◌, List, ◌++◌, length, refl, arith, append_assoc, IsTrue, subst}
+use Rattle.std.proofs.Common.{◌^◌, length-append}
 use Rattle.wincode_io.specs.Readers.{ReaderState, IsOnward}
 use Rattle.wincode_io.specs.PlaceLaws.{kept_trans, known_kept, onward_trans}
 use Rattle.wincode_base.specs.Outcomes.{IsEnd, Gives, ReadDue, ReaderDue, Accepts, ReadRefused}

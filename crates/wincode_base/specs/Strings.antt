@@ -1,30 +1,6 @@
 -- The grammars of characters, of texts and of references.
-use Rattle.std.specs.Prelude.{
-  ◌≡◌,
-  ◌⊎◌,
-  ℕ,
-  ◌+◌,
-  ◌-◌,
-  ◌<◌,
-  ◌≤◌,
-  ◌^◌,
-  cond,
-  true,
-  false,
-  Bool,
-  List,
-  [],
-  ◌++◌,
-  length,
-  take,
-  IsUtf8,
-  encode_utf8,
-  nat_lt,
-  IsTrue,
-  ⊤,
-  zero,
-  suc,
-}
+use Rattle.std.specs.Prelude.{◌≡◌, ◌⊎◌, ℕ, ◌+◌, ◌-◌, ◌<◌, ◌≤◌, ◌^◌, cond, true, false, Bool, List, [], ◌++◌, length, take, IsUtf8, encode_utf8}
+use Rattle.std.specs.Prelude.{nat_lt, IsTrue, ⊤, zero, suc}
 use Rattle.std.specs.Char.{IsScalar, len_utf8}
 use Rattle.wincode_io.specs.Readers.{ReaderState, Stays, Takes, IsShort, IsPeeked, ReadRefusedFor, BytesReadRefused, nothing}
 use Rattle.wincode_io.specs.Numbers.{le}

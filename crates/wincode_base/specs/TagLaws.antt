@@ -1,41 +1,6 @@
 -- The laws of a tag and then what it names.
-use Rattle.std.proofs.Common.{
-  ◌≡◌,
-  ◌∙◌,
-  sym,
-  ap,
-  ℕ,
-  ◌+◌,
-  ◌*◌,
-  ◌<◌,
-  ◌≤◌,
-  ◌^◌,
-  inl,
-  inr,
-  suc,
-  zero,
-  pow-suc,
-  Bool,
-  true,
-  false,
-  List,
-  [],
-  ◌++◌,
-  length,
-  max,
-  nat_eq,
-  nat_lt,
-  cond,
-  refl,
-  arith,
-  length-append,
-  Option,
-  Some,
-  None,
-  Result,
-  Ok,
-  Err,
-}
+use Rattle.std.proofs.Common.{◌≡◌, ◌∙◌, sym, ap, ℕ, ◌+◌, ◌*◌, ◌<◌, ◌≤◌, ◌^◌, inl, inr, suc, zero, pow-suc, Bool, true, false, List, [], ◌++◌, length}
+use Rattle.std.proofs.Common.{max, nat_eq, nat_lt, cond, refl, arith, length-append, Option, Some, None, Result, Ok, Err}
 use Rattle.std.proofs.lemmas.Bool.{eqb-true}
 use Rattle.std.specs.Option.{option_map}
 use Rattle.std.specs.Result.{result_map_both}
@@ -48,34 +13,10 @@ use Rattle.wincode_base.specs.LeafLaws.{number_one}
 use Rattle.wincode_base.specs.Pairs.{pair_meta}
 use Rattle.wincode_base.specs.Sequences.{Then, then_gives, then_first, then_second, then_unambiguous, strip, gives_map, refuses_map}
 use Rattle.wincode_base.specs.Outcomes.{Gives, ReadRefused, unsaid}
-use Rattle.wincode_base.specs.Tags.{
-  IsTagSize,
-  tagged_read,
-  tagged_write,
-  counted_read,
-  counted_write,
-  option_tag,
-  OptionReads,
-  option_part_read,
-  option_read,
-  OptionReadRefused,
-  OptionWrites,
-  IfPart,
-  option_size,
-  option_part_write,
-  option_write,
-  sides_tag,
-  result_tag,
-  sides_meta,
-  SidesRead,
-  sides_read,
-  result_read,
-  SidesWrite,
-  IfSide,
-  sides_size,
-  sides_write,
-  result_write,
-}
+use Rattle.wincode_base.specs.Tags.{IsTagSize, tagged_read, tagged_write, counted_read, counted_write, option_tag, OptionReads, option_part_read}
+use Rattle.wincode_base.specs.Tags.{option_read, OptionReadRefused, OptionWrites, IfPart, option_size, option_part_write, option_write, sides_tag}
+use Rattle.wincode_base.specs.Tags.{result_tag, sides_meta, SidesRead, sides_read, result_read, SidesWrite, IfSide, sides_size, sides_write}
+use Rattle.wincode_base.specs.Tags.{result_write}
 use Rattle.wincode_base.specs.declared.meta.TypeMeta.{TypeMeta}
 use Rattle.wincode_base.specs.declared.meta.TypeMeta.TheVariants.{Static, Dynamic}
 use Rattle.wincode_base.specs.declared.error.ReadError.{ReadError}

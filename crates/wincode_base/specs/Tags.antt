@@ -1,28 +1,6 @@
 -- The grammars of a tag and then what it names.
-use Rattle.std.specs.Prelude.{
-  ◌≡◌,
-  ◌⊎◌,
-  ℕ,
-  ◌+◌,
-  ◌-◌,
-  ◌^◌,
-  ◌≤◌,
-  ◌&&◌,
-  true,
-  false,
-  List,
-  [],
-  ◌++◌,
-  max,
-  nat_eq,
-  if◌then◌else◌,
-  Option,
-  Some,
-  None,
-  Result,
-  Ok,
-  Err,
-}
+use Rattle.std.specs.Prelude.{◌≡◌, ◌⊎◌, ℕ, ◌+◌, ◌-◌, ◌^◌, ◌≤◌, ◌&&◌, true, false, List, [], ◌++◌, max, nat_eq, if◌then◌else◌, Option, Some, None}
+use Rattle.std.specs.Prelude.{Result, Ok, Err}
 use Rattle.wincode_io.specs.Readers.{ReaderState, IsShort, BytesReadRefused}
 use Rattle.wincode_io.specs.Numbers.{le}
 use Rattle.wincode_base.specs.Grammar.{ReadGrammar, WriteGrammar, WriteRefusal, ReadRefusal}

@@ -1,31 +1,6 @@
 -- The laws of byte forms, of views of them, and of lists that are lent where they lie.
-use Rattle.std.proofs.Common.{
-  ◌≡◌,
-  ◌∙◌,
-  sym,
-  ap,
-  subst,
-  ℕ,
-  ◌≤◌,
-  ◌^◌,
-  Bool,
-  true,
-  false,
-  List,
-  [],
-  ◌∷◌,
-  ◌++◌,
-  length,
-  map,
-  take,
-  refl,
-  arith,
-  nat_lt,
-  zero,
-  suc,
-  length-append,
-  length-take,
-}
+use Rattle.std.proofs.Common.{◌≡◌, ◌∙◌, sym, ap, subst, ℕ, ◌≤◌, ◌^◌, Bool, true, false, List, [], ◌∷◌, ◌++◌, length, map, take, refl, arith, nat_lt}
+use Rattle.std.proofs.Common.{zero, suc, length-append, length-take}
 use Rattle.std.specs.Prelude.{if◌then◌else◌, max, replicate}
 use Rattle.wincode_io.specs.Forms.{IsByteForm}
 use Rattle.wincode_io.specs.Joins.{IsUnambiguous, Each}

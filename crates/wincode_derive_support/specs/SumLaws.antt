@@ -1,30 +1,6 @@
 -- The laws of one of several cases, from those of each.
-use Rattle.std.proofs.Common.{
-  ◌≡◌,
-  ◌∙◌,
-  sym,
-  ap,
-  subst,
-  ℕ,
-  ◌+◌,
-  ◌^◌,
-  ◌<◌,
-  ◌≤◌,
-  true,
-  false,
-  List,
-  ◌++◌,
-  length,
-  max,
-  nat_lt,
-  cond,
-  refl,
-  arith,
-  length-append,
-  Result,
-  Ok,
-  Err,
-}
+use Rattle.std.proofs.Common.{◌≡◌, ◌∙◌, sym, ap, subst, ℕ, ◌+◌, ◌^◌, ◌<◌, ◌≤◌, true, false, List, ◌++◌, length, max, nat_lt, cond, refl, arith}
+use Rattle.std.proofs.Common.{length-append, Result, Ok, Err}
 use Rattle.std.specs.Result.{result_map_both}
 use Rattle.wincode_io.specs.Joins.{IsUnambiguous}
 use Rattle.wincode_io.specs.NumberLaws.{length-le}

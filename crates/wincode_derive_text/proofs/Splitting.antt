@@ -1,33 +1,6 @@
 -- Tokens that are taken one after another.
-use Rattle.std.proofs.Common.{
-  ◌≡◌,
-  ◌∙◌,
-  sym,
-  ap,
-  subst,
-  ℕ,
-  ◌+◌,
-  ◌<◌,
-  List,
-  [],
-  ◌∷◌,
-  ◌++◌,
-  map,
-  length,
-  drop,
-  get_or,
-  append_assoc,
-  add-one,
-  suc,
-  Option,
-  Some,
-  None,
-  Result,
-  Ok,
-  Err,
-  refl,
-  arith,
-}
+use Rattle.std.proofs.Common.{◌≡◌, ◌∙◌, sym, ap, subst, ℕ, ◌+◌, ◌<◌, List, [], ◌∷◌, ◌++◌, map, length, drop, get_or, append_assoc, add-one, suc}
+use Rattle.std.proofs.Common.{Option, Some, None, Result, Ok, Err, refl, arith}
 use Rattle.std.proofs.Math.Seq.{drop-cons}
 use Rattle.std.proofs.lemmas.List.{append-nil, drop_all}
 use Rattle.std.specs.Prelude.{option_map, option_and_then}

@@ -1,28 +1,6 @@
 -- The tokens of a text in which no quote and no slash stands.
-use Rattle.std.specs.Prelude.{
-  ◌≡◌,
-  ℕ,
-  Bool,
-  true,
-  ◌||◌,
-  ◌&&◌,
-  ◌==◌,
-  if◌then◌else◌,
-  List,
-  [],
-  ◌∷◌,
-  ◌++◌,
-  map,
-  Option,
-  Some,
-  None,
-  Result,
-  Ok,
-  Err,
-  MatchOption,
-  option_and_then,
-  option_map,
-}
+use Rattle.std.specs.Prelude.{◌≡◌, ℕ, Bool, true, ◌||◌, ◌&&◌, ◌==◌, if◌then◌else◌, List, [], ◌∷◌, ◌++◌, map, Option, Some, None, Result, Ok, Err}
+use Rattle.std.specs.Prelude.{MatchOption, option_and_then, option_map}
 use Rattle.std.specs.Char.{encode_utf8, is_ascii_alphanumeric, is_whitespace}
 use Rattle.std.specs.String.{string_bytes}
 use Rattle.std.specs.Global.{Vec}

@@ -1,6 +1,7 @@
 //! The lines of proof files that schemas leave: how what writes a case's fields writes the case.
 use crate::declarations::{Declaration, DeclaredShape, Variant};
 use crate::error::DeriveResult;
+use crate::names::names_of;
 use crate::parsing::declarations_of;
 use crate::printing::{Words, fill, owned, put};
 use crate::tokens::tokens_of;
@@ -50,9 +51,9 @@ fn put_answers(alloc: Global, out: &mut String, variants: &[Variant]) -> DeriveR
         if n >= 2 {
             let is_first = is_first_of(variants, i, n);
             let mut words = Words::new(alloc);
-            words.set("case", owned(alloc, variant.name.as_str())?)?;
-            words.set("call", call_of(alloc, variant, is_first)?)?;
-            fill(out, ANSWER, &words)?;
+            words.set("case", owned(alloc, variant.name.as_str()));
+            words.set("call", call_of(alloc, variant, is_first));
+            fill(out, ANSWER, &mut words)?;
         }
     }
     Ok(())
@@ -72,11 +73,11 @@ fn add_answers(
             .any(|variant| variant.fields.fields.len() >= 2)
         {
             let mut words = Words::new(alloc);
-            words.set("crate", owned(alloc, krate)?)?;
-            words.set("path", owned(alloc, path)?)?;
-            words.set("type", owned(alloc, declaration.name.as_str())?)?;
+            words.set("crate", owned(alloc, krate));
+            words.set("path", owned(alloc, path));
+            words.set("type", owned(alloc, declaration.name.as_str()));
             let mut text = String::new(alloc);
-            fill(&mut text, HEAD, &words)?;
+            fill(&mut text, HEAD, &mut words)?;
             put_answers(alloc, &mut text, variants)?;
             let name = owned(alloc, declaration.name.as_str())?;
             all.push(Answers { name, text })?;
@@ -94,7 +95,9 @@ pub fn answers_of(
 ) -> DeriveResult<Vec<Answers>> {
     let tokens = tokens_of(alloc, source)?;
     let mut all = Vec::new(alloc);
-    for declaration in declarations_of(alloc, tokens.as_slice(), names)?.as_slice() {
+    let mut declarations = declarations_of(alloc, tokens.as_slice(), names)?;
+    names_of(alloc, tokens.as_slice(), &mut declarations)?;
+    for declaration in declarations.as_slice() {
         add_answers(alloc, &mut all, place, declaration)?;
     }
     Ok(all)

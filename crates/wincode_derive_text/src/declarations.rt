@@ -1,4 +1,5 @@
 //! What a source file declares.
+use crate::error::Spot;
 
 /// A field: its name, or its place in a tuple, and its schema.
 #[derive(Debug, Drop)]
@@ -8,6 +9,10 @@ pub struct Field {
     pub value: String,
     /// The schema: what `with` says, or the type.
     pub schema: String,
+    /// Whether it holds nothing, and names parameters alone: its type and its schema are then `()`.
+    pub is_phantom: bool,
+    /// Where its schema stands, or its type.
+    pub spot: Spot,
 }
 
 /// How fields are named.
@@ -45,6 +50,13 @@ pub struct Generics {
     pub parameters: Vec<String>,
 }
 
+impl Generics {
+    /// Whether it is declared over nothing.
+    pub fn is_none(&self) -> bool {
+        self.lifetime.is_none() && self.parameters.is_empty()
+    }
+}
+
 /// A struct or an enum.
 #[derive(Debug, Drop)]
 pub struct Declaration {
@@ -59,6 +71,8 @@ pub struct Declaration {
     /// Whether it derives `Ord`.
     pub is_ord: bool,
     pub line: usize,
+    /// Where its name stands.
+    pub spot: Spot,
 }
 
 /// The cases of an enum.

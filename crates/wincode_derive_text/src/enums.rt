@@ -1,30 +1,54 @@
 //! The schema of an enum.
-use crate::declarations::{Cases, Declaration, Naming, Variant};
+use crate::declarations::{Cases, Declaration, Fields, Generics, Naming, Variant};
 use crate::error::DeriveResult;
+use crate::inside::looked_into;
+use crate::laws::{law_of, seen_by};
+use crate::lent::{own_no_memory, put_lent_enum};
 use crate::printing::{Words, fill, joined, owned, put, put_call};
 use crate::structs::{
-    are_plain_keys, binding, bindings, made_of, members, of_members, pairs_of_all, read_head,
-    schemas_of, tuple_of,
+    OF, applied, are_plain_keys, bindings, bound_of, evidence_of, held_as, made_of, members,
+    name_words, numbered, of_members, pairs_of_all, read_head, schemas_of, takes_of, tuple_of,
+    types_of,
 };
 use std::alloc::Global;
 
-const PARTS: &str = "
-type @type@Cases = OneOf<<@type@ as EnumShape>::Tag, <@type@ as EnumShape>::Cases>;
+const SCHEMAS: &str = "
+type @fields@ = @schemas@;
+";
 
-impl EnumParts for @type@ {
-    type Src = @src@;
+/// What an enum is made of.
+const PARTS: &str = "
+impl@any@ EnumParts for @of@ {
+    type Src = @any_src@;
 
     type Parts = @parts@;
 
     ghost parts = { elim [ @arms@ ] };
 
-    fn make(made_of: Self::Parts) -> @src@ {
+    fn make(made_of: Self::Parts) -> @any_src@ {
         match made_of {
 @make@        }
     }
 }
+";
 
-impl EnumShape for @type@ {
+/// The same of what is written, where types are parameters.
+const WRITTEN_PARTS: &str = "
+impl@writes@ EnumParts for @self@@where_src@ {
+    type Src = @src@;
+
+    type Parts = @src_parts@;
+
+    ghost parts = { ⟦<@of_src@ as EnumParts>⟧.parts };
+
+    fn make(made_of: Self::Parts) -> @src@ {
+        <@of_src@ as EnumParts>::make(made_of)
+    }
+}
+";
+
+const SHAPE: &str = "
+impl@writes@ EnumShape for @self@@where_src@ {
     type Tag = @tag@;
 
     type Cases = @cases@;
@@ -36,105 +60,103 @@ impl EnumShape for @type@ {
 
     fn part_size(src: &@src@) -> WriteResult<usize> {
         match src {
-@size@        }
+@size_arms@        }
     }
 
     fn write_part<W: Writer>(writer: &mut W, src: &@src@) -> WriteResult<()> {
         match src {
-@write@        }
+@write_arms@        }
     }
 }
 ";
 
 const WRITING: &str = "
-impl SchemaWrite for @type@ {
+impl@writes@ SchemaWrite for @self@@where_src@ {
     type Src = @src@;
 
-    ghost Value = { ⟦<@type@Cases as SchemaWrite>⟧.Value };
+    ghost Value = { ⟦<@fields@ as SchemaWrite>⟧.Value };
 
-    ghost model = { λ x. ⟦<@type@Cases as SchemaWrite>⟧.model (⟦<@type@ as EnumParts>⟧.parts x) };
+    ghost model = { λ x. ⟦<@fields@ as SchemaWrite>⟧.model @values@ };
 
-    ghost is_valid = { λ x. ⟦<@type@Cases as SchemaWrite>⟧.is_valid (⟦<@type@ as EnumParts>⟧.parts x) };
+    ghost is_valid = { λ x. ⟦<@fields@ as SchemaWrite>⟧.is_valid @values@ };
 
-    ghost writing = { ⟦<@type@Cases as SchemaWrite>⟧.writing };
+    ghost writing = { ⟦<@fields@ as SchemaWrite>⟧.writing };
 
     fn type_meta() -> TypeMeta {
-        <@type@Cases as SchemaWrite>::type_meta()
+        <@fields@ as SchemaWrite>::type_meta()
     }
 
     fn size_of(src: &@src@) -> WriteResult<usize> {
-        size_of_enum::<@type@>(src)
-    }
+@size@    }
 
     fn write<W: Writer>(writer: &mut W, src: &@src@) -> WriteResult<()> {
-        write_enum::<@type@, W>(writer, src)
-    }
+@write@    }
 
-    ghost write_laws = { write_laws_by ⟦<@type@ as EnumParts>⟧.parts ⟦<@type@Cases as SchemaWrite>⟧.write_laws };
+    ghost write_laws = { write_laws_by ⟦<@self@ as EnumParts>⟧.parts ⟦<@fields@ as SchemaWrite>⟧.write_laws };
 }
 ";
 
 const READING: &str = "
-impl<L: Lending> SchemaRead<L> for @type@ {
-    type Dst = @src@;
+impl@reads@ SchemaRead<L> for @self@ {
+    type Dst = @dst@;
 
-    ghost Value = { ⟦<@type@Cases as SchemaRead<L>>⟧.Value };
+    ghost Value = { ⟦<@fields@ as SchemaRead<L>>⟧.Value };
 
-    ghost model = { λ x. ⟦<@type@Cases as SchemaRead<L>>⟧.model (⟦<@type@ as EnumParts>⟧.parts x) };
+    ghost model = { λ x. ⟦<@fields@ as SchemaRead<L>>⟧.model (⟦<@of_dst@ as EnumParts>⟧.parts x) };
 
-    ghost is_valid = { ⟦<@type@Cases as SchemaRead<L>>⟧.is_valid };
+    ghost is_valid = { ⟦<@fields@ as SchemaRead<L>>⟧.is_valid };
 
-    ghost reading = { ⟦<@type@Cases as SchemaRead<L>>⟧.reading };
+    ghost reading = { ⟦<@fields@ as SchemaRead<L>>⟧.reading };
 
     fn type_meta() -> TypeMeta {
-        <@type@Cases as SchemaRead<L>>::type_meta()
+        <@fields@ as SchemaRead<L>>::type_meta()
     }
 
     fn prealloc_size() -> usize {
-        <@type@Cases as SchemaRead<L>>::prealloc_size()
+        <@fields@ as SchemaRead<L>>::prealloc_size()
     }
 
-@head@        read_enum::<L, @type@Cases, @type@, R>(alloc, reader, dst)
+@head@        read_enum::<L, @fields@, @of_dst@, R>(alloc, reader, dst)
     }
 
-    ghost read_laws = { ⟦<@type@Cases as Lawful<L>>⟧.read_laws };
+    ghost read_laws = { @laws@ };
 }
 
-impl<L: Lending> Lawful<L> for @type@ {
-    type Dst = @src@;
+impl@lawful@ Lawful<L> for @self@@where_dst@ {
+    type Dst = @dst@;
 
-    ghost Value = { ⟦<@type@Cases as Lawful<L>>⟧.Value };
+    ghost Value = { ⟦<@fields@ as Lawful<L>>⟧.Value };
 
-    ghost model = { λ x. ⟦<@type@Cases as Lawful<L>>⟧.model (⟦<@type@ as EnumParts>⟧.parts x) };
+    ghost model = { λ x. ⟦<@fields@ as Lawful<L>>⟧.model (⟦<@of_dst@ as EnumParts>⟧.parts x) };
 
-    ghost is_valid = { ⟦<@type@Cases as Lawful<L>>⟧.is_valid };
+    ghost is_valid = { ⟦<@fields@ as Lawful<L>>⟧.is_valid };
 
-    ghost reading = { ⟦<@type@Cases as Lawful<L>>⟧.reading };
+    ghost reading = { ⟦<@fields@ as Lawful<L>>⟧.reading };
 
-    ghost read_laws = { ⟦<@type@Cases as Lawful<L>>⟧.read_laws };
+    ghost read_laws = { ⟦<@fields@ as Lawful<L>>⟧.read_laws };
 }
 ";
 
 const MARKERS: &str = "
-impl<L: Lending> RoundTrip<L> for @type@
+impl@backs@ RoundTrip<L> for @self@
 where
-    @type@Cases: RoundTrip<L>,
+@drops@    @fields@: RoundTrip<L@bound@>,
 {
-    ghost reads_back = { reads_back_by ⟦<@type@ as EnumParts>⟧.parts bound-5.reads_back };
+    ghost reads_back = { reads_back_by ⟦<@self@ as EnumParts>⟧.parts @evidence@.reads_back };
 }
 
-impl<L: Lending> OneText<L> for @type@
+impl@backs@ OneText<L> for @self@
 where
-    @type@Cases: FieldsOneText<L>,
+@drops@    @fields@: FieldsOneText<L@bound@>,
 {
-    ghost one_text = { bound-5.fields_one_text };
+    ghost one_text = { @evidence@.fields_one_text };
 }
 
-impl<L: Lending> SchemaReadOwned<L> for @type@
+impl@backs@ SchemaReadOwned<L> for @self@
 where
-    @type@Cases: FieldsReadOwned<L>,
+@drops@    @fields@: FieldsReadOwned<L@bound@>,
 {
-    ghost owned = { bound-5.fields_owned };
+    ghost owned = { @evidence@.fields_owned };
 }
 ";
 
@@ -158,71 +180,46 @@ impl<L: Lending> LawfulKey<L> for @type@ {
 
     ghost equal = { ⟦<@type@ as PartialEq>⟧.eq };
 
-    ghost equivalence = { @type@EqLaws.laws-law };
+    ghost equivalence = { @type@-eq-laws.laws-law };
 
     ghost alike = { elim [@alike@
     ] };
 
     ghost order = { ⟦<@type@ as Ord>⟧.cmp };
 
-    ghost order_total = { @type@OrdLaws.total-law };
+    ghost order_total = { @type@-ord-laws.total-law };
 
-    ghost order_ties = { @type@OrdLaws.matches_eq-law };
+    ghost order_ties = { @type@-ord-laws.matches_eq-law };
 }
 ";
 
 /// How many cases an enum may have that is a key: each is held against each.
 const CASES_OF_KEY: usize = 16;
 
-/// How what a side holds stands behind its name.
-#[derive(Clone, Copy)]
-struct Sides {
-    before: &'static str,
-    before_last: &'static str,
-    after_last: &'static str,
-}
+/// Types whose values are no arrays, by their names.
+const NO_ARRAYS: [&str; 20] = [
+    "u8", "u16", "u32", "u64", "u128", "usize", "i8", "i16", "i32", "i64", "i128", "isize", "bool",
+    "char", "String", "Vec", "Option", "Box", "BTreeMap", "()",
+];
 
-/// In a pattern of Rust's.
-const IN_CODE: Sides = Sides {
-    before: "(",
-    before_last: "(",
-    after_last: ")",
-};
-
-/// In a term.
-const IN_TERMS: Sides = Sides {
-    before: " (",
-    before_last: " ",
-    after_last: "",
-};
-
-/// The case of a result that stands at this place of so many, around what the case holds: `Err(Err(Ok(inside)))`.
-fn sided(
-    alloc: Global,
-    sides: Sides,
-    (place, count): (usize, usize),
-    inside: &str,
-) -> DeriveResult<String> {
+/// The case of a result that stands at this place of so many, around what the case holds, in a term: `Err (Ok a)`.
+fn sided(alloc: Global, (place, count): (usize, usize), inside: &str) -> DeriveResult<String> {
     let is_last = place.saturating_add(1) >= count;
-    let names = if is_last {
-        place
+    let errors = if is_last {
+        place.saturating_sub(1)
     } else {
-        place.saturating_add(1)
+        place
     };
     let mut out = String::new(alloc);
-    for i in 0..names {
-        let is_innermost = i.saturating_add(1) == names;
-        let before = if is_innermost {
-            sides.before_last
-        } else {
-            sides.before
-        };
-        out.push_str(if i == place { "Ok" } else { "Err" })?;
-        out.push_str(before)?;
+    for _ in 0..errors {
+        out.push_str("Err (")?;
+    }
+    if count > 1 {
+        out.push_str(if is_last { "Err " } else { "Ok " })?;
     }
     out.push_str(inside)?;
-    for i in 0..names {
-        out.push_str(if i == 0 { sides.after_last } else { ")" })?;
+    for _ in 0..errors {
+        out.push(')')?;
     }
     Ok(out)
 }
@@ -230,103 +227,198 @@ fn sided(
 /// The types, from the last to the first: each but the last as `Result<A, ..>`.
 fn parts_of(alloc: Global, variants: &[Variant]) -> DeriveResult<String> {
     let mut out = String::new(alloc);
+    let count = variants.len();
     for (i, variant) in variants.iter().enumerate() {
-        let mut values = Vec::new(alloc);
-        for field in variant.fields.fields.as_slice() {
-            values.push(String::from_str(alloc, field.value.as_str())?)?;
+        let value = tuple_of(alloc, types_of(alloc, &variant.fields)?.as_slice())?;
+        if i.saturating_add(1) < count {
+            out.push_str("Result<")?;
         }
-        let value = tuple_of(alloc, values.as_slice())?;
-        if i.saturating_add(1) < variants.len() {
-            put(&mut out, &["Result<", value.as_str(), ", "])?;
+        out.push_str(value.as_str())?;
+        out.push_str(if i.saturating_add(1) < count {
+            ", "
         } else {
-            out.push_str(value.as_str())?;
-        }
+            ""
+        })?;
     }
-    for _ in 1..variants.len() {
-        out.push('>')?;
-    }
+    close(&mut out, count)?;
     Ok(out)
 }
 
+/// Closes what was opened for each of so many but the last.
+fn close(out: &mut String, count: usize) -> DeriveResult<()> {
+    for _ in 1..count {
+        out.push('>')?;
+    }
+    Ok(())
+}
+
+/// A case with its tag: the last, or one that is open to those behind it.
+fn case_of(alloc: Global, variant: &Variant, is_last: bool) -> DeriveResult<String> {
+    let schemas = schemas_of(alloc, &variant.fields)?;
+    let schema = tuple_of(alloc, schemas.as_slice())?;
+    let tag = variant.tag;
+    let (name, end) = if is_last {
+        ("Last", ">")
+    } else {
+        ("Case", ", ")
+    };
+    Ok(format!(in alloc; "{name}<{tag}, {schema}{end}")?)
+}
+
 /// The cases with their tags.
-fn cases_of(alloc: Global, cases: &Cases) -> DeriveResult<String> {
-    let mut out = String::new(alloc);
+pub fn cases_of(alloc: Global, cases: &Cases) -> DeriveResult<String> {
     let variants = cases.variants.as_slice();
-    if let Some(counts) = cases.counts {
-        let counts = format!(in alloc; "{counts}")?;
-        put(&mut out, &["Counted<", counts.as_str(), ", "])?;
-    }
+    let mut out = match cases.counts {
+        Some(counts) => format!(in alloc; "Counted<{counts}, ")?,
+        None => String::new(alloc),
+    };
     for (i, variant) in variants.iter().enumerate() {
-        let schemas = schemas_of(alloc, &variant.fields)?;
-        let schema = tuple_of(alloc, schemas.as_slice())?;
-        let tag = variant.tag;
-        let tag = format!(in alloc; "{tag}")?;
         let is_last = i.saturating_add(1) == variants.len();
-        out.push_str(if is_last { "Last<" } else { "Case<" })?;
-        put(&mut out, &[tag.as_str(), ", ", schema.as_str()])?;
-        out.push_str(if is_last { ">" } else { ", " })?;
+        out.push_str(case_of(alloc, variant, is_last)?.as_str())?;
     }
-    for _ in 1..variants.len() {
-        out.push('>')?;
-    }
-    if cases.counts.is_some() {
-        out.push('>')?;
-    }
+    close(&mut out, variants.len())?;
+    out.push_str(if cases.counts.is_some() { ">" } else { "" })?;
     Ok(out)
+}
+
+/// What contracts see of a case, at this place of so many.
+fn arm_seen(
+    alloc: Global,
+    name: &str,
+    variant: &Variant,
+    of: (usize, usize),
+) -> DeriveResult<String> {
+    let names = letters_of(alloc, variant)?;
+    let value = value_of(alloc, &variant.fields, names.as_slice())?;
+    let side = sided(alloc, of, value.as_str())?;
+    let pattern = pattern_of(alloc, name, variant, "")?;
+    Ok(format!(in alloc; "{pattern} ↦ {side}")?)
 }
 
 /// What contracts see of each case.
 fn arms_of(alloc: Global, name: &str, variants: &[Variant]) -> DeriveResult<String> {
     let mut arms = Vec::new(alloc);
     for (i, variant) in variants.iter().enumerate() {
-        let names = letters_of(alloc, variant)?;
-        let value = if names.is_empty() {
-            String::from_str(alloc, "tt")?
-        } else {
-            tuple_of(alloc, names.as_slice())?
-        };
-        let side = sided(alloc, IN_TERMS, (i, variants.len()), value.as_str())?;
-        let mut arm = String::new(alloc);
-        put(&mut arm, &[name, variant.name.as_str()])?;
-        for letter in names.as_slice() {
-            put(&mut arm, &[" ", letter.as_str()])?;
-        }
-        put(&mut arm, &[" ↦ ", side.as_str()])?;
-        arms.push(arm)?;
+        arms.push(arm_seen(alloc, name, variant, (i, variants.len()))?)?;
     }
     joined(alloc, arms.as_slice(), " | ")
+}
+
+/// What is seen of a case whose fields are called so, in a term.
+fn value_of(alloc: Global, fields: &Fields, names: &[String]) -> DeriveResult<String> {
+    if names.is_empty() {
+        return owned(alloc, "tt");
+    }
+    let mut values = Vec::new(alloc);
+    for (field, name) in fields.fields.iter().zip(names.iter()) {
+        values.push(held_as(alloc, field, "tt", name.as_str())?)?;
+    }
+    tuple_of(alloc, values.as_slice())
 }
 
 /// A letter for each field of a case.
 fn letters_of(alloc: Global, variant: &Variant) -> DeriveResult<Vec<String>> {
     let mut names = Vec::new(alloc);
-    for (i, field) in variant.fields.fields.iter().enumerate() {
-        names.push(binding(alloc, Naming::Numbered, i, field)?)?;
+    for (i, _) in variant.fields.fields.iter().enumerate() {
+        names.push(numbered(alloc, i)?)?;
     }
     Ok(names)
 }
 
 /// `Type::Case`
 fn path_of(alloc: Global, name: &str, variant: &Variant) -> DeriveResult<String> {
-    let mut path = String::new(alloc);
-    put(&mut path, &[name, "::", variant.name.as_str()])?;
-    Ok(path)
+    let case = variant.name.as_str();
+    Ok(format!(in alloc; "{name}::{case}")?)
 }
 
-/// The arms by which a value is made of its parts.
+/// Whether values of a type are known, by its name, to be no arrays.
+fn is_no_array(value: &str) -> bool {
+    let name = match value.split_once('<') {
+        Some((name, _)) => name,
+        None => value,
+    };
+    NO_ARRAYS.iter().any(|known| *known == name)
+}
+
+/// The arm by which a value is made of what its case holds, which stands between these: an array is taken by itself
+/// before it is made part of a value.
+fn arm_of(
+    alloc: Global,
+    (before, after): (&str, &str),
+    path: &str,
+    fields: &Fields,
+) -> DeriveResult<String> {
+    let names = bindings(alloc, fields)?;
+    let made = made_of(alloc, path, fields)?;
+    let is_let = !fields
+        .fields
+        .iter()
+        .all(|field| is_no_array(field.value.as_str()));
+    let mut out = owned(alloc, before)?;
+    if names.len() >= 2 && is_let {
+        let takes = takes_of(alloc, names.as_slice(), "parts")?;
+        put(
+            &mut out,
+            &[
+                "parts",
+                after,
+                " => {\n",
+                takes.as_str(),
+                made.as_str(),
+                "\n}\n",
+            ],
+        )?;
+    } else {
+        let parts = tuple_of(alloc, names.as_slice())?;
+        put(
+            &mut out,
+            &[parts.as_str(), after, " => ", made.as_str(), ",\n"],
+        )?;
+    }
+    Ok(out)
+}
+
+/// The arms by which a value is made of its parts, a `match` for each side behind the first.
 fn make_of(alloc: Global, name: &str, variants: &[Variant]) -> DeriveResult<String> {
     let mut out = String::new(alloc);
     for (i, variant) in variants.iter().enumerate() {
-        let names = bindings(alloc, &variant.fields)?;
-        let parts = tuple_of(alloc, names.as_slice())?;
-        let side = sided(alloc, IN_CODE, (i, variants.len()), parts.as_str())?;
+        let is_last = i.saturating_add(1) == variants.len();
+        if i > 0 && !is_last {
+            out.push_str("Err(rest) => match rest {\n")?;
+        }
+        let side = match (i, is_last) {
+            (0, true) => ("", ""),
+            (_, true) => ("Err(", ")"),
+            _ => ("Ok(", ")"),
+        };
         let path = path_of(alloc, name, variant)?;
-        let made = made_of(alloc, path.as_str(), &variant.fields)?;
-        put(
-            &mut out,
-            &["            ", side.as_str(), " => ", made.as_str(), ",\n"],
-        )?;
+        let arm = arm_of(alloc, side, path.as_str(), &variant.fields)?;
+        out.push_str(arm.as_str())?;
     }
+    for _ in 2..variants.len() {
+        out.push_str("},\n")?;
+    }
+    Ok(out)
+}
+
+/// What stands for the fields of a case at which nobody looks.
+fn unseen_of(alloc: Global, fields: &Fields) -> DeriveResult<String> {
+    let mut out = String::new(alloc);
+    match fields.naming {
+        Naming::Unit => return Ok(out),
+        Naming::Named => out.push_str(" { ..")?,
+        Naming::Numbered => out.push('(')?,
+    }
+    if fields.naming == Naming::Numbered {
+        for i in 0..fields.fields.len() {
+            out.push_str(if i == 0 { "_" } else { ", _" })?;
+        }
+    }
+    out.push_str(if fields.naming == Naming::Named {
+        " }"
+    } else {
+        ")"
+    })?;
     Ok(out)
 }
 
@@ -334,25 +426,42 @@ fn make_of(alloc: Global, name: &str, variants: &[Variant]) -> DeriveResult<Stri
 fn tags_of(alloc: Global, name: &str, variants: &[Variant]) -> DeriveResult<String> {
     let mut out = String::new(alloc);
     for variant in variants {
-        let path = path_of(alloc, name, variant)?;
+        let case = variant.name.as_str();
+        let unseen = unseen_of(alloc, &variant.fields)?;
         let tag = variant.tag;
-        let tag = format!(in alloc; "{tag}")?;
-        put(&mut out, &["            ", path.as_str()])?;
-        match variant.fields.naming {
-            Naming::Unit => {}
-            Naming::Named => out.push_str(" { .. }")?,
-            Naming::Numbered => {
-                let mut holes = Vec::new(alloc);
-                for _ in variant.fields.fields.as_slice() {
-                    holes.push(String::from_str(alloc, "_")?)?;
-                }
-                let list = joined(alloc, holes.as_slice(), ", ")?;
-                put(&mut out, &["(", list.as_str(), ")"])?;
-            }
-        }
-        put(&mut out, &[" => ", tag.as_str(), ",\n"])?;
+        let arm = format!(in alloc; "            {name}::{case}{unseen} => {tag},\n")?;
+        out.push_str(arm.as_str())?;
     }
     Ok(out)
+}
+
+/// What the fields of a case are where they are written.
+fn held_of(alloc: Global, fields: &Fields) -> DeriveResult<Vec<String>> {
+    let names = bindings(alloc, fields)?;
+    let mut held = Vec::new(alloc);
+    for (field, name) in fields.fields.iter().zip(names.iter()) {
+        held.push(held_as(alloc, field, "&()", name.as_str())?)?;
+    }
+    Ok(held)
+}
+
+/// Appends the arm that sizes or writes what a case holds.
+fn put_arm(
+    alloc: Global,
+    out: &mut String,
+    (name, variant): (&str, &Variant),
+    (function, more): (&str, &str),
+    before: &[&str],
+) -> DeriveResult<()> {
+    let path = path_of(alloc, name, variant)?;
+    let made = made_of(alloc, path.as_str(), &variant.fields)?;
+    let pattern = format!(in alloc; "{made} => ")?;
+    let schemas = schemas_of(alloc, &variant.fields)?;
+    let function = of_members(alloc, function, schemas.as_slice(), more)?;
+    let names = held_of(alloc, &variant.fields)?;
+    let arguments = members(alloc, before, names.as_slice())?;
+    let call = (pattern.as_str(), function.as_str(), ",");
+    put_call(alloc, out, 12, call, arguments.as_slice())
 }
 
 /// The arms that size or write what each case holds.
@@ -360,20 +469,12 @@ fn calls_of(
     alloc: Global,
     name: &str,
     variants: &[Variant],
-    (function, more): (&str, &str),
+    call: (&str, &str),
     before: &[&str],
 ) -> DeriveResult<String> {
     let mut out = String::new(alloc);
     for variant in variants {
-        let path = path_of(alloc, name, variant)?;
-        let mut pattern = made_of(alloc, path.as_str(), &variant.fields)?;
-        pattern.push_str(" => ")?;
-        let schemas = schemas_of(alloc, &variant.fields)?;
-        let function = of_members(alloc, function, schemas.as_slice(), more)?;
-        let names = bindings(alloc, &variant.fields)?;
-        let arguments = members(alloc, before, names.as_slice())?;
-        let call = (pattern.as_str(), function.as_str(), ",");
-        put_call(alloc, &mut out, 12, call, arguments.as_slice())?;
+        put_arm(alloc, &mut out, (name, variant), call, before)?;
     }
     Ok(out)
 }
@@ -381,11 +482,29 @@ fn calls_of(
 /// A case with what it holds, by the letters of its fields with this behind each.
 fn pattern_of(alloc: Global, name: &str, variant: &Variant, behind: &str) -> DeriveResult<String> {
     let mut out = String::new(alloc);
-    put(&mut out, &[name, variant.name.as_str()])?;
+    put(&mut out, &[name, "-", variant.name.as_str()])?;
     for letter in letters_of(alloc, variant)?.as_slice() {
         put(&mut out, &[" ", letter.as_str(), behind])?;
     }
     Ok(out)
+}
+
+/// The letters, each with a prime.
+fn primed(alloc: Global, letters: &[String]) -> DeriveResult<Vec<String>> {
+    let mut others = Vec::new(alloc);
+    for letter in letters {
+        others.push(format!(in alloc; "{letter}'")?)?;
+    }
+    Ok(others)
+}
+
+/// What a law says of two values of one case: their parts as pairs in pairs, the one's and the other's.
+fn both_of(alloc: Global, variant: &Variant) -> DeriveResult<String> {
+    let letters = letters_of(alloc, variant)?;
+    let others = primed(alloc, letters.as_slice())?;
+    let one = pairs_of_all(alloc, letters.as_slice())?;
+    let other = pairs_of_all(alloc, others.as_slice())?;
+    Ok(format!(in alloc; "{one} {other}")?)
 }
 
 /// Why two values of one case are equal where the same is seen of them.
@@ -395,26 +514,13 @@ fn same_of(alloc: Global, variant: &Variant, is_last: bool, same: &str) -> Deriv
     }
     let schemas = schemas_of(alloc, &variant.fields)?;
     let schema = pairs_of_all(alloc, schemas.as_slice())?;
-    let letters = letters_of(alloc, variant)?;
-    let mut others = Vec::new(alloc);
-    for letter in letters.as_slice() {
-        let letter = letter.as_str();
-        others.push(format!(in alloc; "{letter}'")?)?;
-    }
-    let mut out = String::new(alloc);
-    let one = pairs_of_all(alloc, letters.as_slice())?;
-    let other = pairs_of_all(alloc, others.as_slice())?;
-    put(
-        &mut out,
-        &["⟦<", schema.as_str(), " as LawfulKey<L>>⟧.alike "],
-    )?;
-    put(&mut out, &[one.as_str(), " ", other.as_str(), " "])?;
-    if is_last {
-        put(&mut out, &[same])?;
+    let both = both_of(alloc, variant)?;
+    let (before, after) = if is_last {
+        ("", "")
     } else {
-        put(&mut out, &["(ok_same ", same, ")"])?;
-    }
-    Ok(out)
+        ("(ok_same ", ")")
+    };
+    Ok(format!(in alloc; "⟦<{schema} as LawfulKey<L>>⟧.alike {both} {before}{same}{after}")?)
 }
 
 /// That the same is seen of what stands behind so many others.
@@ -430,6 +536,20 @@ fn behind(alloc: Global, depth: usize) -> DeriveResult<String> {
     Ok(out)
 }
 
+/// Why values of two cases, at these places of so many, are equal where the same is seen of them, or that it isn't.
+fn why_of(
+    alloc: Global,
+    ((i, one), j): ((usize, &Variant), usize),
+    count: usize,
+) -> DeriveResult<String> {
+    let same = behind(alloc, i.min(j))?;
+    if i == j {
+        return same_of(alloc, one, i.saturating_add(1) == count, same.as_str());
+    }
+    let apart = if i < j { "ok_not_err" } else { "err_not_ok" };
+    Ok(format!(in alloc; "{apart} {same}")?)
+}
+
 /// Why two values of which the same is seen are equal: of a case and of each other one.
 fn alike_of(
     alloc: Global,
@@ -439,24 +559,13 @@ fn alike_of(
 ) -> DeriveResult<String> {
     let mut arms = Vec::new(alloc);
     for (j, other) in variants.iter().enumerate() {
-        let same = behind(alloc, i.min(j))?;
-        let is_last = i.saturating_add(1) == variants.len();
-        let mut arm = pattern_of(alloc, name, other, "'")?;
-        arm.push_str(" ↦ λ e. ")?;
-        if i == j {
-            let why = same_of(alloc, one, is_last, same.as_str())?;
-            arm.push_str(why.as_str())?;
-        } else {
-            let apart = if i < j { "ok_not_err " } else { "err_not_ok " };
-            arm.push_str(apart)?;
-            arm.push_str(same.as_str())?;
-        }
-        arms.push(arm)?;
+        let why = why_of(alloc, ((i, one), j), variants.len())?;
+        let pattern = pattern_of(alloc, name, other, "'")?;
+        arms.push(format!(in alloc; "{pattern} ↦ λ e. {why}")?)?;
     }
     let arms = joined(alloc, arms.as_slice(), " | ")?;
-    let mut out = pattern_of(alloc, name, one, "")?;
-    put(&mut out, &[" ↦ elim [ ", arms.as_str(), " ]"])?;
-    Ok(out)
+    let pattern = pattern_of(alloc, name, one, "")?;
+    Ok(format!(in alloc; "{pattern} ↦ elim [ {arms} ]")?)
 }
 
 /// Whether an enum is a key of maps: it derives what these ask, its fields are keys by their names, and it has few
@@ -465,6 +574,7 @@ pub fn is_enum_key(declaration: &Declaration, cases: &Cases) -> bool {
     declaration.is_eq
         && declaration.is_ord
         && declaration.from.is_none()
+        && declaration.generics.is_none()
         && cases.variants.len() <= CASES_OF_KEY
         && cases
             .variants
@@ -480,41 +590,142 @@ fn put_key(alloc: Global, out: &mut String, name: &str, variants: &[Variant]) ->
         put(&mut alike, &["\n      | ", arm.as_str()])?;
     }
     let mut words = Words::new(alloc);
-    words.set("type", owned(alloc, name)?)?;
-    words.set("alike", alike)?;
-    fill(out, KEY, &words)
+    words.set("type", owned(alloc, name));
+    words.set("alike", Ok(alike));
+    fill(out, KEY, &mut words)
+}
+
+/// Sets the words of an enum's cases.
+fn set_cases(alloc: Global, words: &mut Words, (declaration, cases): (&Declaration, &Cases)) {
+    let name = declaration.name.as_str();
+    let src = declaration.src();
+    let variants = cases.variants.as_slice();
+    let size = ("size_of", "");
+    let write = ("write", "W");
+    words.set("parts", parts_of(alloc, variants));
+    words.set("arms", arms_of(alloc, name, variants));
+    words.set("make", make_of(alloc, src, variants));
+    words.set("tag", owned(alloc, cases.tag.as_str()));
+    words.set("cases", cases_of(alloc, cases));
+    words.set("tags", tags_of(alloc, src, variants));
+    let arms = calls_of(alloc, src, variants, size, &[]);
+    words.set("size_arms", arms);
+    let arms = calls_of(alloc, src, variants, write, &["writer"]);
+    words.set("write_arms", arms);
+}
+
+/// Sets the words of what is read and written of an enum by its cases.
+fn set_enum(
+    alloc: Global,
+    words: &mut Words,
+    (all, declaration, cases): (&[Declaration], &Declaration, &Cases),
+) -> DeriveResult<()> {
+    let generics = &declaration.generics;
+    let me = applied(alloc, declaration.name.as_str(), generics, "")?;
+    let me = me.as_str();
+    let sides = cases_of(alloc, cases)?;
+    let parts = parts_of(alloc, cases.variants.as_slice())?;
+    words.set("evidence", evidence_of(alloc, generics, sides.as_str(), 2));
+    words.set("bound", bound_of(alloc, generics, parts.as_str()));
+    let parameters = generics.parameters.as_slice();
+    words.set(
+        "src_parts",
+        seen_by(alloc, parts.as_str(), parameters, "Src"),
+    );
+    words.set(
+        "values",
+        Ok(format!(in alloc; "(⟦<{me} as EnumParts>⟧.parts x)")?),
+    );
+    words.set(
+        "size",
+        Ok(format!(in alloc; "        size_of_enum::<{me}>(src)\n")?),
+    );
+    words.set(
+        "write",
+        Ok(format!(in alloc; "        write_enum::<{me}, W>(writer, src)\n")?),
+    );
+    if generics.is_none() {
+        let tag = format!(in alloc; "<{me} as EnumShape>::Tag")?;
+        words.set(
+            "schemas",
+            Ok(format!(in alloc; "OneOf<{tag}, <{me} as EnumShape>::Cases>")?),
+        );
+        words.set(
+            "laws",
+            Ok(format!(in alloc; "⟦<{me}Cases as Lawful<L>>⟧.read_laws")?),
+        );
+        return Ok(());
+    }
+    let (sides, tag) = (sides.as_str(), cases.tag.as_str());
+    let schemas = format!(in alloc; "OneOf<{tag}, {sides}>")?;
+    let seen = looked_into(alloc, all, (schemas.as_str(), parameters))?;
+    words.set(
+        "laws",
+        law_of(alloc, seen.as_str(), parameters, declaration.line),
+    );
+    words.set("schemas", Ok(schemas));
+    Ok(())
+}
+
+/// Appends what an enum is made of, and how its cases are sized and written.
+fn put_shape(
+    alloc: Global,
+    out: &mut String,
+    words: &mut Words,
+    generics: &Generics,
+) -> DeriveResult<()> {
+    let has_parameters = !generics.parameters.is_empty();
+    if generics.lifetime.is_none() {
+        fill(out, SCHEMAS, words)?;
+    }
+    if has_parameters {
+        fill(out, OF, words)?;
+    }
+    fill(out, PARTS, words)?;
+    if has_parameters {
+        fill(out, WRITTEN_PARTS, words)?;
+    }
+    fill(out, SHAPE, words)
+}
+
+/// Whether values of all cases own no memory, as far as their types' names say.
+fn is_plain(alloc: Global, variants: &[Variant]) -> DeriveResult<bool> {
+    for variant in variants {
+        if !own_no_memory(alloc, &variant.fields)? {
+            return Ok(false);
+        }
+    }
+    Ok(true)
 }
 
 /// Appends the schema of an enum.
 pub fn put_enum(
     alloc: Global,
     out: &mut String,
-    declaration: &Declaration,
+    (all, declaration): (&[Declaration], &Declaration),
     cases: &Cases,
 ) -> DeriveResult<()> {
-    let name = declaration.name.as_str();
-    let src = declaration.src();
+    let generics = &declaration.generics;
     let variants = cases.variants.as_slice();
-    let size = ("size_of", "");
-    let write = ("write", "W");
-    let mut words = Words::new(alloc);
-    words.set("type", owned(alloc, name)?)?;
-    words.set("src", owned(alloc, src)?)?;
-    words.set("parts", parts_of(alloc, variants)?)?;
-    words.set("arms", arms_of(alloc, name, variants)?)?;
-    words.set("make", make_of(alloc, src, variants)?)?;
-    words.set("tag", owned(alloc, cases.tag.as_str())?)?;
-    words.set("cases", cases_of(alloc, cases)?)?;
-    words.set("tags", tags_of(alloc, src, variants)?)?;
-    words.set("size", calls_of(alloc, src, variants, size, &[])?)?;
-    words.set("write", calls_of(alloc, src, variants, write, &["writer"])?)?;
-    words.set("head", read_head(alloc, src)?)?;
-    fill(out, PARTS, &words)?;
-    fill(out, WRITING, &words)?;
-    fill(out, READING, &words)?;
-    fill(out, MARKERS, &words)?;
+    let sides = cases_of(alloc, cases)?;
+    let of = ("Cases", sides.as_str());
+    let mut words = name_words(alloc, declaration, of, true)?;
+    set_cases(alloc, &mut words, (declaration, cases));
+    set_enum(alloc, &mut words, (all, declaration, cases))?;
+    put_shape(alloc, out, &mut words, generics)?;
+    if let Some(lifetime) = &generics.lifetime {
+        let parts = parts_of(alloc, variants)?;
+        let is_plain = is_plain(alloc, variants)?;
+        let kind = (lifetime.as_str(), is_plain);
+        return put_lent_enum(alloc, out, (declaration, parts), kind, &mut words);
+    }
+    let dst = applied(alloc, declaration.src(), generics, "::Dst")?;
+    words.set("head", read_head(alloc, dst.as_str()));
+    fill(out, WRITING, &mut words)?;
+    fill(out, READING, &mut words)?;
+    fill(out, MARKERS, &mut words)?;
     if is_enum_key(declaration, cases) {
-        put_key(alloc, out, name, variants)?;
+        put_key(alloc, out, declaration.name.as_str(), variants)?;
     }
     Ok(())
 }

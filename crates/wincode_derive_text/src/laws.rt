@@ -1,5 +1,5 @@
 //! The law of reading of fields in whose types parameters stand, put together from those of their parts.
-use crate::error::{DeriveResult, unsupported};
+use crate::error::{DeriveError, DeriveResult, unsupported};
 use crate::parsing::{end_of_group, end_of_part, next, text_at, type_text};
 use crate::printing::{Words, fill, owned, put};
 use crate::tokens::{Kind, Token, tokens_of};
@@ -45,6 +45,14 @@ const PARTS: [(&str, &str); 7] = [
     ("Result", "result_laws"),
 ];
 
+/// The laws of cases, by their names: a tag's scheme or a number stands in front of their parts.
+const CASES: [(&str, &str); 4] = [
+    ("OneOf", "enum_read_laws"),
+    ("Case", "case_laws"),
+    ("Last", "last_case_laws"),
+    ("Counted", "counted_case_laws"),
+];
+
 /// What the laws of maps begin with and end in, by their names.
 const MAPS: [(&str, &str, &str); 2] = [
     (
@@ -71,6 +79,17 @@ fn word_of(table: &[(&'static str, &'static str)], name: &str) -> Option<&'stati
     None
 }
 
+/// The bytes of a scheme of tags, or what else it is.
+fn bytes_of(alloc: Global, scheme: String) -> DeriveResult<String> {
+    match scheme.as_str() {
+        "u8" => owned(alloc, "1"),
+        "u16" => owned(alloc, "2"),
+        "u32" => owned(alloc, "4"),
+        "u64" => owned(alloc, "8"),
+        _ => Ok(scheme),
+    }
+}
+
 /// Whether one of these names stands in these tokens.
 fn has_name(tokens: &[Token], from: usize, to: usize, names: &[String]) -> bool {
     tokens.iter().take(to).skip(from).any(|token| names
@@ -90,6 +109,14 @@ fn count_parts(tokens: &[Token], from: usize, to: usize) -> usize {
         at = next(end_of_part(tokens, at, to));
     }
     count
+}
+
+/// A parameter that stands where no law is known of.
+fn unknown_at(line: usize) -> DeriveError {
+    unsupported(
+        line,
+        "a parameter inside of a type that is none of the library's",
+    )
 }
 
 impl Law {
@@ -143,6 +170,22 @@ impl Law {
         self.open(begin, (end, next(close)), owned(alloc, ")")?)
     }
 
+    /// Cases, or what stands for them.
+    fn open_cases(
+        &mut self,
+        alloc: Global,
+        tokens: &[Token],
+        word: &str,
+        (begin, close): (usize, usize),
+    ) -> DeriveResult<()> {
+        let end = end_of_part(tokens, begin, close);
+        let number = type_text(alloc, tokens, begin, end)?;
+        let number = bytes_of(alloc, number)?;
+        let number = number.as_str();
+        put(&mut self.out, &["\n        (", word, " ", number, " "])?;
+        self.open(next(end), (close, next(close)), owned(alloc, ")")?)
+    }
+
     /// A map, whose key names no parameter.
     fn open_map(
         &mut self,
@@ -157,11 +200,14 @@ impl Law {
         let value = type_text(alloc, tokens, next(end), close)?;
         let value = value.as_str();
         let mut words = Words::new(alloc);
-        words.set("key", format!(in alloc; "⟦<{key} as LawfulKey<L>>⟧")?)?;
-        words.set("value", format!(in alloc; "⟦<{value} as SchemaRead<L>>⟧")?)?;
-        fill(&mut self.out, before, &words)?;
+        words.set("key", Ok(format!(in alloc; "⟦<{key} as LawfulKey<L>>⟧")?));
+        words.set(
+            "value",
+            Ok(format!(in alloc; "⟦<{value} as SchemaRead<L>>⟧")?),
+        );
+        fill(&mut self.out, before, &mut words)?;
         let mut closing = String::new(alloc);
-        fill(&mut closing, after, &words)?;
+        fill(&mut closing, after, &mut words)?;
         self.open(next(end), (close, next(close)), closing)
     }
 
@@ -172,12 +218,8 @@ impl Law {
         tokens: &[Token],
         (names, line): (&[String], usize),
     ) -> DeriveResult<()> {
-        let unknown = unsupported(
-            line,
-            "a parameter inside of a type that is none of the library's",
-        );
         let Some(open) = (self.at..tokens.len()).find(|i| text_at(tokens, *i) == "<") else {
-            return Err(unknown);
+            return Err(unknown_at(line));
         };
         let close = end_of_group(tokens, open)?;
         let place = (next(open), close);
@@ -189,6 +231,9 @@ impl Law {
                 return self.open_map(alloc, tokens, (*before, *after), place);
             }
         }
+        if let Some(word) = word_of(&CASES, name) {
+            return self.open_cases(alloc, tokens, word, place);
+        }
         let table: &[(&'static str, &'static str)] = if is_container { &LISTS } else { &PARTS };
         match word_of(table, name) {
             Some(word) if is_container => self.open_list(alloc, tokens, word, place),
@@ -196,7 +241,7 @@ impl Law {
                 put(&mut self.out, &["(", word, " "])?;
                 self.open(next(open), (close, next(close)), owned(alloc, ")")?)
             }
-            None => Err(unknown),
+            None => Err(unknown_at(line)),
         }
     }
 
@@ -242,7 +287,8 @@ impl Law {
         if self.at >= end {
             return self.step_behind(alloc);
         }
-        if !has_name(tokens, self.at, end, of.0) {
+        let is_cases = word_of(&CASES, text_at(tokens, self.at)).is_some();
+        if !is_cases && !has_name(tokens, self.at, end, of.0) {
             let text = type_text(alloc, tokens, self.at, end)?;
             put(
                 &mut self.out,

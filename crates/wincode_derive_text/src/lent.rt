@@ -1,10 +1,10 @@
 //! The schema of a struct with a borrowed field.
 use crate::declarations::{Declaration, Field, Fields};
 use crate::error::{DeriveResult, unsupported};
-use crate::printing::{Words, fill, owned};
+use crate::printing::{Words, fill, owned, put};
 use crate::structs::{
-    bindings, groups_of, is_plain_key, made_of, named_fields, pairs_of_all, schemas_of, set_calls,
-    tuple_of, types_of, values_of,
+    applied, bindings, groups_of, is_plain_key, made_of, name_words, named_fields, pairs_of_all,
+    put_rests, schemas_of, set_calls, takes_of, tuple_of, types_of, values_of,
 };
 use crate::tokens::{Kind, tokens_of};
 use std::alloc::Global;
@@ -32,10 +32,10 @@ const PLAIN: [&str; 18] = [
 ];
 
 const WRITING: &str = "
-type @type@Fields<@lifetime@> = @schemas@;
+type @fields@ = @schemas@;
 
-impl<@lifetime@> SchemaWrite for @self@ {
-    type Src = @self@;
+impl@writes@ SchemaWrite for @self@ {
+    type Src = @src@;
 
     ghost Value = { ⟦<@fields@ as SchemaWrite>⟧.Value };
 
@@ -51,10 +51,10 @@ impl<@lifetime@> SchemaWrite for @self@ {
         <@fields@ as SchemaWrite>::type_meta()
     }
 
-    fn size_of(src: &@self@) -> WriteResult<usize> {
+    fn size_of(src: &@src@) -> WriteResult<usize> {
 @size@    }
 
-    fn write<W: Writer>(writer: &mut W, src: &@self@) -> WriteResult<()> {
+    fn write<W: Writer>(writer: &mut W, src: &@src@) -> WriteResult<()> {
 @write@    }
 
     ghost write_laws = { write_laws_by (λ x. @values@) ⟦<@fields@ as SchemaWrite>⟧.write_laws };
@@ -72,9 +72,7 @@ impl<@lifetime@> Lends<@type@<'static>> for Lifetime<@lifetime@> {
     ghost parts = { λ x. @values@ };
 
     fn make(made_of: @types@) -> @self@ {
-        let @bound@ = made_of;
-        @made@
-    }
+@take@    }
 }
 
 impl<@lifetime@, L: Lends<@type@<'static>>> SchemaRead<L> for @self@ {
@@ -151,7 +149,7 @@ fn is_plain(word: &str) -> bool {
 
 /// Whether values of these fields own no memory, as far as their types' names say: of others no bound on their tuple
 /// can be stated.
-fn own_no_memory(alloc: Global, fields: &Fields) -> DeriveResult<bool> {
+pub fn own_no_memory(alloc: Global, fields: &Fields) -> DeriveResult<bool> {
     for field in fields.fields.as_slice() {
         let tokens = tokens_of(alloc, field.value.as_str())?;
         if tokens.iter().any(|token| token.kind == Kind::Word && !is_plain(token.text.as_str())) {
@@ -202,10 +200,73 @@ fn put_lent_key(
     let schemas = schemas_of(alloc, fields)?;
     let one = named_fields(alloc, "x.", fields)?;
     let other = named_fields(alloc, "y.", fields)?;
-    words.set("pairs", pairs_of_all(alloc, schemas.as_slice())?)?;
-    words.set("one", pairs_of_all(alloc, one.as_slice())?)?;
-    words.set("other", pairs_of_all(alloc, other.as_slice())?)?;
+    words.set("pairs", pairs_of_all(alloc, schemas.as_slice()));
+    words.set("one", pairs_of_all(alloc, one.as_slice()));
+    words.set("other", pairs_of_all(alloc, other.as_slice()));
     fill(out, KEY, words)
+}
+
+/// Sets the words of what names a lifetime, which has these parts and is made of them so.
+fn set_lent(
+    words: &mut Words,
+    lifetime: String,
+    (types, take): (String, String),
+) -> DeriveResult<()> {
+    words.set("lifetime", Ok(lifetime));
+    words.set("types", Ok(types));
+    words.set("take", Ok(take));
+    Ok(())
+}
+
+/// Appends the schema of an enum that names a lifetime, of which there is what it is made of. It has these parts, and
+/// may own no memory.
+pub fn put_lent_enum(
+    alloc: Global,
+    out: &mut String,
+    (declaration, parts): (&Declaration, String),
+    (lifetime, is_plain): (&str, bool),
+    words: &mut Words,
+) -> DeriveResult<()> {
+    let me = applied(alloc, declaration.name.as_str(), &declaration.generics, "")?;
+    let me = me.as_str();
+    let take = format!(in alloc; "        <{me} as EnumParts>::make(made_of)\n")?;
+    set_lent(words, owned(alloc, lifetime)?, (parts, take))?;
+    fill(out, WRITING, words)?;
+    fill(out, READING, words)?;
+    if is_plain {
+        fill(out, ROUND_TRIP, words)?;
+    }
+    Ok(())
+}
+
+/// How a struct that names a lifetime is made of what its fields are read as.
+fn take_of(alloc: Global, name: &str, fields: &Fields) -> DeriveResult<String> {
+    let bound = bindings(alloc, fields)?;
+    let made = made_of(alloc, name, fields)?;
+    let mut take = takes_of(alloc, bound.as_slice(), "made_of")?;
+    put(&mut take, &["        ", made.as_str(), "\n"])?;
+    Ok(take)
+}
+
+/// The words of a struct that names a lifetime.
+fn words_of_lent(
+    alloc: Global,
+    (declaration, lifetime): (&Declaration, &str),
+    fields: &Fields,
+) -> DeriveResult<Words> {
+    let schemas = schemas_of(alloc, fields)?;
+    let all = tuple_of(alloc, schemas.as_slice())?;
+    let mut words = name_words(alloc, declaration, ("Fields", all.as_str()), false)?;
+    let types = tuple_of(alloc, types_of(alloc, fields)?.as_slice())?;
+    let take = take_of(alloc, declaration.name.as_str(), fields)?;
+    set_lent(&mut words, owned(alloc, lifetime)?, (types, take))?;
+    words.set("schemas", Ok(all));
+    words.set("values", values_of(alloc, fields, 0));
+    let groups = groups_of(alloc, declaration, fields.fields.len())?;
+    if let Some(group) = groups.first() {
+        set_calls(alloc, &mut words, (fields, group))?;
+    }
+    Ok(words)
 }
 
 /// Appends the schema of a struct that names a lifetime.
@@ -215,31 +276,16 @@ pub fn put_lent(
     (declaration, lifetime): (&Declaration, &str),
     fields: &Fields,
 ) -> DeriveResult<()> {
-    let name = declaration.name.as_str();
     if fields.fields.is_empty() {
         let what = "a struct without fields that has a lifetime";
         return Err(unsupported(declaration.line, what));
     }
-    let types = types_of(alloc, fields)?;
-    let schemas = schemas_of(alloc, fields)?;
-    let bound = bindings(alloc, fields)?;
-    let mut words = Words::new(alloc);
-    words.set("type", owned(alloc, name)?)?;
-    words.set("lifetime", owned(alloc, lifetime)?)?;
-    words.set("self", format!(in alloc; "{name}<{lifetime}>")?)?;
-    words.set("fields", format!(in alloc; "{name}Fields<{lifetime}>")?)?;
-    words.set("types", tuple_of(alloc, types.as_slice())?)?;
-    words.set("schemas", tuple_of(alloc, schemas.as_slice())?)?;
-    words.set("values", values_of(alloc, fields, 0)?)?;
-    words.set("bound", tuple_of(alloc, bound.as_slice())?)?;
-    words.set("made", made_of(alloc, name, fields)?)?;
-    for group in groups_of(alloc, name, fields.fields.len())?.as_slice() {
-        set_calls(alloc, &mut words, (fields, group))?;
-    }
-    fill(out, WRITING, &words)?;
-    fill(out, READING, &words)?;
+    let mut words = words_of_lent(alloc, (declaration, lifetime), fields)?;
+    fill(out, WRITING, &mut words)?;
+    put_rests(alloc, out, (declaration, fields), (WRITING, false))?;
+    fill(out, READING, &mut words)?;
     if own_no_memory(alloc, fields)? {
-        fill(out, ROUND_TRIP, &words)?;
+        fill(out, ROUND_TRIP, &mut words)?;
     }
     if is_lent_key(alloc, declaration, fields)? {
         put_lent_key(alloc, out, &mut words, fields)?;

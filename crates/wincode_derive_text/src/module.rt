@@ -1,8 +1,9 @@
 //! The module with the schemas of what a source file declares.
 use crate::declarations::{Cases, Declaration, DeclaredShape, Fields, Variant};
 use crate::enums::{is_enum_key, put_enum};
-use crate::error::{DeriveError, DeriveResult};
+use crate::error::{DeriveError, DeriveResult, refused};
 use crate::lent::{is_lent_key, put_lent};
+use crate::names::{Names, names_of};
 use crate::parsing::declarations_of;
 use crate::printing::{Words, broken, fill, joined, owned, put, put_use};
 use crate::structs::{is_lawful_key, put_key, put_struct};
@@ -12,9 +13,10 @@ use std::alloc::Global;
 /// Which parts of the library the schemas stand on.
 #[derive(Clone, Copy)]
 struct Needs {
-    structs: bool,
+    /// Types that are read of any lender.
+    owned: bool,
     enums: bool,
-    /// Structs with borrowed fields.
+    /// Types with borrowed fields.
     lent: bool,
     /// Structs that are keys.
     keys: bool,
@@ -30,8 +32,8 @@ struct Needs {
 
 /// The laws of the order of a struct, and of its `==`.
 const ORDERS: &str =
-    "ghost use Rattle.@crate@.specs.contracts.@path@@type@Eq.TheImpl.Laws as @type@EqLaws;
-ghost use Rattle.@crate@.specs.contracts.@path@@type@Ord.TheImpl.Laws as @type@OrdLaws;
+    "ghost use Rattle.@crate@.specs.contracts.@path@@type@Eq.TheImpl.Laws as @called@-eq-laws;
+ghost use Rattle.@crate@.specs.contracts.@path@@type@Ord.TheImpl.Laws as @called@-ord-laws;
 ";
 
 /// The laws of parts.
@@ -52,6 +54,14 @@ const PAIRS: [&str; 4] = [
     "reads_back_by",
     "pair_read_laws",
     "windowed_read_laws",
+];
+
+/// The laws of cases.
+const CASES: [&str; 4] = [
+    "enum_read_laws",
+    "counted_case_laws",
+    "case_laws",
+    "last_case_laws",
 ];
 
 /// Of two results that are the same, what the cases of enums that are keys need.
@@ -88,6 +98,7 @@ fn is_key(declaration: &Declaration, fields: &Fields) -> bool {
         && declaration.from.is_none()
         && declaration.generics.lifetime.is_none()
         && !fields.fields.is_empty()
+        && !fields.fields.iter().any(|field| field.is_phantom)
 }
 
 /// The needs with those of an enum.
@@ -96,7 +107,10 @@ fn with_cases(needs: Needs, declaration: &Declaration, cases: &Cases) -> Needs {
     for variant in cases.variants.as_slice() {
         all = with_members(all, &variant.fields);
     }
+    let is_lent = declaration.generics.lifetime.is_some();
     all.enums = true;
+    all.owned = all.owned || !is_lent;
+    all.lent = all.lent || is_lent;
     all.sides = all.sides || cases.variants.len() > 1;
     all.keys = all.keys || is_enum_key(declaration, cases);
     all
@@ -115,7 +129,7 @@ fn with_encoding(needs: Needs, of: (&Declaration, &Fields)) -> Needs {
 /// What all declarations need.
 fn needs_of(alloc: Global, declarations: &[Declaration]) -> DeriveResult<Needs> {
     let mut needs = Needs {
-        structs: false,
+        owned: false,
         enums: false,
         lent: false,
         keys: false,
@@ -130,7 +144,7 @@ fn needs_of(alloc: Global, declarations: &[Declaration]) -> DeriveResult<Needs> 
                 let is_lent = declaration.generics.lifetime.is_some();
                 needs = with_members(needs, fields);
                 needs.lent = needs.lent || is_lent;
-                needs.structs = needs.structs || !is_lent;
+                needs.owned = needs.owned || !is_lent;
                 let is_lawful = is_lawful_key(declaration, fields);
                 let is_lent_key = is_lent_key(alloc, declaration, fields)?;
                 needs.keys = needs.keys || is_lent_key || is_key(declaration, fields);
@@ -149,6 +163,15 @@ fn add(alloc: Global, names: &mut Vec<String>, name: &str, is_needed: bool) -> D
         names.push(String::from_str(alloc, name)?)?;
     }
     Ok(())
+}
+
+/// Those names of these that are needed.
+fn needed_of(alloc: Global, named: &[(&str, bool)]) -> DeriveResult<Vec<String>> {
+    let mut names = Vec::new(alloc);
+    for (name, is_needed) in named {
+        add(alloc, &mut names, *name, *is_needed)?;
+    }
+    Ok(names)
 }
 
 /// Where the checker has what a type is, that stands in this module or, by its path, elsewhere.
@@ -172,10 +195,9 @@ fn put_cases(
     alloc: Global,
     out: &mut String,
     place: (&str, &str),
-    declaration: &Declaration,
+    (name, src): (&str, &str),
     variants: &[Variant],
 ) -> DeriveResult<()> {
-    let name = declaration.name.as_str();
     let mut cases = String::new(alloc);
     for (i, variant) in variants.iter().enumerate() {
         if i > 0 {
@@ -183,10 +205,16 @@ fn put_cases(
         }
         put(
             &mut cases,
-            &[variant.name.as_str(), " as ", name, variant.name.as_str()],
+            &[
+                variant.name.as_str(),
+                " as ",
+                name,
+                "-",
+                variant.name.as_str(),
+            ],
         )?;
     }
-    let module = declared_at(alloc, place, declaration.src())?;
+    let module = declared_at(alloc, place, src)?;
     put(out, &["ghost use ", module.as_str()])?;
     put(out, &[".TheVariants.{", cases.as_str(), "};\n"])
 }
@@ -204,15 +232,16 @@ fn put_orders(
     alloc: Global,
     out: &mut String,
     (krate, path): (&str, &str),
-    declarations: &[Declaration],
+    (written, declarations): (&[Declaration], &[Declaration]),
 ) -> DeriveResult<()> {
-    for declaration in declarations {
+    for (it, declaration) in written.iter().zip(declarations.iter()) {
         if is_ordered_key(declaration) {
             let mut words = Words::new(alloc);
-            words.set("crate", owned(alloc, krate)?)?;
-            words.set("path", owned(alloc, path)?)?;
-            words.set("type", owned(alloc, declaration.name.as_str())?)?;
-            fill(out, ORDERS, &words)?;
+            words.set("crate", owned(alloc, krate));
+            words.set("path", owned(alloc, path));
+            words.set("type", owned(alloc, it.name.as_str()));
+            words.set("called", owned(alloc, declaration.name.as_str()));
+            fill(out, ORDERS, &mut words)?;
         }
     }
     Ok(())
@@ -242,11 +271,13 @@ fn put_ghosts(
 
 /// Appends the import of what results and keys are made of.
 fn put_prelude(alloc: Global, out: &mut String, needs: Needs, body: &str) -> DeriveResult<()> {
-    let mut names = Vec::new(alloc);
-    add(alloc, &mut names, "◌≡◌", needs.lent)?;
-    add(alloc, &mut names, "Ok", needs.sides)?;
-    add(alloc, &mut names, "Err", needs.sides)?;
-    add(alloc, &mut names, "refl", body.contains("λ e. refl"))?;
+    let named = [
+        ("◌≡◌", needs.lent),
+        ("Ok", needs.sides),
+        ("Err", needs.sides),
+        ("refl", body.contains("λ e. refl")),
+    ];
+    let names = needed_of(alloc, &named)?;
     if !names.is_empty() {
         let list = joined(alloc, names.as_slice(), ", ")?;
         let module = "ghost use Rattle.std.specs.Prelude.{";
@@ -261,7 +292,7 @@ fn put_ghost_uses(
     out: &mut String,
     (place, body): ((&str, &str), &str),
     needs: Needs,
-    declarations: &[Declaration],
+    (written, declarations): (&[Declaration], &[Declaration]),
 ) -> DeriveResult<()> {
     put_prelude(alloc, out, needs, body)?;
     if needs.lent {
@@ -273,10 +304,13 @@ fn put_ghost_uses(
     put_ghosts(alloc, out, sides, ("", body))?;
     let laws = ("wincode_derive_support.specs.PartLaws", LAWS.as_slice());
     put_ghosts(alloc, out, laws, ("(", body))?;
-    put_orders(alloc, out, place, declarations)?;
-    for declaration in declarations {
+    let cases = ("wincode_derive_support.specs.SumLaws", CASES.as_slice());
+    put_ghosts(alloc, out, cases, ("(", body))?;
+    put_orders(alloc, out, place, (written, declarations))?;
+    for (it, declaration) in written.iter().zip(declarations.iter()) {
         if let DeclaredShape::Enum(cases) = &declaration.shape {
-            put_cases(alloc, out, place, declaration, cases.variants.as_slice())?;
+            let called = (declaration.name.as_str(), it.src());
+            put_cases(alloc, out, place, called, cases.variants.as_slice())?;
         }
     }
     Ok(())
@@ -308,61 +342,63 @@ fn put_members(alloc: Global, out: &mut String, needs: Needs) -> DeriveResult<()
 
 /// Appends what the code of the module names of readers and writers.
 fn put_io(alloc: Global, out: &mut String, needs: Needs) -> DeriveResult<()> {
-    let mut names = Vec::new(alloc);
-    add(alloc, &mut names, "Lending", needs.structs || needs.enums)?;
-    add(alloc, &mut names, "Lifetime", needs.lent)?;
-    add(alloc, &mut names, "Reader", true)?;
-    add(alloc, &mut names, "Writer", true)?;
+    let named = [
+        ("Lending", needs.owned),
+        ("Lifetime", needs.lent),
+        ("Reader", true),
+        ("Writer", true),
+    ];
+    let names = needed_of(alloc, &named)?;
     put_use(alloc, out, "wincode::io", names.as_slice())
 }
 
 /// Appends what the code of the module names.
-fn put_uses(alloc: Global, out: &mut String, needs: Needs, body: &str) -> DeriveResult<()> {
-    out.push_str("\nuse super::*;\nuse std::alloc::Global;\n")?;
+fn put_uses(
+    alloc: Global,
+    out: &mut String,
+    (needs, names): (Needs, &Names),
+    body: &str,
+) -> DeriveResult<()> {
+    out.push('\n')?;
+    names.put_uses(alloc, out)?;
+    out.push_str("use std::alloc::Global;\n")?;
+    if body.contains("PhantomData") {
+        out.push_str("use std::marker::PhantomData;\n")?;
+    }
+    names.put_shadowed(out)?;
     put_io(alloc, out, needs)?;
     if body.contains(" as SeqLen>") {
         out.push_str("use wincode::len::SeqLen;\n")?;
     }
     put_members(alloc, out, needs)?;
-    let mut names = Vec::new(alloc);
-    add(alloc, &mut names, "Key", needs.keys)?;
-    add(alloc, &mut names, "OneText", true)?;
-    add(alloc, &mut names, "ReadResult", true)?;
-    add(alloc, &mut names, "RoundTrip", true)?;
-    add(alloc, &mut names, "SchemaGet", body.contains("SchemaGet<"))?;
-    add(alloc, &mut names, "SchemaRead", true)?;
-    add(
-        alloc,
-        &mut names,
-        "SchemaReadOwned",
-        needs.structs || needs.enums,
-    )?;
-    add(alloc, &mut names, "SchemaWrite", true)?;
-    add(alloc, &mut names, "TypeMeta", true)?;
-    add(alloc, &mut names, "WriteResult", true)?;
+    let named = [
+        ("Key", needs.keys),
+        ("OneText", true),
+        ("ReadResult", true),
+        ("RoundTrip", true),
+        ("SchemaGet", body.contains("SchemaGet<")),
+        ("SchemaRead", true),
+        ("SchemaReadOwned", needs.owned),
+        ("SchemaWrite", true),
+        ("TypeMeta", true),
+        ("WriteResult", true),
+    ];
+    let names = needed_of(alloc, &named)?;
     put_use(alloc, out, "wincode", names.as_slice())?;
     put_derived_uses(alloc, out, needs, body)
 }
 
 /// Appends what the module names of `wincode_derive_support`.
 fn put_derived_uses(alloc: Global, out: &mut String, needs: Needs, body: &str) -> DeriveResult<()> {
-    let reads = needs.structs || needs.enums;
-    let mut names = Vec::new(alloc);
-    add(
-        alloc,
-        &mut names,
-        "EnumParts",
-        body.contains("EnumParts for"),
-    )?;
-    add(alloc, &mut names, "EnumShape", needs.enums)?;
-    add(
-        alloc,
-        &mut names,
-        "read_enum",
-        body.contains("read_enum::<"),
-    )?;
-    add(alloc, &mut names, "size_of_enum", needs.enums)?;
-    add(alloc, &mut names, "write_enum", needs.enums)?;
+    let reads = needs.owned;
+    let named = [
+        ("EnumParts", body.contains("EnumParts for")),
+        ("EnumShape", needs.enums),
+        ("read_enum", body.contains("read_enum::<")),
+        ("size_of_enum", needs.enums),
+        ("write_enum", needs.enums),
+    ];
+    let names = needed_of(alloc, &named)?;
     put_use(
         alloc,
         out,
@@ -372,38 +408,59 @@ fn put_derived_uses(alloc: Global, out: &mut String, needs: Needs, body: &str) -
     if body.contains("LawfulKey<L>") {
         out.push_str("use wincode_derive_support::keys::LawfulKey;\n")?;
     }
-    let mut names = Vec::new(alloc);
-    add(alloc, &mut names, "FieldsKey", needs.key_bounds)?;
-    add(alloc, &mut names, "FieldsOneText", reads)?;
-    add(alloc, &mut names, "FieldsReadOwned", reads)?;
-    add(alloc, &mut names, "Lawful", reads)?;
+    let named = [
+        ("FieldsKey", needs.key_bounds),
+        ("FieldsOneText", reads),
+        ("FieldsReadOwned", reads),
+        ("Lawful", reads),
+    ];
+    let names = needed_of(alloc, &named)?;
     put_use(alloc, out, "wincode_derive_support::laws", names.as_slice())?;
     if needs.lent {
         out.push_str("use wincode_derive_support::lent::Lends;\n")?;
     }
-    let mut names = Vec::new(alloc);
-    add(alloc, &mut names, "Case", needs.sides)?;
-    add(alloc, &mut names, "Counted", body.contains("Counted<"))?;
-    add(alloc, &mut names, "Last", needs.enums)?;
-    add(alloc, &mut names, "OneOf", needs.enums)?;
+    let named = [
+        ("Case", needs.sides),
+        ("Counted", body.contains("Counted<")),
+        ("Last", needs.enums),
+        ("OneOf", needs.enums),
+    ];
+    let names = needed_of(alloc, &named)?;
     put_use(alloc, out, "wincode_derive_support::sums", names.as_slice())
 }
 
 /// Appends the schema of one declaration.
-fn put_schema(alloc: Global, out: &mut String, declaration: &Declaration) -> DeriveResult<()> {
+fn put_schema(
+    alloc: Global,
+    out: &mut String,
+    all: &[Declaration],
+    declaration: &Declaration,
+) -> DeriveResult<()> {
     let name = declaration.name.as_str();
     match (&declaration.shape, &declaration.generics.lifetime) {
         (DeclaredShape::Struct(fields), Some(lifetime)) => {
             put_lent(alloc, out, (declaration, lifetime.as_str()), fields)
         }
         (DeclaredShape::Struct(fields), None) => {
-            put_struct(alloc, out, declaration, fields)?;
+            put_struct(alloc, out, (all, declaration), fields)?;
             if is_key(declaration, fields) {
                 put_key(alloc, out, declaration, fields)?;
             }
             Ok(())
         }
-        (DeclaredShape::Enum(cases), _) => put_enum(alloc, out, declaration, cases),
+        (DeclaredShape::Enum(cases), _) => put_enum(alloc, out, (all, declaration), cases),
+    }
+}
+
+/// An answer, where a declaration whose schema can't be written is refused by its name, where it stands.
+fn named(alloc: Global, declaration: &Declaration, answer: DeriveResult<()>) -> DeriveResult<()> {
+    match answer {
+        Err(DeriveError::Unsupported { what, .. }) => {
+            let name = declaration.name.as_str();
+            let message = format!(in alloc; "`{name}`: no schema for {what}")?;
+            Err(refused(alloc, declaration.spot, message))
+        }
+        other => other,
     }
 }
 
@@ -416,19 +473,25 @@ pub fn module_of(
     names: &[String],
 ) -> DeriveResult<String> {
     let tokens = tokens_of(alloc, source)?;
-    let declarations = declarations_of(alloc, tokens.as_slice(), names)?;
+    let written = declarations_of(alloc, tokens.as_slice(), names)?;
     for name in names {
-        if declarations
+        if written
             .iter()
             .all(|declaration| declaration.name.as_str() != name.as_str())
         {
             return Err(DeriveError::Undeclared(String::from_str(alloc, name.as_str())?));
         }
     }
+    if written.is_empty() {
+        return Err(DeriveError::Empty);
+    }
+    let mut declarations = declarations_of(alloc, tokens.as_slice(), names)?;
+    let called = names_of(alloc, tokens.as_slice(), &mut declarations)?;
     let needs = needs_of(alloc, declarations.as_slice())?;
     let mut body = String::new(alloc);
     for declaration in declarations.as_slice() {
-        put_schema(alloc, &mut body, declaration)?;
+        let answer = put_schema(alloc, &mut body, declarations.as_slice(), declaration);
+        named(alloc, declaration, answer)?;
     }
     let body = body.as_str();
     let mut out = String::from_str(alloc, "//! Written by `wincode_derive`")?;
@@ -442,9 +505,9 @@ pub fn module_of(
         &mut out,
         (place, body),
         needs,
-        declarations.as_slice(),
+        (written.as_slice(), declarations.as_slice()),
     )?;
-    put_uses(alloc, &mut out, needs, body)?;
+    put_uses(alloc, &mut out, (needs, &called), body)?;
     out.push_str(body)?;
     broken(alloc, out.as_str())
 }

@@ -2,456 +2,623 @@
 use crate::declarations::{
     Cases, Declaration, DeclaredShape, Field, Fields, Generics, Naming, Variant,
 };
-use crate::error::{DeriveResult, malformed, unsupported};
-use crate::tokens::{Kind, Token};
+use crate::error::{DeriveError, DeriveResult, Spot, refused};
+use crate::groups::{
+    check_brackets, close_of, end_of_case, first_of, is_sign, is_word, kind_at, spot_at,
+};
+pub use crate::groups::{end_of_group, end_of_part, line_at, next, text_at, type_text};
+use crate::heads::{Head, Over, Said, Schema, Subject, filled, head_of, said_of, tell_untaken};
+use crate::imports::{Imports, imports_of};
+use crate::laws::law_of;
+use crate::needs::tell_circles;
+use crate::report::Report;
+use crate::tokens::{Kind, Token, tokens_of};
+use crate::types::{Asked, Scope, check_type, unexpected};
 use std::alloc::Global;
 
-/// What comment lines and attributes say of what stands below them.
-#[derive(Drop)]
-struct Head {
-    with: Option<String>,
-    tag: Option<usize>,
-    tag_encoding: Option<String>,
-    from: Option<String>,
-    counts: Option<usize>,
-    /// Whether `Eq` is derived.
-    is_eq: bool,
-    /// Whether `Ord` is derived.
-    is_ord: bool,
-    /// Where what they stand over begins.
-    at: usize,
+/// A file that is being read, and the declaration in it.
+#[derive(Clone, Copy)]
+struct Within<'a> {
+    tokens: &'a [Token],
+    imports: &'a Imports,
+    generics: &'a Generics,
+    owner: &'a str,
 }
 
-pub fn text_at(tokens: &[Token], at: usize) -> &str {
-    match tokens.get(at) {
-        Some(token) => token.text.as_str(),
-        None => "",
+/// What is wrong, of its subject.
+fn wrong(alloc: Global, spot: Spot, name: &str, what: &str) -> DeriveError {
+    match format!(in alloc; "`{name}`: {what}") {
+        Ok(said) => refused(alloc, spot, said),
+        Err(_) => DeriveError::OutOfMemory,
     }
 }
 
-fn kind_at(tokens: &[Token], at: usize) -> Kind {
-    match tokens.get(at) {
-        Some(token) => token.kind,
-        None => Kind::Sign,
+/// Something else is wanted of a subject than what stands there.
+fn wanted(alloc: Global, (tokens, at): (&[Token], usize), name: &str, what: &str) -> DeriveError {
+    match unexpected(alloc, tokens, at, what) {
+        Ok(said) => wrong(alloc, spot_at(tokens, at), name, said.as_str()),
+        Err(error) => error,
     }
 }
 
-/// The line of the token, or of the last one.
-pub fn line_at(tokens: &[Token], at: usize) -> usize {
-    match tokens.get(at.min(tokens.len().saturating_sub(1))) {
-        Some(token) => token.line,
-        None => 1,
+/// Where the first token stands of a name that can't be read, at a word and what stands behind it.
+fn fault_of_name(tokens: &[Token], at: usize) -> usize {
+    if kind_at(tokens, at) == Kind::Word {
+        next(at)
+    } else {
+        at
     }
 }
 
-pub fn next(at: usize) -> usize {
-    at.saturating_add(1)
-}
-
-fn opens(token: &Token) -> bool {
-    token.kind == Kind::Sign && matches!(token.text.as_str(), "(" | "[" | "{" | "<")
-}
-
-fn closes(token: &Token) -> bool {
-    token.kind == Kind::Sign && matches!(token.text.as_str(), ")" | "]" | "}" | ">")
-}
-
-/// Where the bracket is closed that is opened there.
-pub fn end_of_group(tokens: &[Token], open: usize) -> DeriveResult<usize> {
-    let mut depth = 0usize;
-    for (i, token) in tokens.iter().enumerate().skip(open) {
-        if opens(token) {
-            depth = next(depth);
-        } else if closes(token) {
-            depth = depth.saturating_sub(1);
-        }
-        if depth == 0 {
-            return Ok(i);
-        }
-    }
-    Err(malformed(line_at(tokens, open), "a bracket is not closed"))
-}
-
-/// Where the part ends that begins there: at a comma outside of brackets, or at the end.
-pub fn end_of_part(tokens: &[Token], from: usize, to: usize) -> usize {
-    let mut depth = 0usize;
-    for (i, token) in tokens.iter().enumerate().take(to).skip(from) {
-        if opens(token) {
-            depth = next(depth);
-        } else if closes(token) {
-            depth = depth.saturating_sub(1);
-        } else if depth == 0 && token.kind == Kind::Sign && token.text.as_str() == "," {
-            return i;
-        }
-    }
-    to
-}
-
-/// The number that a comment line says.
-fn number_of(note: &Token, value: &str, what: &'static str) -> DeriveResult<usize> {
-    match value.trim().parse::<usize>() {
-        Ok(number) => Ok(number),
-        Err(_) => Err(malformed(note.line, what)),
-    }
-}
-
-/// Takes what a comment line says.
-fn take_note(alloc: Global, note: &Token, head: &mut Head) -> DeriveResult<()> {
-    let Some((word, value)) = note.text.split_once('=') else {
-        return Err(malformed(note.line, "`wincode:` wants a word, `=` and a value"));
-    };
-    match word.trim() {
-        "with" => head.with = Some(String::from_str(alloc, value.trim())?),
-        "tag_encoding" => head.tag_encoding = Some(String::from_str(alloc, value.trim())?),
-        "from" => head.from = Some(String::from_str(alloc, value.trim())?),
-        "tag" => head.tag = Some(number_of(note, value, "a tag is a number")?),
-        "counts" => head.counts = Some(number_of(note, value, "what a value counts is a number")?),
-        _ => {
-            return Err(malformed(
-                note.line,
-                "`wincode:` knows `with`, `tag`, `tag_encoding`, `counts` and `from`",
-            ));
-        }
-    }
-    Ok(())
-}
-
-/// Whether the attribute that stands there derives this.
-fn derives(tokens: &[Token], from: usize, to: usize, name: &str) -> bool {
-    text_at(tokens, next(next(from))) == "derive"
-        && tokens
-            .iter()
-            .take(to)
-            .skip(from)
-            .any(|token| token.text.as_str() == name)
-}
-
-/// What stands over a declaration, a field or a case: comment lines, attributes and its visibility.
-fn head_of(alloc: Global, tokens: &[Token], from: usize, to: usize) -> DeriveResult<Head> {
-    let mut head = Head {
-        with: None,
-        tag: None,
-        tag_encoding: None,
-        from: None,
-        counts: None,
-        is_eq: false,
-        is_ord: false,
-        at: from,
-    };
+/// Where the last token stands behind which no comment line stands.
+fn without_notes(tokens: &[Token], from: usize, to: usize) -> usize {
+    let mut end = to;
     for _ in from..to {
-        let Some(token) = tokens.get(head.at) else {
+        if end <= from || kind_at(tokens, end.saturating_sub(1)) != Kind::Note {
             break;
-        };
-        match (token.kind, token.text.as_str()) {
-            (Kind::Note, _) => {
-                take_note(alloc, token, &mut head)?;
-                head.at = next(head.at);
-            }
-            (Kind::Sign, "#") => {
-                let end = next(end_of_group(tokens, next(head.at))?);
-                head.is_eq = head.is_eq || derives(tokens, head.at, end, "Eq");
-                head.is_ord = head.is_ord || derives(tokens, head.at, end, "Ord");
-                head.at = end;
-            }
-            (Kind::Word, "pub") if text_at(tokens, next(head.at)) == "(" => {
-                head.at = next(end_of_group(tokens, next(head.at))?);
-            }
-            (Kind::Word, "pub") => head.at = next(head.at),
-            _ => break,
         }
+        end = end.saturating_sub(1);
     }
-    Ok(head)
+    end
 }
 
-/// Whether a space stands between two tokens of a type.
-fn are_apart(before: &Token, after: &Token) -> bool {
-    match (before.kind, after.kind) {
-        (Kind::Sign, _) => matches!(before.text.as_str(), "," | ";"),
-        (_, Kind::Word | Kind::Lifetime) => true,
-        _ => false,
-    }
-}
-
-/// The tokens as the text of a type.
-pub fn type_text(alloc: Global, tokens: &[Token], from: usize, to: usize) -> DeriveResult<String> {
-    let mut text = String::new(alloc);
-    let mut before: Option<&Token> = None;
-    for token in tokens.iter().take(to).skip(from) {
-        if let Some(last) = before {
-            if are_apart(last, token) {
-                text.push(' ')?;
-            }
-        }
-        text.push_str(token.text.as_str())?;
-        before = Some(token);
-    }
-    Ok(text)
-}
-
-/// The type that stands there, which has to name neither the type that is declared nor nothing.
-fn value_of(
+/// Looks whether a schema that a comment line says can be one.
+fn check_schema<'x>(
     alloc: Global,
-    owner: &str,
-    tokens: &[Token],
-    from: usize,
-    to: usize,
-) -> DeriveResult<String> {
-    if from >= to {
-        return Err(malformed(line_at(tokens, from), "a type is wanted"));
+    within: Within<'x>,
+    (subject, held): (&'x str, &str),
+    schema: &Schema,
+) -> DeriveResult<()> {
+    let text = schema.text.as_str();
+    let Ok(tokens) = tokens_of(alloc, text) else {
+        return Err(wrong(alloc, schema.spot, subject, "a schema is wanted behind `=`"));
+    };
+    let tokens = tokens.as_slice();
+    if tokens.iter().any(|token| token.kind == Kind::Literal) {
+        return Err(wrong(
+            alloc,
+            schema.spot,
+            subject,
+            "a schema is written without quotes",
+        ));
     }
-    for token in tokens.iter().take(to).skip(from) {
-        if token.kind == Kind::Word && token.text.as_str() == owner {
-            return Err(unsupported(token.line, "a type that has itself for a part"));
-        }
+    if tokens.iter().any(|token| token.text.as_str() == "_") {
+        let whole = filled(alloc, text, held)?;
+        let whole = whole.as_str();
+        let what = format!(in alloc; "`_` stands for no type here: write `{whole}`")?;
+        return Err(wrong(alloc, schema.spot, subject, what.as_str()));
     }
-    type_text(alloc, tokens, from, to)
+    let scope = Scope {
+        owner: within.owner,
+        subject,
+        generics: within.generics,
+        imports: within.imports,
+        asked: Asked::Schema,
+        base: Some(schema.spot),
+    };
+    check_type(alloc, (tokens, 0, tokens.len()), scope)
 }
 
-/// What `with` says, or the type.
-fn schema_of(alloc: Global, with: Option<String>, value: &str) -> DeriveResult<String> {
-    match with {
-        Some(with) => Ok(with),
-        None => Ok(String::from_str(alloc, value)?),
+/// Looks whether the law of a schema in which parameters stand can be put together.
+fn check_law(
+    alloc: Global,
+    within: Within<'_>,
+    subject: &str,
+    (schema, spot): (&str, Spot),
+) -> DeriveResult<()> {
+    let parameters = within.generics.parameters.as_slice();
+    if parameters.is_empty() {
+        return Ok(());
     }
+    let tokens = tokens_of(alloc, schema)?;
+    let is_own = tokens
+        .iter()
+        .any(|token| within.imports.declares(token.text.as_str()));
+    if is_own {
+        return Ok(());
+    }
+    match law_of(alloc, schema, parameters, spot.line) {
+        Err(DeriveError::Unsupported { what, .. }) => {
+            let what = format!(in alloc; "no schema for {what}")?;
+            Err(wrong(alloc, spot, subject, what.as_str()))
+        }
+        Err(error) => Err(error),
+        Ok(_) => Ok(()),
+    }
+}
+
+/// The schema of a field whose type stands there, and where it stands itself.
+fn schema_of<'x>(
+    alloc: Global,
+    within: Within<'x>,
+    (subject, held): (&'x str, &str),
+    (with, from, to): (Option<Schema>, usize, usize),
+) -> DeriveResult<(String, Spot)> {
+    let scope = Scope {
+        owner: within.owner,
+        subject,
+        generics: within.generics,
+        imports: within.imports,
+        asked: if with.is_some() {
+            Asked::Held
+        } else {
+            Asked::Own
+        },
+        base: None,
+    };
+    check_type(alloc, (within.tokens, from, to), scope)?;
+    let (text, spot) = match with {
+        Some(schema) => {
+            check_schema(alloc, within, (subject, held), &schema)?;
+            (schema.text, schema.spot)
+        }
+        None => (String::from_str(alloc, held)?, spot_at(within.tokens, from)),
+    };
+    check_law(alloc, within, subject, (text.as_str(), spot))?;
+    Ok((text, spot))
 }
 
 /// The name of a field, which is its place where it has one, and where its type begins.
 fn name_of(
     alloc: Global,
     tokens: &[Token],
-    at: usize,
+    (at, owner): (usize, &str),
     place: Option<usize>,
 ) -> DeriveResult<(String, usize)> {
     if let Some(place) = place {
         return Ok((format!(in alloc; "{place}")?, at));
     }
-    if text_at(tokens, next(at)) != ":" {
-        return Err(malformed(line_at(tokens, at), "a field is wanted"));
+    if kind_at(tokens, at) == Kind::Word && is_sign(tokens, next(at), ":") {
+        let name = String::from_str(alloc, text_at(tokens, at))?;
+        return Ok((name, next(next(at))));
     }
-    let name = String::from_str(alloc, text_at(tokens, at))?;
-    Ok((name, next(next(at))))
+    let at = fault_of_name(tokens, at);
+    Err(wanted(alloc, (tokens, at), owner, "a field, as `name: TYPE`,"))
 }
 
 /// A field that is declared there.
 fn field_of(
     alloc: Global,
-    owner: &str,
-    tokens: &[Token],
+    report: &mut Report,
+    (within, part): (Within<'_>, &str),
     (from, to): (usize, usize),
     place: Option<usize>,
 ) -> DeriveResult<Field> {
-    let Head { with, at, .. } = head_of(alloc, tokens, from, to)?;
-    let (name, begin) = name_of(alloc, tokens, at, place)?;
-    let value = value_of(alloc, owner, tokens, begin, to)?;
-    let schema = schema_of(alloc, with, value.as_str())?;
+    let tokens = within.tokens;
+    let to = without_notes(tokens, from, to);
+    let head = head_of(alloc, tokens, from, to)?;
+    let (name, begin) = name_of(alloc, tokens, (head.at, part), place)?;
+    let subject = format!(in alloc; "{part}.{name}")?;
+    let subject = subject.as_str();
+    let value = type_text(alloc, tokens, begin, to)?;
+    let held = value.as_str();
+    let of = Subject {
+        over: Over::Field,
+        name: subject,
+        held,
+    };
+    let Said { with, .. } = said_of(alloc, tokens, report, (&head, of))?;
+    if with.is_none() && is_phantom(within, (begin, to)) {
+        return Ok(Field {
+            name,
+            value: String::from_str(alloc, "()")?,
+            schema: String::from_str(alloc, "()")?,
+            is_phantom: true,
+            spot: spot_at(tokens, begin),
+        });
+    }
+    let (schema, spot) = schema_of(alloc, within, (subject, held), (with, begin, to))?;
     Ok(Field {
         name,
         value,
         schema,
+        is_phantom: false,
+        spot,
     })
 }
 
-/// The fields in the brackets that are opened there, or none, and where what stands behind them begins.
+/// Whether a type is `PhantomData` of a parameter.
+fn is_phantom(within: Within<'_>, (from, to): (usize, usize)) -> bool {
+    let open = first_of(within.tokens, (from, to), &["<"]);
+    is_word(within.tokens, open.saturating_sub(1), "PhantomData")
+        && (open..to).any(|at| {
+            let name = text_at(within.tokens, at);
+            within
+                .generics
+                .parameters
+                .iter()
+                .any(|known| known.as_str() == name)
+        })
+}
+
+/// Whether nothing but comment lines stands there.
+fn is_bare(tokens: &[Token], from: usize, to: usize) -> bool {
+    (from..to).all(|at| kind_at(tokens, at) == Kind::Note)
+}
+
+/// The fields in the brackets that are opened there, or none, and where what stands behind them begins. What is wrong
+/// with one is told.
 fn fields_at(
     alloc: Global,
-    owner: &str,
-    tokens: &[Token],
+    report: &mut Report,
+    (within, part): (Within<'_>, &str),
     open: usize,
 ) -> DeriveResult<(Fields, usize)> {
-    let naming = match text_at(tokens, open) {
+    let naming = match text_at(within.tokens, open) {
         "{" => Naming::Named,
         "(" => Naming::Numbered,
         _ => Naming::Unit,
     };
     let mut fields = Vec::new(alloc);
+    let close = close_of(within.tokens, open).unwrap_or(open);
     if naming == Naming::Unit {
         return Ok((Fields { naming, fields }, open));
     }
-    let close = end_of_group(tokens, open)?;
     let mut at = next(open);
-    for i in 0..tokens.len() {
-        if at >= close {
+    for i in 0..within.tokens.len() {
+        let end = end_of_part(within.tokens, at, close);
+        if at >= close || (end == close && is_bare(within.tokens, at, close)) {
             break;
         }
-        let end = end_of_part(tokens, at, close);
         let place = if naming == Naming::Named {
             None
         } else {
             Some(i)
         };
-        fields.push(field_of(alloc, owner, tokens, (at, end), place)?)?;
+        let answer = field_of(alloc, report, (within, part), (at, end), place);
+        if let Some(field) = report.keep(alloc, answer)? {
+            fields.push(field)?;
+        }
         at = next(end);
     }
     Ok((Fields { naming, fields }, next(close)))
 }
 
 /// The greatest tag of a scheme.
-fn greatest_tag(encoding: &str) -> Option<usize> {
+fn greatest_tag(encoding: &str) -> usize {
     match encoding {
-        "u8" => Some(255),
-        "u16" => Some(65535),
-        "u32" => Some(4294967295),
-        "u64" => Some(usize::MAX),
-        _ => None,
+        "u8" => 255,
+        "u16" => 65535,
+        "u32" => 4294967295,
+        _ => usize::MAX,
     }
 }
 
 /// A case that is declared there.
 fn variant_of(
     alloc: Global,
-    owner: &str,
-    tokens: &[Token],
+    report: &mut Report,
+    within: Within<'_>,
     (from, to): (usize, usize),
     place: usize,
-) -> DeriveResult<Variant> {
+) -> DeriveResult<(Variant, Spot)> {
+    let tokens = within.tokens;
+    let to = without_notes(tokens, from, to);
     let head = head_of(alloc, tokens, from, to)?;
-    if kind_at(tokens, head.at) != Kind::Word {
-        return Err(malformed(line_at(tokens, head.at), "a case is wanted"));
+    let at = head.at;
+    let owner = within.owner;
+    if kind_at(tokens, at) != Kind::Word || at >= to {
+        return Err(wanted(alloc, (tokens, at), owner, "a case"));
     }
-    let name = String::from_str(alloc, text_at(tokens, head.at))?;
-    let (fields, end) = fields_at(alloc, owner, tokens, next(head.at))?;
-    if fields.fields.len() > 12 {
-        return Err(unsupported(
-            line_at(tokens, head.at),
-            "a case of more than 12 fields: give it a struct of its own",
-        ));
+    let name = String::from_str(alloc, text_at(tokens, at))?;
+    let word = name.as_str();
+    let part = format!(in alloc; "{owner}::{word}")?;
+    let part = part.as_str();
+    let of = Subject {
+        over: Over::Case,
+        name: part,
+        held: "",
+    };
+    let said = said_of(alloc, tokens, report, (&head, of))?;
+    let (fields, end) = fields_at(alloc, report, (within, part), next(at))?;
+    check_case(alloc, (tokens, at), part, &fields)?;
+    if is_sign(tokens, end, "=") && end < to {
+        let what = "a case with a number of its own: `// wincode: tag = N` over it says its tag";
+        return Err(wrong(alloc, spot_at(tokens, end), part, what));
     }
     if end < to {
-        return Err(unsupported(
-            line_at(tokens, end),
-            "a case with a number of its own: `// wincode: tag = N` says its tag",
-        ));
+        return Err(wanted(alloc, (tokens, end), part, "`,`"));
     }
-    Ok(Variant {
-        name,
-        tag: head.tag.unwrap_or(place),
-        fields,
-    })
+    let tag = said.tag.unwrap_or(place);
+    Ok((Variant { name, tag, fields }, spot_at(tokens, at)))
 }
 
-/// The cases in the brackets that are opened there.
+/// Refuses a case whose schema isn't written.
+fn check_case(
+    alloc: Global,
+    (tokens, at): (&[Token], usize),
+    part: &str,
+    fields: &Fields,
+) -> DeriveResult<()> {
+    if fields.fields.len() > 12 {
+        let what = "a case of more than 12 fields: give it a struct of its own";
+        return Err(wrong(alloc, spot_at(tokens, at), part, what));
+    }
+    Ok(())
+}
+
+/// Refuses a tag past its encoding, and one that another case has.
+fn check_tag(
+    alloc: Global,
+    (owner, encoding): (&str, &str),
+    variants: &[Variant],
+    (variant, spot): (&Variant, Spot),
+) -> DeriveResult<()> {
+    let (name, tag) = (variant.name.as_str(), variant.tag);
+    if tag > greatest_tag(encoding) {
+        let message = format!(in alloc;
+            "`{owner}::{name}`: the tag {tag} is past its encoding, `{encoding}`"
+        )?;
+        return Err(refused(alloc, spot, message));
+    }
+    if let Some(other) = variants.iter().find(|other| other.tag == tag) {
+        let other = other.name.as_str();
+        let message = format!(in alloc;
+            "`{owner}::{name}`: the tag {tag} is that of `{owner}::{other}` too"
+        )?;
+        return Err(refused(alloc, spot, message));
+    }
+    Ok(())
+}
+
+/// The cases in the brackets that are opened there. What is wrong with one is told.
 fn variants_at(
     alloc: Global,
-    owner: &str,
-    tokens: &[Token],
+    report: &mut Report,
+    (within, encoding): (Within<'_>, &str),
     open: usize,
-    greatest: usize,
 ) -> DeriveResult<Vec<Variant>> {
-    let close = end_of_group(tokens, open)?;
+    let tokens = within.tokens;
+    let close = close_of(tokens, open).unwrap_or(open);
     let mut variants: Vec<Variant> = Vec::new(alloc);
     let mut at = next(open);
     for i in 0..tokens.len() {
-        if at >= close {
+        let end = end_of_case(tokens, at, close);
+        if at >= close || (end == close && is_bare(tokens, at, close)) {
             break;
         }
-        let end = end_of_part(tokens, at, close);
-        let variant = variant_of(alloc, owner, tokens, (at, end), i)?;
-        if variant.tag > greatest {
-            return Err(unsupported(line_at(tokens, at), "a tag past its encoding"));
+        let answer = variant_of(alloc, report, within, (at, end), i);
+        if let Some((variant, spot)) = report.keep(alloc, answer)? {
+            let of = (within.owner, encoding);
+            let answer = check_tag(alloc, of, variants.as_slice(), (&variant, spot));
+            report.keep(alloc, answer)?;
+            variants.push(variant)?;
         }
-        if variants.iter().any(|other| other.tag == variant.tag) {
-            return Err(unsupported(line_at(tokens, at), "two cases with one tag"));
-        }
-        variants.push(variant)?;
         at = next(end);
     }
-    if variants.is_empty() {
-        return Err(unsupported(line_at(tokens, open), "an enum without cases"));
+    if is_bare(tokens, next(open), close) {
+        let error = wrong(
+            alloc,
+            spot_at(tokens, open),
+            within.owner,
+            "an enum without cases",
+        );
+        report.take(alloc, error)?;
     }
     Ok(variants)
 }
 
+/// Takes a parameter, or refuses it.
+fn take_parameter(
+    alloc: Global,
+    (tokens, owner): (&[Token], &str),
+    generics: &mut Generics,
+    (from, to): (usize, usize),
+) -> DeriveResult<()> {
+    let text = text_at(tokens, from);
+    let spot = spot_at(tokens, from);
+    let what = match kind_at(tokens, from) {
+        Kind::Word if text == "const" => "a parameter that is a number has no schema",
+        Kind::Lifetime | Kind::Word if is_sign(tokens, next(from), ":") && next(from) < to => {
+            "a parameter with bounds has no schema: leave them out"
+        }
+        Kind::Word if is_sign(tokens, next(from), "=") && next(from) < to => {
+            "a parameter that stands for a type by itself: leave that out"
+        }
+        Kind::Lifetime if generics.lifetime.is_some() => "a second lifetime has no schema",
+        Kind::Lifetime if next(from) == to => {
+            generics.lifetime = Some(String::from_str(alloc, text)?);
+            return Ok(());
+        }
+        Kind::Word if generics.lifetime.is_some() => "a type beside a lifetime has no schema",
+        Kind::Word if next(from) == to => {
+            generics.parameters.push(String::from_str(alloc, text)?)?;
+            return Ok(());
+        }
+        _ => return Err(wanted(
+            alloc,
+            (tokens, fault_of_name(tokens, from)),
+            owner,
+            "a parameter",
+        )),
+    };
+    Err(wrong(alloc, spot, owner, what))
+}
+
 /// What stands in the brackets that are opened there, or nothing, and where what stands behind them begins.
-fn generics_at(alloc: Global, tokens: &[Token], open: usize) -> DeriveResult<(Generics, usize)> {
+fn generics_at(
+    alloc: Global,
+    report: &mut Report,
+    (tokens, owner): (&[Token], &str),
+    open: usize,
+) -> DeriveResult<(Generics, usize)> {
     let mut generics = Generics {
         lifetime: None,
         parameters: Vec::new(alloc),
     };
-    if text_at(tokens, open) != "<" {
+    if !is_sign(tokens, open, "<") {
         return Ok((generics, open));
     }
-    let close = end_of_group(tokens, open)?;
+    let Some(close) = close_of(tokens, open) else {
+        return Err(wrong(alloc, spot_at(tokens, open), owner, "`<` is not closed"));
+    };
     let mut at = next(open);
     for _ in 0..tokens.len() {
         if at >= close {
             break;
         }
         let end = end_of_part(tokens, at, close);
-        let name = String::from_str(alloc, text_at(tokens, at))?;
-        match kind_at(tokens, at) {
-            Kind::Lifetime if next(at) == close && generics.parameters.is_empty() => {
-                generics.lifetime = Some(name);
-            }
-            Kind::Word if next(at) == end => generics.parameters.push(name)?,
-            _ => {
-                let what = "parameters but for one lifetime or types without bounds";
-                return Err(unsupported(line_at(tokens, at), what));
-            }
-        }
+        let answer = take_parameter(alloc, (tokens, owner), &mut generics, (at, end));
+        report.keep(alloc, answer)?;
         at = next(end);
     }
     Ok((generics, next(close)))
 }
 
-/// An enum's cases, with what its head says of them.
+/// Refuses the bounds of a `where` that stands there; where what stands behind it begins.
+fn behind_where(
+    alloc: Global,
+    report: &mut Report,
+    (tokens, owner): (&[Token], &str),
+    at: usize,
+) -> DeriveResult<usize> {
+    if !is_word(tokens, at, "where") {
+        return Ok(at);
+    }
+    let end = first_of(tokens, (next(at), tokens.len()), &["{", ";"]);
+    if next(at) < end {
+        let what = "a `where` with bounds has no schema: leave it out";
+        let error = wrong(alloc, spot_at(tokens, next(at)), owner, what);
+        report.take(alloc, error)?;
+    }
+    Ok(end)
+}
+
+/// The fields of a struct, which begin there or behind its `where`.
+fn struct_at(
+    alloc: Global,
+    report: &mut Report,
+    within: Within<'_>,
+    open: usize,
+) -> DeriveResult<Fields> {
+    let of = (within.tokens, within.owner);
+    let open = behind_where(alloc, report, of, open)?;
+    let (fields, end) = fields_at(alloc, report, (within, within.owner), open)?;
+    if fields.naming == Naming::Named {
+        return Ok(fields);
+    }
+    let end = behind_where(alloc, report, of, end)?;
+    if !is_sign(within.tokens, end, ";") {
+        let what = if fields.naming == Naming::Unit {
+            "`{`, `(` or `;`"
+        } else {
+            "`;`"
+        };
+        return Err(wanted(alloc, (within.tokens, end), within.owner, what));
+    }
+    Ok(fields)
+}
+
+/// An enum's cases, which begin there or behind its `where`, with what its head says of them.
 fn cases_at(
     alloc: Global,
-    tokens: &[Token],
-    (head, owner): (&Head, &str),
-    (open, line): (usize, usize),
+    report: &mut Report,
+    (within, said): (Within<'_>, &Said),
+    open: usize,
 ) -> DeriveResult<Cases> {
-    let tag = match &head.tag_encoding {
+    let open = behind_where(alloc, report, (within.tokens, within.owner), open)?;
+    if !is_sign(within.tokens, open, "{") {
+        return Err(wanted(alloc, (within.tokens, open), within.owner, "`{`"));
+    }
+    let tag = match &said.tag_encoding {
         Some(encoding) => String::from_str(alloc, encoding.as_str())?,
         None => String::from_str(alloc, "u32")?,
     };
-    let Some(greatest) = greatest_tag(tag.as_str()) else {
-        return Err(unsupported(line, "a tag that is no u8, u16, u32 or u64"));
-    };
-    let variants = variants_at(alloc, owner, tokens, open, greatest)?;
+    let variants = variants_at(alloc, report, (within, tag.as_str()), open)?;
     Ok(Cases {
         tag,
-        counts: head.counts,
+        counts: said.counts,
         variants,
     })
 }
 
-/// The struct or enum whose keyword stands there.
-fn declaration_at(
+/// Refuses what is declared where its schema isn't written beside its parameters.
+fn check_written(
     alloc: Global,
-    tokens: &[Token],
-    head: &Head,
-    keyword: usize,
-) -> DeriveResult<Declaration> {
-    let line = line_at(tokens, keyword);
-    let name = String::from_str(alloc, text_at(tokens, next(keyword)))?;
-    let (generics, open) = generics_at(alloc, tokens, next(next(keyword)))?;
-    let has_parameters = generics.lifetime.is_some() || !generics.parameters.is_empty();
-    let shape = if text_at(tokens, keyword) == "struct" {
-        let (fields, _) = fields_at(alloc, name.as_str(), tokens, open)?;
-        if has_parameters && fields.fields.len() > 12 {
-            return Err(unsupported(line, "more than 12 fields beside parameters"));
-        }
-        DeclaredShape::Struct(fields)
-    } else if has_parameters {
-        return Err(unsupported(line, "an enum with parameters"));
-    } else {
-        DeclaredShape::Enum(cases_at(alloc, tokens, (head, name.as_str()), (open, line))?)
-    };
-    if has_parameters && head.from.is_some() {
-        return Err(unsupported(line, "parameters of a type that is the schema of another"));
+    (name, spot): (&str, Spot),
+    (shape, generics, said): (&DeclaredShape, &Generics, &Said),
+) -> DeriveResult<()> {
+    match unwritten_of(shape, generics, said) {
+        Some(what) => Err(wrong(alloc, spot, name, what)),
+        None => Ok(()),
     }
-    let from = match &head.from {
-        Some(from) => Some(String::from_str(alloc, from.as_str())?),
-        None => None,
+}
+
+/// What isn't written of what is declared, beside its parameters.
+fn unwritten_of(shape: &DeclaredShape, generics: &Generics, said: &Said) -> Option<&'static str> {
+    if generics.lifetime.is_none() && generics.parameters.is_empty() {
+        return None;
+    }
+    match shape {
+        _ if said.from.is_some() => Some("a type with parameters can't be the schema of another"),
+        DeclaredShape::Struct(fields) if fields.fields.len() > 12 && generics.lifetime.is_some() =>
+            { Some("no schema for more than 12 fields beside a lifetime") }
+        DeclaredShape::Struct(fields) if fields.fields.is_empty() && generics.lifetime.is_some() =>
+            { Some("no schema for a struct without fields that has a lifetime") }
+        _ => None,
+    }
+}
+
+/// The shape of what is declared, which begins there.
+fn shape_at(
+    alloc: Global,
+    report: &mut Report,
+    (within, said): (Within<'_>, &Said),
+    (over, open): (Over, usize),
+) -> DeriveResult<DeclaredShape> {
+    if over == Over::Struct {
+        Ok(DeclaredShape::Struct(struct_at(alloc, report, within, open)?))
+    } else {
+        Ok(DeclaredShape::Enum(cases_at(alloc, report, (within, said), open)?))
+    }
+}
+
+/// The name of what is declared, which stands there.
+fn declared_name(alloc: Global, tokens: &[Token], at: usize) -> DeriveResult<String> {
+    if kind_at(tokens, at) != Kind::Word {
+        let message = unexpected(alloc, tokens, at, "a name")?;
+        return Err(refused(alloc, spot_at(tokens, at), message));
+    }
+    Ok(String::from_str(alloc, text_at(tokens, at))?)
+}
+
+/// The struct or enum whose keyword stands there. What is wrong with it is told.
+fn declaration_at<'x>(
+    alloc: Global,
+    report: &mut Report,
+    (tokens, imports): (&'x [Token], &'x Imports),
+    (head, over): (&Head, Over),
+) -> DeriveResult<Declaration> {
+    let named = next(head.at);
+    let name = declared_name(alloc, tokens, named)?;
+    let spot = spot_at(tokens, named);
+    let of = Subject {
+        over,
+        name: name.as_str(),
+        held: "",
     };
+    let count = report.count();
+    let said = said_of(alloc, tokens, report, (head, of))?;
+    let (generics, open) = generics_at(alloc, report, (tokens, name.as_str()), next(named))?;
+    let within = Within {
+        tokens,
+        imports,
+        generics: &generics,
+        owner: name.as_str(),
+    };
+    let shape = shape_at(alloc, report, (within, &said), (over, open))?;
+    if report.count() == count {
+        check_written(alloc, (name.as_str(), spot), (&shape, &generics, &said))?;
+    }
     Ok(Declaration {
         name,
         generics,
-        from,
+        from: said.from,
         shape,
-        is_eq: head.is_eq,
-        is_ord: head.is_ord,
-        line,
+        is_eq: said.is_eq,
+        is_ord: said.is_ord,
+        line: line_at(tokens, head.at),
+        spot,
     })
 }
 
@@ -461,55 +628,126 @@ fn is_asked(names: &[String], name: &str) -> bool {
 }
 
 /// Where the item's part ends that begins there: behind its brackets, or behind the token.
-fn after_part(tokens: &[Token], at: usize) -> DeriveResult<usize> {
+fn after_part(tokens: &[Token], at: usize) -> usize {
     match text_at(tokens, at) {
-        "{" | "(" | "[" => Ok(next(end_of_group_by_depth(tokens, at)?)),
-        _ => Ok(next(at)),
+        "{" | "(" | "[" if kind_at(tokens, at) == Kind::Sign => {
+            next(close_of(tokens, at).unwrap_or(at))
+        }
+        _ => next(at),
     }
 }
 
-/// As `end_of_group`, of brackets in which `<` and `>` may be signs of comparison.
-fn end_of_group_by_depth(tokens: &[Token], open: usize) -> DeriveResult<usize> {
-    let mut depth = 0usize;
-    for (i, token) in tokens.iter().enumerate().skip(open) {
-        match (token.kind, token.text.as_str()) {
-            (Kind::Sign, "(" | "[" | "{") => depth = next(depth),
-            (Kind::Sign, ")" | "]" | "}") => depth = depth.saturating_sub(1),
-            _ => {}
-        }
-        if depth == 0 {
-            return Ok(i);
+/// Where a declaration ends whose keyword stands there.
+fn after_declaration(tokens: &[Token], keyword: usize) -> usize {
+    let behind = next(next(keyword));
+    let open = if is_sign(tokens, behind, "<") {
+        close_of(tokens, behind).unwrap_or(behind)
+    } else {
+        behind
+    };
+    let end = first_of(tokens, (open, tokens.len()), &["{", ";"]);
+    after_part(tokens, end)
+}
+
+/// Takes the comment lines of a declaration that isn't asked for.
+fn take_notes(
+    report: &mut Report,
+    tokens: &[Token],
+    (from, to): (usize, usize),
+) -> DeriveResult<()> {
+    for (i, token) in tokens.iter().enumerate().take(to).skip(from) {
+        if token.kind == Kind::Note {
+            report.take_note(i)?;
         }
     }
-    Err(malformed(line_at(tokens, open), "a bracket is not closed"))
+    Ok(())
+}
+
+/// What a declaration is, whose keyword stands there.
+fn declared_at(tokens: &[Token], at: usize) -> Option<Over> {
+    if is_word(tokens, at, "struct") {
+        Some(Over::Struct)
+    } else if is_word(tokens, at, "enum") {
+        Some(Over::Enum)
+    } else {
+        None
+    }
+}
+
+/// Takes the item that begins there, if it is a declaration; where what stands behind it begins.
+fn take_item(
+    alloc: Global,
+    report: &mut Report,
+    (tokens, imports, names): (&[Token], &Imports, &[String]),
+    (at, declarations): (usize, &mut Vec<Declaration>),
+) -> DeriveResult<usize> {
+    let head = head_of(alloc, tokens, at, tokens.len())?;
+    let keyword = head.at;
+    let name = text_at(tokens, next(keyword));
+    let is_asked = is_asked(names, name);
+    if let Some(over) = declared_at(tokens, keyword) {
+        let end = after_declaration(tokens, keyword);
+        if is_asked {
+            let answer = declaration_at(alloc, report, (tokens, imports), (&head, over));
+            if let Some(declaration) = report.keep(alloc, answer)? {
+                declarations.push(declaration)?;
+            }
+        } else {
+            take_notes(report, tokens, (at, end))?;
+        }
+        return Ok(end);
+    }
+    let is_union = is_word(tokens, keyword, "union")
+        && kind_at(tokens, next(keyword)) == Kind::Word;
+    if is_union && is_asked {
+        let error = wrong(
+            alloc,
+            spot_at(tokens, keyword),
+            name,
+            "a union has no schema",
+        );
+        report.take(alloc, error)?;
+    }
+    Ok(after_part(tokens, keyword))
 }
 
 /// The structs and enums that a source file declares outside of its functions and modules, in order: those with these
-/// names, or all where there are none. What has no schema is refused with its line.
+/// names, or all where there are none. All that can't be read or has no schema is refused at once, each at its place,
+/// and so is each comment line that says nothing of any of them.
 pub fn declarations_of(
     alloc: Global,
     tokens: &[Token],
     names: &[String],
 ) -> DeriveResult<Vec<Declaration>> {
+    let mut report = Report::new(alloc);
+    check_brackets(alloc, tokens, &mut report)?;
     let mut declarations = Vec::new(alloc);
+    if report.count() > 0 {
+        report.end()?;
+        return Ok(declarations);
+    }
+    let imports = imports_of(alloc, tokens)?;
     let mut at = 0usize;
     for _ in 0..tokens.len() {
         if at >= tokens.len() {
             break;
         }
-        let head = head_of(alloc, tokens, at, tokens.len())?;
-        let keyword = head.at;
-        let name = text_at(tokens, next(keyword));
-        match text_at(tokens, keyword) {
-            "struct" | "enum" if is_asked(names, name) => {
-                declarations.push(declaration_at(alloc, tokens, &head, keyword)?)?;
-            }
-            "union" if kind_at(tokens, next(keyword)) == Kind::Word && is_asked(names, name) => {
-                return Err(unsupported(line_at(tokens, keyword), "a union"));
-            }
-            _ => {}
-        }
-        at = after_part(tokens, keyword)?;
+        let file = (tokens, &imports, names);
+        at = take_item(alloc, &mut report, file, (at, &mut declarations))?;
     }
+    tell_untaken(alloc, tokens, &mut report)?;
+    tell_circles(alloc, declarations.as_slice(), &mut report)?;
+    report.end()?;
     Ok(declarations)
+}
+
+/// Whether a source file names the module `schemas` below it.
+pub fn has_schemas(alloc: Global, source: &str) -> DeriveResult<bool> {
+    let tokens = tokens_of(alloc, source)?;
+    let tokens = tokens.as_slice();
+    Ok((0..tokens.len()).any(|at| {
+        is_word(tokens, at, "mod")
+            && is_word(tokens, next(at), "schemas")
+            && is_sign(tokens, next(next(at)), ";")
+    }))
 }

@@ -1,5 +1,5 @@
 //! Text in the layout that `rt fmt` gives.
-use crate::error::DeriveResult;
+use crate::error::{DeriveError, DeriveResult};
 use std::alloc::Global;
 
 /// The longest line.
@@ -29,23 +29,31 @@ pub struct Word {
     text: String,
 }
 
-/// What words of a template stand for.
+/// What words of a template stand for, or why one couldn't be said, which the next template is refused for.
 #[derive(Drop)]
 pub struct Words {
     words: Vec<Word>,
+    failure: Option<DeriveError>,
 }
 
 impl Words {
     pub fn new(alloc: Global) -> Words {
         Words {
             words: Vec::new(alloc),
+            failure: None,
         }
     }
 
     /// Lets a word stand for the text.
-    pub fn set(&mut self, name: &'static str, text: String) -> DeriveResult<()> {
-        self.words.push(Word { name, text })?;
-        Ok(())
+    pub fn set(&mut self, name: &'static str, text: DeriveResult<String>) {
+        let failure = match text {
+            Ok(text) => match self.words.push(Word { name, text }) {
+                Ok(()) => return,
+                Err(refused) => DeriveError::from(refused),
+            },
+            Err(failure) => failure,
+        };
+        self.failure = Some(failure);
     }
 
     /// Appends what the word stands for, or nothing.
@@ -60,7 +68,10 @@ impl Words {
 }
 
 /// Appends the template, with what each word between two `@` stands for in its place.
-pub fn fill(out: &mut String, template: &str, words: &Words) -> DeriveResult<()> {
+pub fn fill(out: &mut String, template: &str, words: &mut Words) -> DeriveResult<()> {
+    if let Some(failure) = words.failure.take() {
+        return Err(failure);
+    }
     for (i, part) in template.split('@').enumerate() {
         if i % 2 == 0 {
             out.push_str(part)?;
@@ -88,15 +99,18 @@ pub fn joined(alloc: Global, texts: &[String], between: &str) -> DeriveResult<St
     Ok(out)
 }
 
-/// The text, with its widest lines broken behind a comma or in front of a case: `rt fmt` then gives each part of these
-/// a line.
+/// The text, with its widest lines broken behind a comma, or in front of a case or the law of a part: `rt fmt` gives
+/// each part of these a line.
 pub fn broken(alloc: Global, text: &str) -> DeriveResult<String> {
     let mut out = String::new(alloc);
     let mut column = 0usize;
     let mut last = '\n';
     let mut is_behind_space = false;
     for c in text.chars() {
-        if is_behind_space && column >= WIDE && (last == ',' || c == '|') {
+        if is_behind_space
+            && column >= WIDE
+            && (last == ',' || c == '|' || (c == '(' && last == 's'))
+        {
             out.push_str("\n        ")?;
             column = 8;
         } else if is_behind_space {

@@ -1,14 +1,16 @@
 //! The schema of a struct.
 use crate::declarations::{Declaration, Field, Fields, Generics, Naming};
 use crate::error::DeriveResult;
+use crate::inside::looked_into;
 use crate::laws::{law_of, seen_by};
 use crate::printing::{Words, fill, joined, owned, put, put_call};
+use crate::tokens::tokens_of;
 use std::alloc::Global;
 
 const WRITING: &str = "
 type @fields@ = @schemas@;
 
-impl@writes@ SchemaWrite for @self@ {
+impl@writes@ SchemaWrite for @self@@where_src@ {
     type Src = @src@;
 
     ghost Value = { ⟦<@fields@ as SchemaWrite>⟧.Value };
@@ -39,7 +41,13 @@ impl@writes@ SchemaWrite for @self@ {
 
 const REST: &str = "
 /// The fields from the @place@th on.
-struct @self@;
+struct @self@@phantom@;
+";
+
+/// What values are made of, where types are parameters.
+pub const OF: &str = "
+/// What values are made of.
+struct @of@@phantom@;
 ";
 
 const READING: &str = "
@@ -67,7 +75,7 @@ impl@reads@ SchemaRead<L> for @self@ {
 @decoding@    ghost read_laws = { @laws@ };
 }
 
-impl@lawful@ Lawful<L> for @self@ {
+impl@lawful@ Lawful<L> for @self@@where_dst@ {
     type Dst = @dst@;
 
     ghost Value = { ⟦<@fields@ as Lawful<L>>⟧.Value };
@@ -89,8 +97,8 @@ const GET: &str = "        @bind@<@fields@ as SchemaGet<L>>::get(alloc, reader)?
 
 /// The same where type parameters stand in the fields: `search` finds it of each arm by itself.
 const GET_BY_ARMS: &str = "        match <@fields@ as SchemaGet<L>>::get(alloc, reader) {
-            Ok(@bound_fields@) => {
-                *dst = Some(@made@);
+            Ok(parts) => {
+@takes_parts@                *dst = Some(@made@);
                 Ok(())
             }
             Err(error) => Err(error),
@@ -98,20 +106,19 @@ const GET_BY_ARMS: &str = "        match <@fields@ as SchemaGet<L>>::get(alloc, 
 ";
 
 /// The same of more fields than a tuple has: their tuple is nested, and what the struct is of it is proved by itself.
-const GET_PARTS: &str = "        read_enum::<L, @fields@, @self@, R>(alloc, reader, dst)
+const GET_PARTS: &str = "        read_enum::<L, @fields@, @of_dst@, R>(alloc, reader, dst)
 ";
 
 const PARTS: &str = "
-impl EnumParts for @self@ {
-    type Src = @src@;
+impl@any@ EnumParts for @of@ {
+    type Src = @any_src@;
 
     type Parts = @types@;
 
     ghost parts = { λ x. @values@ };
 
-    fn make(made_of: Self::Parts) -> @src@ {
-        let @bound_fields@ = made_of;
-        @made@
+    fn make(made_of: Self::Parts) -> @any_src@ {
+@takes@        @made@
     }
 }
 ";
@@ -165,7 +172,7 @@ type @pairs@ = @schemas@;
 
 impl@backs@ Key<L> for @self@
 where
-@drops@    @pairs@: FieldsKey<L@bound@>,
+@eq_drops@    @pairs@: FieldsKey<L@bound@>,
 {
     ghost alike = { λ x y. @evidence@.fields_alike @one@ @other@ };
 }
@@ -193,15 +200,15 @@ impl<L: Lending> LawfulKey<L> for @type@ {
 
     ghost equal = { ⟦<@type@ as PartialEq>⟧.eq };
 
-    ghost equivalence = { @type@EqLaws.laws-law };
+    ghost equivalence = { @type@-eq-laws.laws-law };
 
     ghost alike = { λ x y. ⟦<@pairs@ as LawfulKey<L>>⟧.alike @one@ @other@ };
 
     ghost order = { ⟦<@type@ as Ord>⟧.cmp };
 
-    ghost order_total = { @type@OrdLaws.total-law };
+    ghost order_total = { @type@-ord-laws.total-law };
 
-    ghost order_ties = { @type@OrdLaws.matches_eq-law };
+    ghost order_ties = { @type@-ord-laws.matches_eq-law };
 }
 ";
 
@@ -261,14 +268,29 @@ fn letter_of(place: usize) -> char {
 
 /// What a field is called where it stands by itself: its name, with a word behind it where the functions have that
 /// name for something else, or a letter for its place.
-pub fn binding(alloc: Global, naming: Naming, place: usize, field: &Field) -> DeriveResult<String> {
+fn binding(alloc: Global, fields: &Fields, place: usize, field: &Field) -> DeriveResult<String> {
     let name = field.name.as_str();
-    if naming == Naming::Named && matches!(name, "dst" | "place" | "writer") {
-        return Ok(format!(in alloc; "{name}_field")?);
+    if field.is_phantom {
+        return owned(alloc, "_");
     }
-    if naming == Naming::Named {
-        return owned(alloc, name);
+    if fields.naming == Naming::Named {
+        let mut called = owned(alloc, name)?;
+        if matches!(name, "dst" | "place" | "rest" | "writer") {
+            called.push_str("_field")?;
+        }
+        for _ in fields.fields.as_slice() {
+            if is_apart(fields, called.as_str(), name) {
+                break;
+            }
+            called.push('_')?;
+        }
+        return Ok(called);
     }
+    numbered(alloc, place)
+}
+
+/// A letter for a place, or one with a number.
+pub fn numbered(alloc: Global, place: usize) -> DeriveResult<String> {
     if place >= 12 {
         return Ok(format!(in alloc; "n{place}")?);
     }
@@ -277,11 +299,16 @@ pub fn binding(alloc: Global, naming: Naming, place: usize, field: &Field) -> De
     Ok(name)
 }
 
+/// Whether no other field than that of this name is called so.
+fn is_apart(fields: &Fields, called: &str, name: &str) -> bool {
+    fields.fields.iter().all(|field| field.name.as_str() == name || field.name.as_str() != called)
+}
+
 /// What all fields are called where they stand by themselves.
 pub fn bindings(alloc: Global, fields: &Fields) -> DeriveResult<Vec<String>> {
     let mut names = Vec::new(alloc);
     for (i, field) in fields.fields.iter().enumerate() {
-        names.push(binding(alloc, fields.naming, i, field)?)?;
+        names.push(binding(alloc, fields, i, field)?)?;
     }
     Ok(names)
 }
@@ -311,6 +338,44 @@ pub fn tuple_of(alloc: Global, texts: &[String]) -> DeriveResult<String> {
     Ok(out)
 }
 
+/// Appends what the parts are taken from: the first from what is called so, the others from what is left.
+fn put_source(out: &mut String, from: &str, is_first: bool) -> DeriveResult<()> {
+    if is_first {
+        out.push_str(from)?;
+    } else {
+        out.push_str("rest")?;
+    }
+    Ok(())
+}
+
+/// The lines that take the parts of fields from what is called so, one for each tuple: a part of a part is not
+/// moved at once.
+pub fn takes_of(alloc: Global, names: &[String], from: &str) -> DeriveResult<String> {
+    let is_alone = names.len() == 1;
+    let mut is_first = true;
+    let mut out = String::new(alloc);
+    out.push_str(if is_alone {
+        "        let "
+    } else {
+        "        let ("
+    })?;
+    for (i, name) in names.iter().enumerate() {
+        if i > 0 && i % EACH == 0 && names.len().saturating_sub(i) > 1 {
+            out.push_str(", rest) = ")?;
+            put_source(&mut out, from, is_first)?;
+            out.push_str(";\n        let (")?;
+            is_first = false;
+        } else if i > 0 {
+            out.push_str(", ")?;
+        }
+        out.push_str(name.as_str())?;
+    }
+    out.push_str(if is_alone { " = " } else { ") = " })?;
+    put_source(&mut out, from, is_first)?;
+    out.push_str(";\n")?;
+    Ok(out)
+}
+
 /// Some of a struct's fields, and the schema of those behind them, or none.
 #[derive(Drop)]
 pub struct Group {
@@ -321,7 +386,11 @@ pub struct Group {
 
 /// The fields as their tuples have them: each but the last has a schema for those behind its own, which is named by
 /// the place of the first of these, counted from 1.
-pub fn groups_of(alloc: Global, name: &str, count: usize) -> DeriveResult<Vec<Group>> {
+pub fn groups_of(
+    alloc: Global,
+    declaration: &Declaration,
+    count: usize,
+) -> DeriveResult<Vec<Group>> {
     let mut groups = Vec::new(alloc);
     let mut from = 0usize;
     for _ in 0..count {
@@ -329,8 +398,7 @@ pub fn groups_of(alloc: Global, name: &str, count: usize) -> DeriveResult<Vec<Gr
         if count.saturating_sub(from) <= EACH.saturating_add(1) {
             break;
         }
-        let place = to.saturating_add(1);
-        let rest = format!(in alloc; "{name}From{place}")?;
+        let rest = rest_of(alloc, (declaration, &declaration.generics), to, "")?;
         groups.push(Group { from, to, rest })?;
         from = to;
     }
@@ -341,6 +409,18 @@ pub fn groups_of(alloc: Global, name: &str, count: usize) -> DeriveResult<Vec<Gr
         rest,
     })?;
     Ok(groups)
+}
+
+/// The name of what stands for the fields from this place on, with this behind it and over these.
+fn rest_of(
+    alloc: Global,
+    (declaration, generics): (&Declaration, &Generics),
+    from: usize,
+    behind: &str,
+) -> DeriveResult<String> {
+    let (name, place) = (declaration.name.as_str(), from.saturating_add(1));
+    let rest = format!(in alloc; "{name}From{place}{behind}")?;
+    applied(alloc, rest.as_str(), generics, "")
 }
 
 /// The schemas of fields.
@@ -358,6 +438,9 @@ pub fn named_fields(alloc: Global, before: &str, fields: &Fields) -> DeriveResul
     for field in fields.fields.as_slice() {
         let mut name = String::from_str(alloc, before)?;
         name.push_str(field.name.as_str())?;
+        if field.is_phantom {
+            name = owned(alloc, if before.starts_with('&') { "&()" } else { "tt" })?;
+        }
         names.push(name)?;
     }
     Ok(names)
@@ -368,7 +451,9 @@ fn pairs_of(alloc: Global, fields: &Fields, names: &[String]) -> DeriveResult<St
     let mut parts = Vec::new(alloc);
     for (field, name) in fields.fields.iter().zip(names.iter()) {
         let mut part = owned(alloc, field.name.as_str())?;
-        if field.name.as_str() != name.as_str() {
+        if field.is_phantom {
+            part.push_str(": PhantomData")?;
+        } else if field.name.as_str() != name.as_str() {
             put(&mut part, &[": ", name.as_str()])?;
         }
         parts.push(part)?;
@@ -376,21 +461,44 @@ fn pairs_of(alloc: Global, fields: &Fields, names: &[String]) -> DeriveResult<St
     joined(alloc, parts.as_slice(), ", ")
 }
 
+/// What a field is called, or this where it holds nothing.
+pub fn held_as(alloc: Global, field: &Field, nothing: &str, name: &str) -> DeriveResult<String> {
+    if field.is_phantom {
+        return owned(alloc, nothing);
+    }
+    owned(alloc, name)
+}
+
+/// What is made part of a struct or a case for each field: its name, or what stands for a type.
+fn held_parts(alloc: Global, fields: &Fields, names: &[String]) -> DeriveResult<Vec<String>> {
+    let mut parts = Vec::new(alloc);
+    for (field, name) in fields.fields.iter().zip(names.iter()) {
+        parts.push(held_as(alloc, field, "PhantomData", name.as_str())?)?;
+    }
+    Ok(parts)
+}
+
 /// The struct or the case made of its fields, or the pattern that takes them.
 pub fn made_of(alloc: Global, name: &str, fields: &Fields) -> DeriveResult<String> {
     let names = bindings(alloc, fields)?;
-    let mut out = owned(alloc, name)?;
     match fields.naming {
-        Naming::Unit => {}
+        Naming::Unit => owned(alloc, name),
         Naming::Numbered => {
-            let list = joined(alloc, names.as_slice(), ", ")?;
-            put(&mut out, &["(", list.as_str(), ")"])?;
+            let parts = held_parts(alloc, fields, names.as_slice())?;
+            let list = joined(alloc, parts.as_slice(), ", ")?;
+            Ok(format!(in alloc; "{name}({list})")?)
         }
         Naming::Named => {
             let list = pairs_of(alloc, fields, names.as_slice())?;
-            put(&mut out, &[" { ", list.as_str(), " }"])?;
+            braced(alloc, name, list.as_str())
         }
     }
+}
+
+/// The name, with this in braces behind it.
+fn braced(alloc: Global, name: &str, list: &str) -> DeriveResult<String> {
+    let mut out = owned(alloc, name)?;
+    put(&mut out, &[" { ", list, " }"])?;
     Ok(out)
 }
 
@@ -445,12 +553,12 @@ pub fn members(alloc: Global, before: &[&str], names: &[String]) -> DeriveResult
 /// The first lines of `read`.
 pub fn read_head(alloc: Global, name: &str) -> DeriveResult<String> {
     let mut words = Words::new(alloc);
-    words.set("type", owned(alloc, name)?)?;
+    words.set("type", owned(alloc, name));
     let mut out = String::new(alloc);
     if name.len() > 4 {
-        fill(&mut out, LONG_HEAD, &words)?;
+        fill(&mut out, LONG_HEAD, &mut words)?;
     } else {
-        fill(&mut out, SHORT_HEAD, &words)?;
+        fill(&mut out, SHORT_HEAD, &mut words)?;
     }
     Ok(out)
 }
@@ -524,9 +632,17 @@ pub fn pairs_of_all(alloc: Global, texts: &[String]) -> DeriveResult<String> {
     Ok(out)
 }
 
-/// A name with what it is declared over: `Pair<A, B>`, or with `member`, as `::Src`, behind each.
-fn applied(alloc: Global, name: &str, generics: &Generics, member: &str) -> DeriveResult<String> {
+/// A name with what it is declared over: `Label<'a>`, `Pair<A, B>`, or with `member`, as `::Src`, behind each.
+pub fn applied(
+    alloc: Global,
+    name: &str,
+    generics: &Generics,
+    member: &str,
+) -> DeriveResult<String> {
     let mut out = owned(alloc, name)?;
+    if let Some(lifetime) = &generics.lifetime {
+        put(&mut out, &["<", lifetime.as_str(), ">"])?;
+    }
     for (i, parameter) in generics.parameters.iter().enumerate() {
         put(
             &mut out,
@@ -543,6 +659,9 @@ fn applied(alloc: Global, name: &str, generics: &Generics, member: &str) -> Deri
 /// for its name.
 fn over(alloc: Global, first: &str, generics: &Generics, bound: &str) -> DeriveResult<String> {
     let mut all = Vec::new(alloc);
+    if let Some(lifetime) = &generics.lifetime {
+        all.push(owned(alloc, lifetime.as_str())?)?;
+    }
     if !first.is_empty() {
         all.push(owned(alloc, first)?)?;
     }
@@ -560,6 +679,20 @@ fn over(alloc: Global, first: &str, generics: &Generics, bound: &str) -> DeriveR
         put(&mut out, &["<", list.as_str(), ">"])?;
     }
     Ok(out)
+}
+
+/// The one field of a struct that holds nothing and names what it is declared over.
+fn phantom_of(alloc: Global, generics: &Generics) -> DeriveResult<String> {
+    if let Some(lifetime) = &generics.lifetime {
+        let lifetime = lifetime.as_str();
+        return Ok(format!(in alloc; "(PhantomData<&{lifetime} ()>)")?);
+    }
+    if generics.parameters.is_empty() {
+        return Ok(String::new(alloc));
+    }
+    let all = tuple_of(alloc, generics.parameters.as_slice())?;
+    let all = all.as_str();
+    Ok(format!(in alloc; "(PhantomData<{all}>)")?)
 }
 
 /// Whether values of a schema may all have one size, as far as its name says.
@@ -601,7 +734,7 @@ pub fn is_lawful_key(declaration: &Declaration, fields: &Fields) -> bool {
 
 /// The checker's name for the bound on the fields in an `impl` of a marker: that of a parameter by itself is its own,
 /// others have their place among the bounds.
-fn evidence_of(
+pub fn evidence_of(
     alloc: Global,
     generics: &Generics,
     schemas: &str,
@@ -620,43 +753,113 @@ fn evidence_of(
     Ok(format!(in alloc; "bound-{place}")?)
 }
 
-/// What the parameters have as values beside the bound on the fields, a line for each.
-fn drops_of(alloc: Global, generics: &Generics, bound: &str) -> DeriveResult<String> {
+/// What the parameters have as values of this member, a line for each.
+fn drops_of(
+    alloc: Global,
+    generics: &Generics,
+    (member, bound): (&str, &str),
+) -> DeriveResult<String> {
     let mut out = String::new(alloc);
     for parameter in generics.parameters.as_slice() {
         put(
             &mut out,
-            &["    ", parameter.as_str(), "::Src: ", bound, ",\n"],
+            &["    ", parameter.as_str(), member, ": ", bound, ",\n"],
         )?;
     }
     Ok(out)
 }
 
-/// The words of a type's name and of what it is declared over.
-fn name_words(alloc: Global, declaration: &Declaration) -> DeriveResult<Words> {
+/// The same, with `where` in front of the lines if there are some.
+fn where_of(alloc: Global, generics: &Generics, member: &str) -> DeriveResult<String> {
+    let mut out = String::new(alloc);
+    if !generics.parameters.is_empty() {
+        let lines = drops_of(alloc, generics, (member, "Drop"))?;
+        put(&mut out, &["\nwhere\n", lines.as_str()])?;
+    }
+    Ok(out)
+}
+
+/// Sets the words of what values are made of: the type itself has its parts, or, where types are parameters, another
+/// type over these as those of values.
+fn set_of(
+    alloc: Global,
+    words: &mut Words,
+    (declaration, is_bound): (&Declaration, bool),
+) -> DeriveResult<()> {
+    let generics = &declaration.generics;
+    let mut of = owned(alloc, declaration.name.as_str())?;
+    if !generics.parameters.is_empty() {
+        of.push_str("Of")?;
+    }
+    let of = of.as_str();
+    words.set("of", applied(alloc, of, generics, ""));
+    words.set("of_src", applied(alloc, of, generics, "::Src"));
+    words.set("of_dst", applied(alloc, of, generics, "::Dst"));
+    words.set("phantom", phantom_of(alloc, generics));
+    words.set("any", over(alloc, "", generics, "Drop"));
+    words.set("any_src", applied(alloc, declaration.src(), generics, ""));
+    words.set("drops", drops_of(alloc, generics, ("::Src", "Drop")));
+    if is_bound {
+        words.set("where_src", where_of(alloc, generics, "::Src"));
+        words.set("where_dst", where_of(alloc, generics, "::Dst"));
+    }
+    Ok(())
+}
+
+/// What stands in this of what a type is declared over.
+fn used_of(alloc: Global, generics: &Generics, text: &str) -> DeriveResult<Generics> {
+    let tokens = tokens_of(alloc, text)?;
+    let mut used = Generics {
+        lifetime: None,
+        parameters: Vec::new(alloc),
+    };
+    for name in generics.parameters.as_slice() {
+        if tokens
+            .iter()
+            .any(|token| token.text.as_str() == name.as_str())
+        {
+            used.parameters.push(owned(alloc, name.as_str())?)?;
+        }
+    }
+    if let Some(lifetime) = &generics.lifetime {
+        if text.contains(lifetime.as_str()) {
+            used.lifetime = Some(owned(alloc, lifetime.as_str())?);
+        }
+    }
+    Ok(used)
+}
+
+/// The words of a type's name and of what it is declared over. Behind the name of its parts' schemas, which are these,
+/// stands this. Where it is bound, values of the parameters' schemas are to be let go.
+pub fn name_words(
+    alloc: Global,
+    declaration: &Declaration,
+    (behind, schemas): (&str, &str),
+    is_bound: bool,
+) -> DeriveResult<Words> {
     let mut words = Words::new(alloc);
     let name = declaration.name.as_str();
     let generics = &declaration.generics;
-    let fields = format!(in alloc; "{name}Fields")?;
-    let pairs = format!(in alloc; "{name}Pairs")?;
+    let fields = format!(in alloc; "{name}{behind}")?;
     let lending = "L: Lending";
-    words.set("type", owned(alloc, name)?)?;
-    words.set("self", applied(alloc, name, generics, "")?)?;
-    words.set("src", applied(alloc, declaration.src(), generics, "::Src")?)?;
-    words.set("dst", applied(alloc, declaration.src(), generics, "::Dst")?)?;
-    words.set("fields", applied(alloc, fields.as_str(), generics, "")?)?;
-    words.set("pairs", applied(alloc, pairs.as_str(), generics, "")?)?;
-    words.set("writes", over(alloc, "", generics, "SchemaWrite")?)?;
-    words.set("reads", over(alloc, lending, generics, "SchemaRead<L>")?)?;
-    words.set("lawful", over(alloc, lending, generics, "Lawful<L>")?)?;
+    words.set("type", owned(alloc, name));
+    words.set("self", applied(alloc, name, generics, ""));
+    words.set("src", applied(alloc, declaration.src(), generics, "::Src"));
+    words.set("dst", applied(alloc, declaration.src(), generics, "::Dst"));
+    let used = used_of(alloc, generics, schemas)?;
+    words.set("fields", applied(alloc, fields.as_str(), &used, ""));
+    words.set("writes", over(alloc, "", generics, "SchemaWrite"));
+    words.set("reads", over(alloc, lending, generics, "SchemaRead<L>"));
+    words.set("lawful", over(alloc, lending, generics, "Lawful<L>"));
     let both = "SchemaWrite + SchemaRead<L, Dst = @::Src>";
-    words.set("backs", over(alloc, lending, generics, both)?)?;
+    words.set("backs", over(alloc, lending, generics, both));
+    set_of(alloc, &mut words, (declaration, is_bound))?;
     Ok(words)
 }
 
 /// What the bound on a tuple of fields says of its values, where types are parameters: `, Src = (A::Src, u8)`; of a
 /// parameter by itself its own bound says it.
-fn bound_of(alloc: Global, generics: &Generics, values: &str) -> DeriveResult<String> {
+pub fn bound_of(alloc: Global, generics: &Generics, values: &str) -> DeriveResult<String> {
     let mut out = String::new(alloc);
     let parameters = generics.parameters.as_slice();
     if !parameters.is_empty()
@@ -680,13 +883,13 @@ pub fn types_of(alloc: Global, fields: &Fields) -> DeriveResult<Vec<String>> {
 }
 
 /// The laws of reading of the fields' tuple.
-fn laws_of(alloc: Global, declaration: &Declaration, schemas: &str) -> DeriveResult<String> {
+fn laws_of(alloc: Global, declaration: &Declaration, seen: &str) -> DeriveResult<String> {
     let parameters = declaration.generics.parameters.as_slice();
     if parameters.is_empty() {
         let name = declaration.name.as_str();
         return Ok(format!(in alloc; "⟦<{name}Fields as Lawful<L>>⟧.read_laws")?);
     }
-    law_of(alloc, schemas, parameters, declaration.line)
+    law_of(alloc, seen, parameters, declaration.line)
 }
 
 /// Appends that a struct with fields is a key of maps where these are.
@@ -702,43 +905,56 @@ pub fn put_key(
     let values = pairs_of_all(alloc, values.as_slice())?;
     let one = named_fields(alloc, "x.", fields)?;
     let other = named_fields(alloc, "y.", fields)?;
-    let mut words = name_words(alloc, declaration)?;
+    let list = joined(alloc, schemas.as_slice(), ", ")?;
+    let of = ("Fields", list.as_str());
+    let mut words = name_words(alloc, declaration, of, false)?;
+    let name = declaration.name.as_str();
+    let pairs = format!(in alloc; "{name}Pairs")?;
+    let used = used_of(alloc, generics, list.as_str())?;
+    words.set("pairs", applied(alloc, pairs.as_str(), &used, ""));
     let schemas = pairs_of_all(alloc, schemas.as_slice())?;
     words.set(
         "evidence",
-        evidence_of(alloc, generics, schemas.as_str(), 4)?,
-    )?;
-    words.set("schemas", schemas)?;
-    words.set("values", values_of(alloc, fields, 0)?)?;
-    words.set("one", pairs_of_all(alloc, one.as_slice())?)?;
-    words.set("other", pairs_of_all(alloc, other.as_slice())?)?;
-    words.set("drops", drops_of(alloc, generics, "Drop + Eq")?)?;
-    words.set("bound", bound_of(alloc, generics, values.as_str())?)?;
+        evidence_of(alloc, generics, schemas.as_str(), 4),
+    );
+    words.set("schemas", Ok(schemas));
+    words.set("values", values_of(alloc, fields, 0));
+    words.set("one", pairs_of_all(alloc, one.as_slice()));
+    words.set("other", pairs_of_all(alloc, other.as_slice()));
+    words.set(
+        "eq_drops",
+        drops_of(alloc, generics, ("::Src", "Drop + Eq")),
+    );
+    words.set("bound", bound_of(alloc, generics, values.as_str()));
     let template = if is_lawful_key(declaration, fields) {
         LAWFUL_KEY
     } else {
         KEY
     };
-    fill(out, template, &words)
+    fill(out, template, &mut words)
 }
 
 /// Sets the words of how these fields are sized and written.
 pub fn set_calls(alloc: Global, words: &mut Words, of: (&Fields, &Group)) -> DeriveResult<()> {
-    let size = ("size_of", "");
-    let write = ("write", "W");
-    let front = ("encode_front", "");
-    words.set("size", call_of(alloc, size, (&[], &[]), of)?)?;
-    words.set("write", call_of(alloc, write, (&["writer"], &[]), of)?)?;
-    words.set("front", call_of(alloc, front, (&[], &["dst"]), of)?)
+    words.set("size", Ok(call_of(alloc, ("size_of", ""), (&[], &[]), of)?));
+    words.set(
+        "write",
+        Ok(call_of(alloc, ("write", "W"), (&["writer"], &[]), of)?),
+    );
+    let front = call_of(alloc, ("encode_front", ""), (&[], &["dst"]), of)?;
+    words.set("front", Ok(front));
+    Ok(())
 }
 
 /// Sets the words of how a struct is read.
 fn set_read(alloc: Global, words: &mut Words, of: (&Declaration, &Fields)) -> DeriveResult<()> {
     let (declaration, fields) = of;
     let names = bindings(alloc, fields)?;
-    words.set("bound_fields", tuple_of(alloc, names.as_slice())?)?;
-    words.set("bind", bind_of(alloc, fields)?)?;
-    words.set("made", made_of(alloc, declaration.src(), fields)?)?;
+    words.set("bound_fields", tuple_of(alloc, names.as_slice()));
+    words.set("bind", bind_of(alloc, fields));
+    words.set("made", made_of(alloc, declaration.src(), fields));
+    words.set("takes", takes_of(alloc, names.as_slice(), "made_of"));
+    words.set("takes_parts", takes_of(alloc, names.as_slice(), "parts"));
     let template = if is_long(fields) {
         GET_PARTS
     } else if declaration.generics.parameters.is_empty() {
@@ -748,12 +964,13 @@ fn set_read(alloc: Global, words: &mut Words, of: (&Declaration, &Fields)) -> De
     };
     let mut read = String::new(alloc);
     fill(&mut read, template, words)?;
-    words.set("read", read)?;
+    words.set("read", Ok(read));
     let mut decoding = String::new(alloc);
     if has_plain(fields) && !is_long(fields) {
         fill(&mut decoding, DECODING, words)?;
     }
-    words.set("decoding", decoding)
+    words.set("decoding", Ok(decoding));
+    Ok(())
 }
 
 /// Whether there are more fields than a tuple has.
@@ -770,73 +987,112 @@ fn has_plain(fields: &Fields) -> bool {
             .all(|field| may_have_one_size(field.schema.as_str()))
 }
 
-/// Appends the schemas that stand for the fields behind those of the first group.
-fn put_rests(
+/// The words of the schema that stands for the fields of a later group, and those behind it.
+fn rest_words(
+    alloc: Global,
+    (declaration, fields): (&Declaration, &Fields),
+    group: &Group,
+    is_bound: bool,
+) -> DeriveResult<Words> {
+    let generics = &declaration.generics;
+    let from = group.from;
+    let place = from.saturating_add(1);
+    let schemas = schemas_of(alloc, fields)?;
+    let schemas = tuple_of(alloc, &schemas.as_slice()[from.min(schemas.len())..])?;
+    let used = used_of(alloc, generics, schemas.as_str())?;
+    let mut words = Words::new(alloc);
+    words.set("place", Ok(format!(in alloc; "{place}")?));
+    words.set("self", rest_of(alloc, (declaration, generics), from, ""));
+    if is_bound {
+        words.set("where_src", where_of(alloc, generics, "::Src"));
+    }
+    words.set(
+        "fields",
+        rest_of(alloc, (declaration, &used), from, "Fields"),
+    );
+    words.set("phantom", phantom_of(alloc, generics));
+    words.set("src", applied(alloc, declaration.src(), generics, "::Src"));
+    words.set("writes", over(alloc, "", generics, "SchemaWrite"));
+    words.set("schemas", Ok(schemas));
+    words.set("values", values_of(alloc, fields, from));
+    set_calls(alloc, &mut words, (fields, group))?;
+    Ok(words)
+}
+
+/// Appends the schemas that stand for the fields behind those of the first group, by this template.
+pub fn put_rests(
     alloc: Global,
     out: &mut String,
-    declaration: &Declaration,
-    fields: &Fields,
+    (declaration, fields): (&Declaration, &Fields),
+    (template, is_bound): (&str, bool),
 ) -> DeriveResult<()> {
-    let groups = groups_of(alloc, declaration.name.as_str(), fields.fields.len())?;
-    let mut name = "";
-    for group in groups.as_slice() {
-        if !name.is_empty() {
-            let place = group.from.saturating_add(1);
-            let schemas = schemas_of(alloc, fields)?;
-            let mut words = Words::new(alloc);
-            words.set("place", format!(in alloc; "{place}")?)?;
-            words.set("self", owned(alloc, name)?)?;
-            words.set("fields", format!(in alloc; "{name}Fields")?)?;
-            words.set("src", owned(alloc, declaration.src())?)?;
-            words.set(
-                "schemas",
-                tuple_of(alloc, &schemas.as_slice()[group.from.min(schemas.len())..])?,
-            )?;
-            words.set("values", values_of(alloc, fields, group.from)?)?;
-            set_calls(alloc, &mut words, (fields, group))?;
-            fill(out, REST, &words)?;
-            fill(out, WRITING, &words)?;
-        }
-        name = group.rest.as_str();
+    let groups = groups_of(alloc, declaration, fields.fields.len())?;
+    for group in groups.iter().skip(1) {
+        let mut words = rest_words(alloc, (declaration, fields), group, is_bound)?;
+        fill(out, REST, &mut words)?;
+        fill(out, template, &mut words)?;
     }
     Ok(())
+}
+
+/// The words of a struct, and whether values of its parameters' schemas are to be let go: where a type over parameters
+/// stands in it.
+fn words_of(
+    alloc: Global,
+    (all, declaration): (&[Declaration], &Declaration),
+    fields: &Fields,
+) -> DeriveResult<(Words, bool)> {
+    let generics = &declaration.generics;
+    let schemas = schemas_of(alloc, fields)?;
+    let schemas = tuple_of(alloc, schemas.as_slice())?;
+    let schemas = schemas.as_str();
+    let seen = looked_into(alloc, all, (schemas, generics.parameters.as_slice()))?;
+    let is_bound = seen.as_str() != schemas;
+    let mut words = name_words(alloc, declaration, ("Fields", schemas), is_bound)?;
+    words.set("laws", laws_of(alloc, declaration, seen.as_str()));
+    words.set("evidence", evidence_of(alloc, generics, schemas, 2));
+    words.set("schemas", owned(alloc, schemas));
+    words.set("values", values_of(alloc, fields, 0));
+    Ok((words, is_bound))
+}
+
+/// The words of a struct, and whether its schema's bound says what its values are.
+fn all_words_of(
+    alloc: Global,
+    (all, declaration): (&[Declaration], &Declaration),
+    fields: &Fields,
+) -> DeriveResult<(Words, bool)> {
+    let generics = &declaration.generics;
+    let types = tuple_of(alloc, types_of(alloc, fields)?.as_slice())?;
+    let (mut words, is_bound) = words_of(alloc, (all, declaration), fields)?;
+    let groups = groups_of(alloc, declaration, fields.fields.len())?;
+    if let Some(group) = groups.first() {
+        set_calls(alloc, &mut words, (fields, group))?;
+    }
+    set_read(alloc, &mut words, (declaration, fields))?;
+    let dst = applied(alloc, declaration.src(), generics, "::Dst")?;
+    words.set("head", read_head(alloc, dst.as_str()));
+    words.set("bound", bound_of(alloc, generics, types.as_str()));
+    words.set("types", Ok(types));
+    Ok((words, is_bound))
 }
 
 /// Appends the schema of a struct.
 pub fn put_struct(
     alloc: Global,
     out: &mut String,
-    declaration: &Declaration,
+    (all, declaration): (&[Declaration], &Declaration),
     fields: &Fields,
 ) -> DeriveResult<()> {
-    let generics = &declaration.generics;
-    let schemas = schemas_of(alloc, fields)?;
-    let schemas = tuple_of(alloc, schemas.as_slice())?;
-    let types = types_of(alloc, fields)?;
-    let types = tuple_of(alloc, types.as_slice())?;
-    let dst = applied(alloc, declaration.src(), generics, "::Dst")?;
-    let groups = groups_of(alloc, declaration.name.as_str(), fields.fields.len())?;
-    let mut words = name_words(alloc, declaration)?;
-    words.set("laws", laws_of(alloc, declaration, schemas.as_str())?)?;
-    words.set(
-        "evidence",
-        evidence_of(alloc, generics, schemas.as_str(), 2)?,
-    )?;
-    words.set("schemas", schemas)?;
-    words.set("values", values_of(alloc, fields, 0)?)?;
-    if let Some(group) = groups.first() {
-        set_calls(alloc, &mut words, (fields, group))?;
+    let (mut words, is_bound) = all_words_of(alloc, (all, declaration), fields)?;
+    fill(out, WRITING, &mut words)?;
+    put_rests(alloc, out, (declaration, fields), (WRITING, is_bound))?;
+    if is_long(fields) && !declaration.generics.parameters.is_empty() {
+        fill(out, OF, &mut words)?;
     }
-    set_read(alloc, &mut words, (declaration, fields))?;
-    words.set("head", read_head(alloc, dst.as_str())?)?;
-    words.set("drops", drops_of(alloc, generics, "Drop")?)?;
-    words.set("bound", bound_of(alloc, generics, types.as_str())?)?;
-    words.set("types", types)?;
-    fill(out, WRITING, &words)?;
-    put_rests(alloc, out, declaration, fields)?;
     if is_long(fields) {
-        fill(out, PARTS, &words)?;
+        fill(out, PARTS, &mut words)?;
     }
-    fill(out, READING, &words)?;
-    fill(out, MARKERS, &words)
+    fill(out, READING, &mut words)?;
+    fill(out, MARKERS, &mut words)
 }

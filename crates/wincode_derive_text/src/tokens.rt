@@ -2,9 +2,11 @@
 ghost use Rattle.std.specs.Prelude.{◌≡◌, [], ◌∷◌};
 ghost use Rattle.std.specs.Str.{chars};
 ghost use Rattle.std.specs.String.{string_bytes};
-ghost use Rattle.wincode_derive_text.specs.Splits.{of_word, between, begun, in_front, taken, Takes, TakesIfKnown, tokens_in, Splits};
+ghost use Rattle.wincode_derive_text.specs.Splits.{of_word, between, begun, in_front, reached, taken, Takes, TakesIfKnown, tokens_in, Splits};
+ghost use Rattle.wincode_derive_text.specs.declared.tokens.Kind.TheVariants.{Word as KindWord};
 
-use crate::error::{DeriveResult, malformed};
+use crate::error::{DeriveResult, Spot, refused_as};
+use crate::notes::is_note;
 use std::alloc::Global;
 
 /// What a token is.
@@ -14,21 +16,32 @@ pub enum Kind {
     Word,
     /// A lifetime, with its quote.
     Lifetime,
-    /// A text or a character.
+    /// A text or a character, with its quotes.
     Literal,
     /// `::`, or a character that is none of the others.
     Sign,
-    /// A comment line that begins with `wincode:`, without that word.
+    /// A comment that begins as `// wincode:` does, or nearly so: all of it.
     Note,
 }
 
-/// A token, the line that it begins on, counted from 1, and the byte of the text, counted from 0.
+/// A token, the line and the column that it begins at, counted from 1, and the byte of the text, counted from 0.
 #[derive(Debug, Drop)]
 pub struct Token {
     pub kind: Kind,
     pub text: String,
     pub line: usize,
+    pub column: usize,
     pub at: usize,
+}
+
+impl Token {
+    /// Where it begins.
+    pub fn spot(&self) -> Spot {
+        Spot {
+            line: self.line,
+            column: self.column,
+        }
+    }
 }
 
 /// Where in a file the next character stands.
@@ -36,15 +49,36 @@ pub struct Token {
 enum Place {
     Between,
     Word,
+    /// Behind a quote.
     Quote,
-    QuoteEscape,
+    /// Behind a quote and a letter.
+    Name,
+    /// Behind a quote and another character.
+    Char,
+    /// Behind a quote and a `\`.
+    Escape,
+    /// Behind these and one more.
+    Escaped,
     Text,
     TextEscape,
+    /// In a text that a `"` with as many `#` ends as it began with.
+    Raw,
+    /// Behind a `"` in such a text.
+    RawEnd,
     Colon,
     Slash,
     Comment,
     Block,
     BlockStar,
+    BlockSlash,
+}
+
+/// A place in a text, as a token has it.
+#[derive(Clone, Copy, PartialEq)]
+struct Mark {
+    line: usize,
+    column: usize,
+    at: usize,
 }
 
 /// The tokens so far, and the one that is being read.
@@ -53,17 +87,44 @@ struct Lexer {
     tokens: Vec<Token>,
     word: String,
     place: Place,
-    line: usize,
-    /// Where the next character stands, in bytes.
-    at: usize,
+    /// Where the next character stands.
+    here: Mark,
     /// Where the token that is being read begins.
-    begin: usize,
+    begin: Mark,
+    /// How many comments round the next character are to be ended, or how many `#` are to come.
+    depth: usize,
 }
 
 fn is_of_word(c: char) -> bool
     ensures { result ≡ of_word c }
 {
     c.is_ascii_alphanumeric() || c == '_'
+}
+
+/// How many `#` end the raw text that begins behind these tokens, at that byte; none where it isn't raw.
+fn raw_depth(tokens: &[Token], at: usize) -> Option<usize> {
+    let mut depth = 0usize;
+    let mut end = at;
+    for token in tokens.iter().rev() {
+        if token.at.saturating_add(token.text.len()) != end {
+            return None;
+        }
+        match (token.kind, token.text.as_str()) {
+            (Kind::Sign, "#") => depth = depth.saturating_add(1),
+            (Kind::Word, "r" | "br" | "cr") => return Some(depth),
+            _ => return None,
+        }
+        end = token.at;
+    }
+    None
+}
+
+/// Where a character stands behind the `"` of that byte.
+fn text_place(tokens: &[Token], at: usize) -> Place {
+    match raw_depth(tokens, at) {
+        Some(_) => Place::Raw,
+        None => Place::Text,
+    }
 }
 
 impl Lexer {
@@ -73,11 +134,13 @@ impl Lexer {
             (record { ended = (kind, string_bytes self.old.word) ∷ []; reached = between }) }
     {
         let text = String::from_str(alloc, self.word.as_str())?;
+        let Mark { line, column, at } = self.begin;
         self.tokens.push(Token {
             kind,
             text,
-            line: self.line,
-            at: self.begin,
+            line,
+            column,
+            at,
         })?;
         self.word.clear();
         self.place = Place::Between;
@@ -89,16 +152,16 @@ impl Lexer {
         ensures { TakesIfKnown self.old self.new result (begun c) }
     {
         self.word.clear();
-        self.begin = self.at;
+        self.begin = self.here;
         self.place = match c {
-            '"' => Place::Text,
+            '"' => text_place(self.tokens.as_slice(), self.here.at),
             '\'' => Place::Quote,
             ':' => Place::Colon,
             '/' => Place::Slash,
             _ if is_of_word(c) => Place::Word,
             _ => Place::Between,
         };
-        if c.is_whitespace() || c == '"' || c == '/' {
+        if c.is_whitespace() {
             return Ok(());
         }
         self.word.push(c)?;
@@ -117,32 +180,108 @@ impl Lexer {
         self.begin(alloc, c)
     }
 
-    /// The next character of a quote: of a lifetime or a character.
-    fn quoted(&mut self, alloc: Global, c: char) -> DeriveResult<()> {
-        if c == '\'' {
-            return self.end(alloc, Kind::Literal);
-        }
-        if is_of_word(c) || self.word.len() == 1 {
+    /// A character behind a word: a quote there is the prime of a ghost name, but for that of `b'x'`.
+    fn end_word(&mut self, alloc: Global, c: char) -> DeriveResult<()>
+        ensures { TakesIfKnown self.old self.new result
+            (in_front KindWord (string_bytes self.old.word) (begun c)) }
+    {
+        if c == '\'' && self.word.as_str() != "b" {
             self.word.push(c)?;
-            if c == '\\' {
-                self.place = Place::QuoteEscape;
-            }
             return Ok(());
         }
-        self.end_and_begin(alloc, Kind::Lifetime, c)
+        self.end_and_begin(alloc, Kind::Word, c)
     }
 
-    /// The end of a comment's line: a note, or nothing.
-    fn end_comment(&mut self, alloc: Global) -> DeriveResult<()> {
-        let note = match self.word.trim_start().strip_prefix("wincode:") {
-            Some(note) => String::from_str(alloc, note.trim())?,
-            None => {
-                self.place = Place::Between;
-                return Ok(());
+    /// A character that belongs to the token, and where the next then stands.
+    fn keep(&mut self, c: char, place: Place) -> DeriveResult<()> {
+        self.word.push(c)?;
+        self.place = place;
+        Ok(())
+    }
+
+    /// A character that belongs to the token, and ends it.
+    fn close(&mut self, alloc: Global, c: char, kind: Kind) -> DeriveResult<()> {
+        self.word.push(c)?;
+        self.end(alloc, kind)
+    }
+
+    /// The next character of a quote: of a lifetime or a character.
+    fn quoted(&mut self, alloc: Global, c: char) -> DeriveResult<()> {
+        match self.place {
+            Place::Escape => self.keep(c, Place::Escaped),
+            Place::Escaped if c != '\'' && c != '\n' => self.keep(c, Place::Escaped),
+            _ if c == '\'' => self.close(alloc, c, Kind::Literal),
+            Place::Quote if c == '\\' => self.keep(c, Place::Escape),
+            Place::Quote | Place::Name if is_of_word(c) => self.keep(c, Place::Name),
+            Place::Quote => self.keep(c, Place::Char),
+            _ => self.end_and_begin(alloc, Kind::Lifetime, c),
+        }
+    }
+
+    /// The next character of a text.
+    fn texted(&mut self, alloc: Global, c: char) -> DeriveResult<()> {
+        match self.place {
+            Place::Text if c == '"' => self.close(alloc, c, Kind::Literal),
+            Place::Text if c == '\\' => self.keep(c, Place::TextEscape),
+            Place::TextEscape => self.keep(c, Place::Text),
+            Place::RawEnd if c == '#' && self.depth <= 1 => self.close(alloc, c, Kind::Literal),
+            Place::RawEnd if c == '#' => {
+                self.depth = self.depth.saturating_sub(1);
+                self.keep(c, Place::RawEnd)
             }
-        };
-        self.word = note;
-        self.end(alloc, Kind::Note)
+            Place::Raw | Place::RawEnd if c == '"' => {
+                match raw_depth(self.tokens.as_slice(), self.begin.at) {
+                    None | Some(0) => self.close(alloc, c, Kind::Literal),
+                    Some(depth) => {
+                        self.depth = depth;
+                        self.keep(c, Place::RawEnd)
+                    }
+                }
+            }
+            Place::RawEnd => self.keep(c, Place::Raw),
+            place => self.keep(c, place),
+        }
+    }
+
+    /// The end of a comment: a note, or nothing.
+    fn end_comment(&mut self, alloc: Global) -> DeriveResult<()> {
+        if is_note(self.word.as_str()) {
+            return self.end(alloc, Kind::Note);
+        }
+        self.word.clear();
+        self.place = Place::Between;
+        Ok(())
+    }
+
+    /// The next character of a comment.
+    fn commented(&mut self, alloc: Global, c: char) -> DeriveResult<()> {
+        match self.place {
+            Place::Comment if c == '\n' => return self.end_comment(alloc),
+            Place::Slash if c == '/' => self.place = Place::Comment,
+            Place::Slash if c == '*' => {
+                self.depth = 1;
+                self.place = Place::Block;
+            }
+            Place::Slash => return self.end_and_begin(alloc, Kind::Sign, c),
+            Place::BlockStar if c == '/' && self.depth <= 1 => {
+                self.word.push(c)?;
+                return self.end_comment(alloc);
+            }
+            Place::BlockStar if c == '/' => {
+                self.depth = self.depth.saturating_sub(1);
+                self.place = Place::Block;
+            }
+            Place::BlockSlash if c == '*' => {
+                self.depth = self.depth.saturating_add(1);
+                self.place = Place::Block;
+            }
+            Place::Comment => {}
+            _ if c == '*' => self.place = Place::BlockStar,
+            _ if c == '/' => self.place = Place::BlockSlash,
+            _ => self.place = Place::Block,
+        }
+        self.word.push(c)?;
+        Ok(())
     }
 
     /// The next character, as where it stands has it.
@@ -153,7 +292,7 @@ impl Lexer {
         match self.place {
             Place::Between => return self.begin(alloc, c),
             Place::Word if is_of_word(c) => self.word.push(c)?,
-            Place::Word => return self.end_and_begin(alloc, Kind::Word, c),
+            Place::Word => return self.end_word(alloc, c),
             Place::Colon if c == ':' => {
                 self.word.push(c)?;
                 return self.end(alloc, Kind::Sign);
@@ -167,22 +306,25 @@ impl Lexer {
     /// The next character of a quote, a text or a comment.
     fn pass(&mut self, alloc: Global, c: char) -> DeriveResult<()> {
         match self.place {
-            Place::Quote => self.quoted(alloc, c)?,
-            Place::QuoteEscape => self.place = Place::Quote,
-            Place::Text if c == '"' => self.end(alloc, Kind::Literal)?,
-            Place::Text if c == '\\' => self.place = Place::TextEscape,
-            Place::TextEscape => self.place = Place::Text,
-            Place::Slash if c == '/' => self.place = Place::Comment,
-            Place::Slash if c == '*' => self.place = Place::Block,
-            Place::Slash => self.begin(alloc, c)?,
-            Place::Comment if c == '\n' => self.end_comment(alloc)?,
-            Place::Comment => self.word.push(c)?,
-            Place::Block if c == '*' => self.place = Place::BlockStar,
-            Place::BlockStar if c == '/' => self.place = Place::Between,
-            Place::BlockStar if c != '*' => self.place = Place::Block,
-            _ => {}
+            Place::Quote | Place::Name | Place::Char | Place::Escape | Place::Escaped => {
+                self.quoted(alloc, c)
+            }
+            Place::Text | Place::TextEscape | Place::Raw | Place::RawEnd => self.texted(alloc, c),
+            _ => self.commented(alloc, c),
         }
-        Ok(())
+    }
+
+    /// Goes on behind a character.
+    fn go_on(&mut self, c: char)
+        ensures { (self.new.tokens ≡ self.old.tokens) × (reached self.new ≡ reached self.old) }
+    {
+        if c == '\n' {
+            self.here.line = self.here.line.saturating_add(1);
+            self.here.column = 1;
+        } else {
+            self.here.column = self.here.column.saturating_add(1);
+        }
+        self.here.at = self.here.at.saturating_add(c.len_utf8());
     }
 
     /// Reads one more character.
@@ -191,32 +333,43 @@ impl Lexer {
             (taken self.old.place (string_bytes self.old.word) c) }
     {
         self.take(alloc, c)?;
-        if c == '\n' {
-            self.line = self.line.saturating_add(1);
-        }
-        self.at = self.at.saturating_add(c.len_utf8());
+        self.go_on(c);
         Ok(())
+    }
+
+    /// Where the token begins that is being read.
+    fn spot(&self) -> Spot {
+        Spot {
+            line: self.begin.line,
+            column: self.begin.column,
+        }
     }
 }
 
-/// The tokens of a source file. A text or a comment that isn't ended is refused, with the line where the file ends.
+/// The tokens of a source file. A text or a comment that isn't ended is refused, where it begins.
 pub fn tokens_of(alloc: Global, source: &str) -> DeriveResult<Vec<Token>>
     ensures { Splits (tokens_in (chars source.now)) result }
 {
+    let first = Mark {
+        line: 1,
+        column: 1,
+        at: 0,
+    };
     let mut lexer = Lexer {
         tokens: Vec::new(alloc),
         word: String::new(alloc),
         place: Place::Between,
-        line: 1,
-        at: 0,
-        begin: 0,
+        here: first,
+        begin: first,
+        depth: 0,
     };
     for c in source.chars() {
         lexer.step(alloc, c)?;
     }
     lexer.step(alloc, '\n')?;
     if lexer.place != Place::Between {
-        return Err(malformed(lexer.line, "a text or a comment has no end"));
+        let what = "a text or a comment begins here and has no end";
+        return Err(refused_as(alloc, lexer.spot(), what));
     }
     Ok(lexer.tokens)
 }

@@ -1,58 +1,14 @@
 -- One reading after another.
-use Rattle.std.proofs.Common.{
-  ◌≡◌,
-  sym,
-  ap,
-  subst,
-  refl,
-  ℕ,
-  ◌-◌,
-  ◌≤◌,
-  suc,
-  zero,
-  length,
-  nat_eq,
-  Bool,
-  true,
-  false,
-  cond,
-  List,
-  [],
-  ◌∷◌,
-  Option,
-  Some,
-  None,
-  Result,
-  Ok,
-  Err,
-  arith,
-}
+use Rattle.std.proofs.Common.{◌≡◌, sym, ap, subst, refl, ℕ, ◌-◌, ◌≤◌, suc, zero, length, nat_eq, Bool, true, false, cond, List, [], ◌∷◌, Option, Some}
+use Rattle.std.proofs.Common.{None, Result, Ok, Err, arith}
 use Rattle.std.proofs.lemmas.Bool.{eqb-true}
 use Rattle.std.specs.Bool.{OnFalse}
 use Rattle.wincode_describe.specs.Forms.{Form, seen}
 use Rattle.wincode_describe.specs.declared.described.Described.{Described}
 use Rattle.wincode_describe.specs.declared.parsing.Opening.{Opening}
 use Rattle.wincode_describe.specs.Phrases.{Piece, Reads, HasTokens, left, front_word, word_front, behind_sign}
-use Rattle.wincode_describe.specs.Readers.{
-  Makes,
-  Reader,
-  Readers,
-  and_then,
-  on,
-  readers,
-  one_more,
-  no_more,
-  unread,
-  members_by,
-  tuple_by,
-  plain_of,
-  opening_of,
-  behind_word,
-  word_by,
-  ended,
-  whole,
-  Parses,
-}
+use Rattle.wincode_describe.specs.Readers.{Makes, Reader, Readers, and_then, on, readers, one_more, no_more, unread, members_by, tuple_by, plain_of}
+use Rattle.wincode_describe.specs.Readers.{opening_of, behind_word, word_by, ended, whole, Parses}
 use Rattle.wincode_describe.specs.declared.tokens.Tokens.{Tokens}
 use Rattle.wincode_describe.specs.declared.error.DescribeError.{DescribeError}
 use Rattle.wincode_describe.specs.declared.error.DescribeError.TheVariants.{OutOfMemory}

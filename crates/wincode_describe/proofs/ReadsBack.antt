@@ -5,30 +5,8 @@ use Rattle.std.proofs.lemmas.Fmt.{digits_decimal, digits_value-decimal, decimal_
 use Rattle.std.proofs.lemmas.Str.Parse.{IsNumeralModel, numerals_by_value, tells_all_ascii_digits}
 use Rattle.std.specs.Str.{all_ascii_digits}
 use Rattle.std.specs.Str.Parse.{digits_value}
-use Rattle.wincode_describe.specs.Forms.{
-  Form,
-  Number,
-  Flag,
-  Letter,
-  Nothing,
-  Words,
-  Bytes,
-  ByteBlock,
-  Maybe,
-  Either,
-  Held,
-  Many,
-  Several,
-  Pairs,
-  Block,
-  Group,
-  Record,
-  Both,
-  Named,
-  Choice,
-  LastCase,
-  OneCase,
-}
+use Rattle.wincode_describe.specs.Forms.{Form, Number, Flag, Letter, Nothing, Words, Bytes, ByteBlock, Maybe, Either, Held, Many, Several, Pairs}
+use Rattle.wincode_describe.specs.Forms.{Block, Group, Record, Both, Named, Choice, LastCase, OneCase}
 use Rattle.wincode_describe.specs.Phrases.{Piece, number_of, number_front, word_front, behind_sign}
 use Rattle.wincode_describe.proofs.ReadSteps.{members_is, tuple_is}
 use Rattle.wincode_describe.specs.Readers.{Readers, readers, type_by, list_form, array_form, greatest_of}

@@ -1,35 +1,6 @@
 -- What reads answer that show their value, made of what they answer in parts.
-use Rattle.std.proofs.Common.{
-  ◌≡◌,
-  ◌∙◌,
-  sym,
-  ap,
-  subst,
-  ℕ,
-  ◌≤◌,
-  Bool,
-  true,
-  false,
-  List,
-  [],
-  ◌∷◌,
-  ◌++◌,
-  map,
-  length,
-  refl,
-  arith,
-  append_assoc,
-  append-nil,
-  Ok,
-  Err,
-  Some,
-  None,
-  inl,
-  inr,
-  lit≤,
-  Bor,
-  nat_eq,
-}
+use Rattle.std.proofs.Common.{◌≡◌, ◌∙◌, sym, ap, subst, ℕ, ◌≤◌, Bool, true, false, List, [], ◌∷◌, ◌++◌, map, length, refl, arith, append_assoc}
+use Rattle.std.proofs.Common.{append-nil, Ok, Err, Some, None, inl, inr, lit≤, Bor, nat_eq}
 use Rattle.std.specs.Prelude.{Result, Option, OnOk, IfErr, IsTrue}
 use Rattle.std.proofs.lemmas.Bool.{eqb-true}
 use Rattle.std.proofs.lemmas.List.{map-append}
@@ -62,19 +33,8 @@ use Rattle.wincode_base.proofs.Runs.{known_size, run_each, run_encoding, run_pla
 use Rattle.wincode_base.proofs.Tags.{some_gives, some_refused, option_bad, ok_gives, err_gives, ok_refused, err_refused, result_bad}
 use Rattle.wincode_describe.specs.Parts.{Part, Length, Tag, seen, part_bytes, parts_bytes}
 use Rattle.wincode_describe.specs.Explained.{Explains, ExplainsRead}
-use Rattle.wincode_describe.specs.ShownGrammars.{
-  shown_read,
-  joined,
-  Took,
-  SinkLaws,
-  ShowOutcome,
-  Began,
-  IsChosen,
-  CaseGrammars,
-  chosen_read,
-  nameless_read,
-  read_if,
-}
+use Rattle.wincode_describe.specs.ShownGrammars.{shown_read, joined, Took, SinkLaws, ShowOutcome, Began, IsChosen, CaseGrammars, chosen_read}
+use Rattle.wincode_describe.specs.ShownGrammars.{nameless_read, read_if}
 use Rattle.wincode_describe.specs.ShownLaws.{any, shown_laws}
 use Rattle.wincode_describe.specs.TypeLaws.{scheme_laws}
 use Rattle.wincode_describe.specs.TypeBytes.{HasBytes, parts_append, scheme_bytes, described_bytes}

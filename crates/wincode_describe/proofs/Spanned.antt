@@ -1,8 +1,9 @@
 -- One part more, behind others.
-use Rattle.std.proofs.Common.{◌≡◌, ◌∙◌, refl, ap, ℕ, zero, suc, ◌+◌, List, [], ◌∷◌, ◌++◌, length, arith, length-append, append-nil}
+use Rattle.std.proofs.Common.{◌≡◌, ◌∙◌, refl, ap, ℕ, zero, suc, ◌+◌, List, [], ◌∷◌, ◌++◌, length, map, arith, length-append, append-nil}
 use Rattle.std.specs.Prelude.{slice_get, ◌-◌, ◌<◌, None, Some}
 use Rattle.std.proofs.lemmas.Option.{none-some, same_Some, slice_get-get_or}
 use Rattle.wincode_describe.specs.Parts.{Part, part_bytes, parts_bytes}
+use Rattle.wincode_describe.specs.Lines.{offsets}
 use Rattle.wincode_describe.specs.Spans.{AreSpans}
 use Rattle.wincode_describe.specs.TypeBytes.{parts_append}
 use Rattle.wincode_describe.specs.declared.spans.Span.{Span}
@@ -56,3 +57,19 @@ pub spans_none : (ps : List Part) (ss : List Span) → AreSpans 0 ps ss → None
 spans_none [] ss h e = refl
 spans_none (p ∷ ps) [] h e = absurd h
 spans_none (p ∷ ps) (t ∷ ss) h e = absurd (none-some _ (e ∙ slice_get-get_or (t ∷ ss) (length (t ∷ ss) - 1) t (last_within t ss)))
+
+-- there are as many as parts
+pub spans_count : (at : ℕ) (ps : List Part) (ss : List Span) → AreSpans at ps ss → length ss ≡ length ps
+spans_count at [] [] h = refl
+spans_count at [] (t ∷ ss) h = absurd h
+spans_count at (p ∷ ps) [] h = absurd h
+spans_count at (p ∷ ps) (t ∷ ss) h = ap suc (spans_count (at + t.size) ps ss h.2)
+
+-- each begins where its part does
+pub spans_offsets : (at : ℕ) (ps : List Part) (ss : List Span) → AreSpans at ps ss → map (λ s. s.offset) ss ≡ offsets at ps
+spans_offsets at [] [] h = refl
+spans_offsets at [] (t ∷ ss) h = absurd h
+spans_offsets at (p ∷ ps) [] h = absurd h
+spans_offsets at (p ∷ ps) (t ∷ ss) h =
+    let rest = spans_offsets (at + t.size) ps ss h.2 ∙ ap (λ n. offsets (at + n) ps) h.1 in
+    ap (λ n. n ∷ map (λ s. s.offset) ss) h.0 ∙ ap (λ ns. at ∷ ns) rest

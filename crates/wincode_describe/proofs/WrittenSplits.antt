@@ -1,35 +1,6 @@
 -- What is written splits as it is spelled.
-use Rattle.std.proofs.Common.{
-  ◌≡◌,
-  ◌∙◌,
-  ap,
-  subst,
-  refl,
-  ℕ,
-  zero,
-  suc,
-  ◌<◌,
-  ◌^◌,
-  Bool,
-  true,
-  false,
-  ◌&&◌,
-  nat_lt,
-  slice_index,
-  IsAscii,
-  chars,
-  Result,
-  List,
-  [],
-  ◌∷◌,
-  ◌++◌,
-  length,
-  Option,
-  Some,
-  codes,
-  decimal,
-  arith,
-}
+use Rattle.std.proofs.Common.{◌≡◌, ◌∙◌, ap, subst, refl, ℕ, zero, suc, ◌<◌, ◌^◌, Bool, true, false, ◌&&◌, nat_lt, slice_index, IsAscii, chars, Result}
+use Rattle.std.proofs.Common.{List, [], ◌∷◌, ◌++◌, length, Option, Some, codes, decimal, arith}
 use Rattle.std.proofs.lemmas.Fmt.{digits_decimal, decimal_nonempty}
 use Rattle.std.proofs.lemmas.Bool.{lt-ltb, ltb-true}
 use Rattle.std.proofs.lemmas.List.{append_assoc}
@@ -41,31 +12,8 @@ use Rattle.std.specs.Str.Parse.{digits_value}
 use Rattle.wincode_derive_text.specs.Splits.{all_of_word, of_word, tokens_from, tokens_in}
 use Rattle.wincode_derive_text.proofs.SplitLaws.{and_left, and_right, ascii_of_word, word_before, digits_of_word}
 use Rattle.wincode_describe.proofs.ReadsBack.{type_back}
-use Rattle.wincode_describe.specs.Forms.{
-  Form,
-  seen,
-  Number,
-  Flag,
-  Letter,
-  Nothing,
-  Words,
-  Bytes,
-  ByteBlock,
-  Maybe,
-  Either,
-  Held,
-  Many,
-  Several,
-  Pairs,
-  Block,
-  Group,
-  Record,
-  Both,
-  Named,
-  Choice,
-  LastCase,
-  OneCase,
-}
+use Rattle.wincode_describe.specs.Forms.{Form, seen, Number, Flag, Letter, Nothing, Words, Bytes, ByteBlock, Maybe, Either, Held, Many, Several}
+use Rattle.wincode_describe.specs.Forms.{Pairs, Block, Group, Record, Both, Named, Choice, LastCase, OneCase}
 use Rattle.wincode_describe.specs.Phrases.{Piece}
 use Rattle.wincode_describe.specs.Readers.{Makes, Parses, and_then, ended, greatest_of, whole}
 use Rattle.wincode_describe.specs.Spelled.{word, sign, spelled, IsForm, IsType, AreFields, AreCases, IsName}

@@ -1,27 +1,6 @@
 -- What the words and signs of a type say.
-use Rattle.std.specs.Prelude.{
-  ◌≡◌,
-  ◌^◌,
-  ℕ,
-  if◌then◌else◌,
-  ◌&&◌,
-  nat_lt,
-  List,
-  [],
-  ◌∷◌,
-  length,
-  drop,
-  map,
-  bytes_eq,
-  Option,
-  Some,
-  None,
-  option_and_then,
-  option_map,
-  Result,
-  Ok,
-  Err,
-}
+use Rattle.std.specs.Prelude.{◌≡◌, ◌^◌, ℕ, if◌then◌else◌, ◌&&◌, nat_lt, List, [], ◌∷◌, length, drop, map, bytes_eq, Option, Some, None}
+use Rattle.std.specs.Prelude.{option_and_then, option_map, Result, Ok, Err}
 use Rattle.std.specs.Str.{all_ascii_digits}
 use Rattle.std.specs.Str.Parse.{digits_value}
 use Rattle.wincode_derive_text.specs.Splits.{piece}

@@ -1,56 +1,8 @@
 -- How a type is read of its words and signs.
-use Rattle.std.specs.Prelude.{
-  ◌≡◌,
-  ◌^◌,
-  ◌-◌,
-  ℕ,
-  zero,
-  suc,
-  Bool,
-  true,
-  false,
-  if◌then◌else◌,
-  nat_lt,
-  nat_eq,
-  ◌||◌,
-  List,
-  [],
-  ◌∷◌,
-  codes,
-  bytes_eq,
-  Option,
-  Some,
-  None,
-  Result,
-  Ok,
-  Err,
-  option_map,
-}
-use Rattle.wincode_describe.specs.Forms.{
-  Form,
-  seen,
-  Number,
-  Flag,
-  Letter,
-  Nothing,
-  Words,
-  Bytes,
-  ByteBlock,
-  Maybe,
-  Either,
-  Held,
-  Many,
-  Several,
-  Pairs,
-  Block,
-  Group,
-  Record,
-  Both,
-  Named,
-  Choice,
-  LastCase,
-  OneCase,
-}
+use Rattle.std.specs.Prelude.{◌≡◌, ◌^◌, ◌-◌, ℕ, zero, suc, Bool, true, false, if◌then◌else◌, nat_lt, nat_eq, ◌||◌, List, [], ◌∷◌, codes, bytes_eq}
+use Rattle.std.specs.Prelude.{Option, Some, None, Result, Ok, Err, option_map}
+use Rattle.wincode_describe.specs.Forms.{Form, seen, Number, Flag, Letter, Nothing, Words, Bytes, ByteBlock, Maybe, Either, Held, Many, Several}
+use Rattle.wincode_describe.specs.Forms.{Pairs, Block, Group, Record, Both, Named, Choice, LastCase, OneCase}
 use Rattle.wincode_describe.specs.Phrases.{Piece, behind_sign, word_front, number_front}
 use Rattle.wincode_describe.specs.declared.described.Described.{Described}
 use Rattle.wincode_describe.specs.declared.described.Integer.TheVariants.{U8, U16, U32, U64, U128, Usize, I8, I16, I32, I64, I128, Isize}

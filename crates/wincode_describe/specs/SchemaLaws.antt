@@ -18,18 +18,8 @@ use Rattle.wincode_base.specs.declared.meta.TypeMeta.TheVariants.{Static}
 use Rattle.wincode_base.specs.declared.sizes.ItemSize.{ItemSize}
 use Rattle.wincode_describe.specs.Parts.{Part, Flag, Character, Bytes, Nothing}
 use Rattle.wincode_describe.specs.ShownGrammars.{joined}
-use Rattle.wincode_describe.specs.Types.{
-  natural_shown,
-  signed_shown,
-  scheme_of,
-  text_shown,
-  bytes_shown,
-  list_shown,
-  option_shown,
-  result_shown,
-  both_shown,
-  described_read,
-}
+use Rattle.wincode_describe.specs.Types.{natural_shown, signed_shown, scheme_of, text_shown, bytes_shown, list_shown, option_shown, result_shown}
+use Rattle.wincode_describe.specs.Types.{both_shown, described_read}
 use Rattle.wincode_describe.specs.declared.described.Integer.TheVariants.{U8, U16, U32, U64, U128, Usize, I8, I16, I32, I64, I128, Isize}
 use Rattle.wincode_describe.specs.declared.described.LengthScheme.{LengthScheme}
 use Rattle.wincode_describe.specs.declared.described.LengthScheme.TheVariants.{Eight}

@@ -3,30 +3,8 @@ use Rattle.std.specs.Prelude.{◌≡◌, ◌^◌, ◌<◌, ◌≤◌, ℕ, zero,
 use Rattle.std.specs.Fmt.{decimal}
 use Rattle.wincode_derive_text.specs.Splits.{all_of_word}
 use Rattle.wincode_derive_text.specs.declared.tokens.Kind.TheVariants as kind
-use Rattle.wincode_describe.specs.Forms.{
-  Form,
-  Number,
-  Flag,
-  Letter,
-  Nothing,
-  Words,
-  Bytes,
-  ByteBlock,
-  Maybe,
-  Either,
-  Held,
-  Many,
-  Several,
-  Pairs,
-  Block,
-  Group,
-  Record,
-  Both,
-  Named,
-  Choice,
-  LastCase,
-  OneCase,
-}
+use Rattle.wincode_describe.specs.Forms.{Form, Number, Flag, Letter, Nothing, Words, Bytes, ByteBlock, Maybe, Either, Held, Many, Several, Pairs}
+use Rattle.wincode_describe.specs.Forms.{Block, Group, Record, Both, Named, Choice, LastCase, OneCase}
 use Rattle.wincode_describe.specs.Phrases.{Piece}
 use Rattle.wincode_describe.specs.Readers.{greatest_of, has_tag}
 use Rattle.wincode_describe.specs.Written.{integer_name, tag_name}

@@ -1,29 +1,6 @@
 -- The bytes of the parts of a value, joined, are its encoding.
-use Rattle.std.proofs.Common.{
-  ◌≡◌,
-  ◌∙◌,
-  sym,
-  ap,
-  ℕ,
-  ◌<◌,
-  ◌^◌,
-  Bool,
-  true,
-  false,
-  List,
-  [],
-  ◌∷◌,
-  ◌++◌,
-  length,
-  append-nil,
-  append_assoc,
-  Some,
-  None,
-  Ok,
-  Err,
-  nat_eq,
-  refl,
-}
+use Rattle.std.proofs.Common.{◌≡◌, ◌∙◌, sym, ap, ℕ, ◌<◌, ◌^◌, Bool, true, false, List, [], ◌∷◌, ◌++◌, length, append-nil, append_assoc, Some, None}
+use Rattle.std.proofs.Common.{Ok, Err, nat_eq, refl}
 use Rattle.std.specs.Prelude.{Result, Option}
 use Rattle.wincode_io.specs.NumberLaws.{le-byte}
 use Rattle.wincode_io.specs.Numbers.{le}

@@ -15,22 +15,8 @@ use Rattle.wincode_base.specs.TagLaws.{option_read_laws, result_read_laws}
 use Rattle.wincode_describe.specs.Parts.{Part, Flag, Character, Bytes, Nothing}
 use Rattle.wincode_describe.specs.ShownGrammars.{joined, nameless_read, read_if}
 use Rattle.wincode_describe.specs.ShownLaws.{any, shown_laws, CasesLaws, one_case_laws, or_case_laws, chosen_laws}
-use Rattle.wincode_describe.specs.Types.{
-  natural_shown,
-  signed_shown,
-  integer_read,
-  scheme_of,
-  text_shown,
-  bytes_shown,
-  list_shown,
-  option_shown,
-  result_shown,
-  both_shown,
-  list_of,
-  tag_bytes,
-  described_read,
-  cases_read,
-}
+use Rattle.wincode_describe.specs.Types.{natural_shown, signed_shown, integer_read, scheme_of, text_shown, bytes_shown, list_shown, option_shown}
+use Rattle.wincode_describe.specs.Types.{result_shown, both_shown, list_of, tag_bytes, described_read, cases_read}
 use Rattle.wincode_describe.specs.declared.described.Integer.{Integer}
 use Rattle.wincode_describe.specs.declared.described.Integer.TheVariants.{U8, U16, U32, U64, U128, Usize, I8, I16, I32, I64, I128, Isize}
 use Rattle.wincode_describe.specs.declared.described.LengthScheme.{LengthScheme}

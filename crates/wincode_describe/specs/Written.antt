@@ -1,30 +1,8 @@
 -- The text of a described type.
 use Rattle.std.specs.Prelude.{ℕ, List, ◌++◌, codes}
 use Rattle.std.specs.Fmt.{decimal}
-use Rattle.wincode_describe.specs.Forms.{
-  Form,
-  Number,
-  Flag,
-  Letter,
-  Nothing,
-  Words,
-  Bytes,
-  ByteBlock,
-  Maybe,
-  Either,
-  Held,
-  Many,
-  Several,
-  Pairs,
-  Block,
-  Group,
-  Record,
-  Both,
-  Named,
-  Choice,
-  LastCase,
-  OneCase,
-}
+use Rattle.wincode_describe.specs.Forms.{Form, Number, Flag, Letter, Nothing, Words, Bytes, ByteBlock, Maybe, Either, Held, Many, Several, Pairs}
+use Rattle.wincode_describe.specs.Forms.{Block, Group, Record, Both, Named, Choice, LastCase, OneCase}
 use Rattle.wincode_describe.specs.declared.described.Integer.{Integer}
 use Rattle.wincode_describe.specs.declared.described.Integer.TheVariants.{U8, U16, U32, U64, U128, Usize, I8, I16, I32, I64, I128, Isize}
 use Rattle.wincode_describe.specs.declared.described.LengthScheme.{LengthScheme}

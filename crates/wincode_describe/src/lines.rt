@@ -13,10 +13,23 @@ ghost use Rattle.std.specs.Prelude.{
   MatchOption,
   IfOk,
   OnOk,
+  is_none,
 };
 ghost use Rattle.std.specs.String.{string_bytes};
 ghost use Rattle.wincode_describe.specs.Explained.{Explains};
-ghost use Rattle.wincode_describe.specs.Lines.{IsLine, IsRefusal, EndsRefused, Tells, spaced, end_of};
+ghost use Rattle.wincode_describe.specs.Lines.{
+  IsLine,
+  IsRefusal,
+  AreLines,
+  Prints,
+  Tells,
+  TellsSource,
+  IsVerdict,
+  TellsChecked,
+  TellsCheckedSource,
+  spaced,
+  end_of,
+};
 ghost use Rattle.wincode_describe.specs.Parts.{Part, seen};
 ghost use Rattle.wincode_describe.specs.Spans.{AreSpans};
 
@@ -166,9 +179,15 @@ fn part_lines(
     places: &[String],
     spans: &[Span],
     bytes: &[u8],
-) -> Result<String, AllocError> {
+) -> Result<String, AllocError>
+    ensures { length parts.now ≡ length spans.now
+        → IfOk result (λ text. AreLines (map (λ s. s.offset) spans.now) (map string_bytes places.now) (length spans.now) (string_bytes text)) }
+{
     let mut text = String::new(alloc);
-    for (i, (part, span)) in parts.iter().zip(spans.iter()).enumerate() {
+    for (i, span) in spans.iter().enumerate() {
+        let Some(part) = parts.get(i) else {
+            return Ok(text);
+        };
         push_line(alloc, &mut text, bytes, *span, place_at(places, i), part)?;
     }
     Ok(text)
@@ -185,15 +204,16 @@ fn lines_of(
     bytes: &[u8],
 ) -> Result<String, AllocError>
     ensures { AreSpans 0 (map seen explained.now.parts.items) spans.now
-        → IfOk result (λ text. EndsRefused described.now (map seen explained.now.parts.items) explained.now.refused (string_bytes text)) }
+        → IfOk result (λ text. Prints described.now (map seen explained.now.parts.items) explained.now.refused (string_bytes text)) }
 {
     let parts = explained.parts.as_slice();
-    let places = places_of(alloc, described, parts)?;
-    let mut text = part_lines(alloc, parts, places.as_slice(), spans, bytes)?;
+    let found = places_of(alloc, described, parts)?;
+    let places = found.as_slice();
+    let mut text = part_lines(alloc, parts, places, spans, bytes)?;
     match &explained.refused {
         None => Ok(text),
         Some(error) => {
-            let place = place_at(places.as_slice(), parts.len());
+            let place = place_at(places, parts.len());
             push_refusal(alloc, &mut text, end_of(spans), place, error)?;
             Ok(text)
         }
@@ -230,7 +250,9 @@ pub fn explained_lines(
 }
 
 /// What one line says of what was checked, behind which so many bytes are left; and whether a value was read.
-fn line_of(alloc: Global, checked: &Checked, left: usize) -> Result<(bool, String), AllocError> {
+fn line_of(alloc: Global, checked: &Checked, left: usize) -> Result<(bool, String), AllocError>
+    ensures { IfOk result (λ told. (told.0 ≡ is_none checked.now.refused) × IsVerdict checked.now.bytes left checked.now.refused (string_bytes told.1)) }
+{
     let bytes = checked.bytes;
     match &checked.refused {
         None => {
@@ -238,7 +260,9 @@ fn line_of(alloc: Global, checked: &Checked, left: usize) -> Result<(bool, Strin
             Ok((true, line))
         }
         Some(error) => {
-            let line = format!(in alloc; "refused at {bytes}: {error}")?;
+            let mut line = format!(in alloc; "refused at {bytes}: ")?;
+            let why = format!(in alloc; "{error}")?;
+            line.push_str(why.as_str())?;
             Ok((false, line))
         }
     }
@@ -250,7 +274,9 @@ pub fn checked_line(
     alloc: Global,
     described: &Described,
     bytes: &[u8],
-) -> Result<(bool, String), AllocError> {
+) -> Result<(bool, String), AllocError>
+    ensures { IfOk result (λ told. TellsChecked described.now bytes.now told.0 (string_bytes told.1)) }
+{
     let checked = check::<Lifetime>(alloc, described, bytes);
     let left = bytes.len().saturating_sub(checked.bytes);
     line_of(alloc, &checked, left)
@@ -298,7 +324,9 @@ pub fn explained_source_lines<S: Source + Drop>(
     alloc: Global,
     described: &Described,
     source: S,
-) -> ReadResult<(bool, String)> {
+) -> ReadResult<(bool, String)>
+    ensures { IfOk result (λ told. TellsSource described.now (S.state source) told.0 (string_bytes told.1)) }
+{
     let explained = explain_source(alloc, described, source);
     let mut bytes = Vec::new(alloc);
     for part in explained.parts.iter() {
@@ -320,7 +348,9 @@ pub fn checked_source_line<S: Source + Drop>(
     alloc: Global,
     described: &Described,
     source: S,
-) -> ReadResult<(bool, String)> {
+) -> ReadResult<(bool, String)>
+    ensures { IfOk result (λ told. TellsCheckedSource described.now (S.state source) told.0 (string_bytes told.1)) }
+{
     let mut reader = StreamReader::new(alloc, source)?;
     let checked = check_read::<Lifetime, StreamReader<S>>(alloc, described, &mut reader);
     let left = match &checked.refused {

@@ -1,30 +1,6 @@
 -- What one writing of a cursor is, by cases and in steps.
-use Rattle.std.proofs.Common.{
-  ◌≡◌,
-  ℕ,
-  ◌+◌,
-  ◌-◌,
-  ◌<◌,
-  ◌≤◌,
-  List,
-  [],
-  ◌∷◌,
-  ◌++◌,
-  length,
-  take,
-  drop,
-  replicate,
-  refl,
-  ap,
-  sym,
-  ◌∙◌,
-  append_assoc,
-  append-nil,
-  arith,
-  length-append,
-  inl,
-  inr,
-}
+use Rattle.std.proofs.Common.{◌≡◌, ℕ, ◌+◌, ◌-◌, ◌<◌, ◌≤◌, List, [], ◌∷◌, ◌++◌, length, take, drop, replicate, refl, ap, sym, ◌∙◌, append_assoc}
+use Rattle.std.proofs.Common.{append-nil, arith, length-append, inl, inr}
 use Rattle.std.proofs.lemmas.List.{take-append-le, length-replicate, drop_all, replicate-append-replicate}
 use Rattle.std.proofs.lemmas.Bool.{cases_lt}
 use Rattle.wincode_io.specs.Places.{Placed, placed}

@@ -2,22 +2,8 @@
 use Rattle.std.specs.Prelude.{slice_set}
 use Rattle.std.specs.List.{All}
 use Rattle.std.proofs.Common.{◌≡◌, ℕ, ◌+◌, ◌*◌, ◌<◌, ◌≤◌, List, [], ◌∷◌, ◌++◌, length, take, drop, refl}
-use Rattle.std.proofs.Common.{
-  sym,
-  ap,
-  subst,
-  ◌∙◌,
-  arith,
-  get_or,
-  zero,
-  suc,
-  length-append,
-  length-take,
-  length-drop,
-  append_assoc,
-  append-nil,
-  take-append-drop,
-}
+use Rattle.std.proofs.Common.{sym, ap, subst, ◌∙◌, arith, get_or, zero, suc, length-append, length-take, length-drop, append_assoc, append-nil}
+use Rattle.std.proofs.Common.{take-append-drop}
 use Rattle.std.proofs.lemmas.List.{map_more, take_more, take_at, drop_at, drop-drop, drop_all}
 use Rattle.std.proofs.lemmas.List.Elements.{All-head, All-tail, All-append}
 use Rattle.std.proofs.Math.Seq.{take-append-add}

@@ -8,3 +8,5 @@ pub mod Ranges
 pub mod Refusals
 pub mod Resting
 pub mod Took
+pub mod KeptBytes
+pub mod SinkFronts

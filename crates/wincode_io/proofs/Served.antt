@@ -1,29 +1,6 @@
 -- When a reader doesn't refuse.
-use Rattle.std.proofs.Common.{
-  ◌≡◌,
-  sym,
-  ℕ,
-  ◌-◌,
-  ◌<◌,
-  ◌≤◌,
-  Bool,
-  true,
-  false,
-  true≢false,
-  ◌&&◌,
-  not,
-  refl,
-  List,
-  ◌++◌,
-  length,
-  take,
-  IsTrue,
-  arith,
-  ◌∙◌,
-  ap,
-  length-append,
-  length-take,
-}
+use Rattle.std.proofs.Common.{◌≡◌, sym, ℕ, ◌-◌, ◌<◌, ◌≤◌, Bool, true, false, true≢false, ◌&&◌, not, refl, List, ◌++◌, length, take, IsTrue, arith}
+use Rattle.std.proofs.Common.{◌∙◌, ap, length-append, length-take}
 use Rattle.wincode_io.specs.declared.error.ReadError.{ReadError}
 use Rattle.wincode_io.specs.declared.error.ReadError.TheVariants.{ReadSizeLimit, UnsupportedZeroCopy, Io, OutOfMemory}
 use Rattle.wincode_io.specs.Readers.{ReaderState, Stays, Loses, Windowed, IsShort, ReadRefusedFor, WindowRefusedFor}

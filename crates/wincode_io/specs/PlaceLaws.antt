@@ -1,28 +1,6 @@
 -- The laws of places.
-use Rattle.std.proofs.Common.{
-  ◌&&◌,
-  not,
-  false,
-  ◌≡◌,
-  ◌∙◌,
-  sym,
-  ap,
-  ℕ,
-  ◌+◌,
-  ◌-◌,
-  List,
-  ◌++◌,
-  length,
-  take,
-  refl,
-  arith,
-  length-append,
-  length-take,
-  IsTrue,
-  Option,
-  None,
-  Some,
-}
+use Rattle.std.proofs.Common.{◌&&◌, not, false, ◌≡◌, ◌∙◌, sym, ap, ℕ, ◌+◌, ◌-◌, List, ◌++◌, length, take, refl, arith, length-append, length-take}
+use Rattle.std.proofs.Common.{IsTrue, Option, None, Some}
 use Rattle.wincode_io.specs.Places.{Placed, placed, onward}
 use Rattle.wincode_io.specs.Readers.{ReaderState, Kept, Stays, Loses, IsOnward, is_steady}
 

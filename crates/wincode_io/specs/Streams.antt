@@ -1,23 +1,25 @@
 -- What a buffered reader is to contracts.
-use Rattle.std.specs.Prelude.{◌≡◌, ℕ, ◌+◌, ◌≤◌, ◌<◌, Bool, true, false, List, [], ◌++◌, length, drop, IsTrue, Result, Ok, Err, None}
+use Rattle.std.specs.Prelude.{◌≡◌, ℕ, ◌+◌, ◌≤◌, ◌<◌, Bool, true, false, List, [], ◌++◌, length, drop, IsTrue, Result, Ok, Err, Some}
 use Rattle.std.specs.IoError.{error_kind}
 use Rattle.std.specs.declared.io.ErrorKind.TheVariants.{Other}
 use Rattle.wincode_io.specs.Writers.{byte_limit}
 use Rattle.wincode_io.specs.declared.error.ReadError.{ReadError}
 use Rattle.wincode_io.specs.declared.error.ReadError.TheVariants.{ReadSizeLimit, UnsupportedZeroCopy, Io, OutOfMemory}
+use Rattle.wincode_io.specs.Places.{placed}
 use Rattle.wincode_io.specs.Readers.{ReaderState, nothing}
 use Rattle.wincode_io.specs.Sources.{SourceState}
 
--- bytes at hand, the source of those that follow them, whether it has ended, and whether it has failed
+-- how many bytes went by, those at hand, the source of those that follow them, whether it has ended, and whether it has failed
 pub record Streamed (S : Type 0) : Type 0 where
+  pub position : ℕ
   pub at_hand : List ℕ
   pub source : S
   pub has_ended : Bool
   pub has_failed : Bool
 
--- The bytes at hand, followed by those that will come.
-abbrev pub streaming : List ℕ → SourceState → ReaderState
-streaming at_hand s = record {
+-- Behind so many bytes: those at hand, followed by those that will come.
+abbrev pub streaming : ℕ → List ℕ → SourceState → ReaderState
+streaming position at_hand s = record {
   rest = at_hand ++ s.coming;
   ready = length at_hand;
   lends = nothing;
@@ -26,11 +28,11 @@ streaming at_hand s = record {
   failures =
       s.failures;
   is_known = s.is_known;
-  place = None;
+  place = Some (placed [] position);
 }
 
 abbrev pub stream_state : {S : Type 0} → (S → SourceState) → Streamed S → ReaderState
-stream_state state r = streaming r.at_hand (state r.source)
+stream_state state r = streaming r.position r.at_hand (state r.source)
 
 -- no more bytes will come, if what is said of them holds
 abbrev pub IsOver : SourceState → Type 0
@@ -38,6 +40,7 @@ IsOver s = IsTrue s.is_known → s.coming ≡ []
 
 -- the source was not asked, and the first k bytes at hand are gone
 pub record IsUnasked {S : Type 0} (k : ℕ) (old new : Streamed S) : Type 0 where
+  pub position : new.position ≡ old.position + k
   pub at_hand : new.at_hand ≡ drop k old.at_hand
   pub source : new.source ≡ old.source
   pub has_ended : new.has_ended ≡ old.has_ended

@@ -1,5 +1,5 @@
 //! A buffered reader over any source.
-ghost use Rattle.std.specs.Prelude.{◌≡◌, ℕ, ◌+◌, ◌*◌, ◌<◌, ◌≤◌, false, [], length, take, IfOk, IfErr, OnOk, OnErr, IsTrue, Err};
+ghost use Rattle.std.specs.Prelude.{◌≡◌, ℕ, ◌+◌, ◌*◌, ◌<◌, ◌≤◌, false, [], length, min, take, IfOk, IfErr, OnOk, OnErr, IsTrue, Err};
 ghost use Rattle.wincode_io.specs.Readers.{Stays, Readies, Loses, Takes, IsShort, IsShown, IsPeeked, BytesReadRefused, Fills, Windowed, WindowRefused, counted};
 ghost use Rattle.wincode_io.specs.FormCalls.{TakesForm, TakesForms, FormReadRefused};
 ghost use Rattle.wincode_io.specs.Writers.{byte_limit};
@@ -16,6 +16,7 @@ use super::lending::{Lending, Lifetime};
 use super::reader::Reader;
 use super::source::Source;
 use super::std_source::StdSource;
+use super::trace::Trace;
 use super::window::{CountedSliceReader, ReadWindow};
 use super::zero_copy::{ZeroCopy, read_forms, total_size};
 use std::alloc::Global;
@@ -24,26 +25,31 @@ use std::marker::Model;
 
 /// Reads from a source through a buffer, and lends nothing.
 ///
-/// To contracts it is the bytes at hand, the source, and whether that has ended or failed. What it reads are the bytes
+/// To contracts it is how many bytes went by, those at hand, the source, and whether that has ended or failed. What it reads are the bytes
 /// at hand, followed by those that will come of the source. A call for `n` bytes doesn't ask the source where `n` are at
 /// hand, nor after its end or its first failure, and leaves at most 8191 further ones at hand because it asked.
 #[derive(Drop)]
 pub struct StreamReader<S: Source> {
     source: S,
     buffer: Buffer,
+    /// How many bytes went by, up to `usize::MAX`.
+    position: usize,
+    /// Which bytes went by.
+    gone: Trace,
     has_ended: bool,
     has_failed: bool,
 }
 
 impl<S: Source> Model for StreamReader<S> {
-    ghost use Rattle.std.specs.Prelude.{ℕ, ◌<◌, IsTrue};
+    ghost use Rattle.std.specs.Prelude.{◌≡◌, ℕ, ◌<◌, length, min, IsTrue};
     ghost use Rattle.wincode_io.specs.Streams.{Streamed, IsOver};
+    ghost use Rattle.wincode_io.specs.Writers.{byte_limit};
 
     ghost Value = { Streamed S };
 
-    ghost view = { λ r. record { at_hand = r.buffer; source = r.source; has_ended = r.has_ended; has_failed = r.has_failed } };
+    ghost view = { λ r. record { position = length r.gone.bytes; at_hand = r.buffer; source = r.source; has_ended = r.has_ended; has_failed = r.has_failed } };
 
-    ghost invariant = { λ r. (IsTrue r.has_ended → IsOver (S.state r.source)) × (IsTrue r.has_failed → 0 < (S.state r.source).failures) };
+    ghost invariant = { λ r. (r.position ≡ min (length r.gone.bytes) byte_limit) × (IsTrue r.has_ended → IsOver (S.state r.source)) × (IsTrue r.has_failed → 0 < (S.state r.source).failures) };
 }
 
 impl<S: Source> StreamReader<S> {
@@ -52,7 +58,7 @@ impl<S: Source> StreamReader<S> {
     pub fn new(alloc: Global, source: S) -> ReadResult<Self>
     where
         S: Drop,
-        ensures ok { IfOk result (λ r. (r.at_hand ≡ []) × (r.source ≡ source) × (r.has_ended ≡ false) × (r.has_failed ≡ false)) }
+        ensures ok { IfOk result (λ r. (r.position ≡ 0) × (r.at_hand ≡ []) × (r.source ≡ source) × (r.has_ended ≡ false) × (r.has_failed ≡ false)) }
         ensures err { IfErr result (λ e. e ≡ ReadError.OutOfMemory) }
     {
         let Ok(buffer) = Buffer::new(alloc) else {
@@ -61,6 +67,8 @@ impl<S: Source> StreamReader<S> {
         Ok(StreamReader {
             source,
             buffer,
+            position: 0,
+            gone: Trace::new(),
             has_ended: false,
             has_failed: false,
         })
@@ -73,10 +81,20 @@ impl<S: Source> StreamReader<S> {
         let StreamReader {
             source,
             buffer: _,
+            position: _,
+            gone: _,
             has_ended: _,
             has_failed: _,
         } = self;
         source
+    }
+
+    /// How many bytes went by, since the reader was made: where the next one that it reads stands. The count stays at
+    /// `usize::MAX`.
+    pub fn position(&self) -> usize
+        ensures { result ≡ min self.now.position byte_limit }
+    {
+        self.position
     }
 
     /// The bytes at hand: they came from the source and were not read yet.
@@ -168,6 +186,8 @@ impl<S: Source> StreamReader<S> {
         ensures loses { Loses n (stream_state S.state self.old) (stream_state S.state self.new) }
         ensures unasked { IsUnasked n self.old self.new }
     {
+        self.gone.note(&self.buffer.as_slice()[..n]);
+        self.position = self.position.saturating_add(n);
         self.buffer.consume(n);
     }
 
@@ -182,6 +202,8 @@ impl<S: Source> StreamReader<S> {
         let Ok(window) = self.buffer.window(n) else {
             return Err(ReadError::OutOfMemory);
         };
+        self.gone.note(window.unread());
+        self.position = self.position.saturating_add(n);
         Ok(window)
     }
 }

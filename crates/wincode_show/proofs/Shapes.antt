@@ -1,35 +1,6 @@
 -- Recoding, from the laws of the shapes' schemas.
-use Rattle.std.proofs.Common.{
-  ◌≡◌,
-  ◌∙◌,
-  sym,
-  ap,
-  subst,
-  ℕ,
-  ◌+◌,
-  ◌*◌,
-  ◌<◌,
-  ◌≤◌,
-  ◌^◌,
-  ◌&&◌,
-  not,
-  inl,
-  inr,
-  List,
-  [],
-  ◌∷◌,
-  ◌++◌,
-  length,
-  map,
-  refl,
-  arith,
-  true,
-  false,
-  true≢false,
-  Option,
-  Some,
-  None,
-}
+use Rattle.std.proofs.Common.{◌≡◌, ◌∙◌, sym, ap, subst, ℕ, ◌+◌, ◌*◌, ◌<◌, ◌≤◌, ◌^◌, ◌&&◌, not, inl, inr, List, [], ◌∷◌, ◌++◌, length, map, refl}
+use Rattle.std.proofs.Common.{arith, true, false, true≢false, Option, Some, None}
 use Rattle.std.specs.Prelude.{IfSome, IsTrue}
 use Rattle.std.proofs.KnownBytes.{Keeps-refl}
 use Rattle.wincode_io.specs.Joins.{Each, total}
@@ -58,21 +29,8 @@ use Rattle.wincode_base.specs.declared.error.ReadError.{ReadError}
 use Rattle.wincode_base.specs.declared.error.ReadError.TheVariants as reading
 use Rattle.wincode_base.specs.declared.error.WriteError.{WriteError}
 use Rattle.wincode_base.specs.declared.error.WriteError.TheVariants as writing
-use Rattle.wincode_show.specs.Recoding.{
-  Reread,
-  RereadWriteRefused,
-  RereadRefused,
-  IsReadMemory,
-  IsReadFault,
-  IsRecodedAs,
-  RecodeAsRefused,
-  RecodeInputRefused,
-  IsKept,
-  IsRecoded,
-  RecodeRefused,
-  RelayRefused,
-  StreamRelayRefused,
-}
+use Rattle.wincode_show.specs.Recoding.{Reread, RereadWriteRefused, RereadRefused, IsReadMemory, IsReadFault, IsRecodedAs, RecodeAsRefused}
+use Rattle.wincode_show.specs.Recoding.{RecodeInputRefused, IsKept, IsRecoded, RecodeRefused, RelayRefused}
 use Rattle.wincode_show.specs.Shapes.{IsKnown, word_of, Value, byte_write, read_of, write_of}
 use Rattle.wincode_show.specs.declared.recoding.RelayError.{RelayError}
 use Rattle.wincode_show.specs.declared.recoding.RelayError.TheVariants as relay
@@ -97,11 +55,11 @@ record_one = windowed_one_text (pair_one_text (number_one_text 8 true)
 
 -- ---- what is within its limits has an encoding, of fewer than 2 to the 64 bytes
 
-able_by : {X V : Type 0} {is_valid : X → Type 0} {model : X → V} {w : WriteGrammar V} → WriteLaws is_valid model w → (v : V) → w.fits v → w.can v
+pub able_by : {X V : Type 0} {is_valid : X → Type 0} {model : X → V} {w : WriteGrammar V} → WriteLaws is_valid model w → (v : V) → w.fits v → w.can v
     × ((b : List ℕ) × w.writes v b)
 able_by laws v f = let c = laws.can_fit v f in (c, laws.has_encoding v c)
 
-able : (shape : KnownShape) (v : Value shape) → (write_of shape).fits v → (write_of shape).can v × ((b : List ℕ) × (write_of shape).writes v b)
+pub able : (shape : KnownShape) (v : Value shape) → (write_of shape).fits v → (write_of shape).can v × ((b : List ℕ) × (write_of shape).writes v b)
 able Nested v f =
     let numbers = list_write_laws {X = List ℕ} (bincode preallocation_limit) 24 (λ xs. xs) (λ n. n < 256 ^ 8) (λ n. n) (number_write 8 true)
     (number_write_laws 8 true) in
@@ -117,21 +75,21 @@ able Pairs v f =
     able_by (list_write_laws_of {X = List (ℕ × ℕ)} (bincode preallocation_limit) 24 (pair_size byte_write.meta byte_write.meta) (λ xs. xs)
     (λ p. (p.0 < 256 ^ 1) × (p.1 < 256 ^ 1)) (λ p. (p.0, p.1)) (pair_write byte_write byte_write) both) v f
 
-total_within : {V : Type 0} (fits : V → Type 0) (size : V → ℕ) (n : ℕ) → ((v : V) → fits v → size v ≤ n) → (vs : List V) → Each fits vs → total size vs
+pub total_within : {V : Type 0} (fits : V → Type 0) (size : V → ℕ) (n : ℕ) → ((v : V) → fits v → size v ≤ n) → (vs : List V) → Each fits vs → total size vs
     ≤ length vs * n
 total_within fits size n most [] f = omega arith
 total_within fits size n most (v ∷ vs) f = omega (arith, most v f.0, total_within fits size n most vs f.1)
 
-bincode_len : (limit n : ℕ) → HasEncoding (bincode limit) n → encoding_len ((bincode limit).encoding n) ≡ 8
+pub bincode_len : (limit n : ℕ) → HasEncoding (bincode limit) n → encoding_len ((bincode limit).encoding n) ≡ 8
 bincode_len limit n h = sym (encoding_of_len (bincode limit) n h.0 h.1) ∙ ap length (bincode_encoding_is limit n h.0 h.1).1 ∙ length-le 8 n
 
-short_len : (n : ℕ) → HasEncoding short_scheme n → encoding_len (short_scheme.encoding n) ≤ 3
+pub short_len : (n : ℕ) → HasEncoding short_scheme n → encoding_len (short_scheme.encoding n) ≤ 3
 short_len n h =
     let a = sym (encoding_of_len short_scheme n h.0 h.1) in
     let b = ap length (short_is n h.0 h.1).1 in
     omega (arith, a, b, groups_most 2 n)
 
-numbers_small : (v : List ℕ) → (list_write (bincode preallocation_limit) 24 (number_write 8 true)).fits v
+pub numbers_small : (v : List ℕ) → (list_write (bincode preallocation_limit) 24 (number_write 8 true)).fits v
     → (list_write (bincode preallocation_limit) 24 (number_write 8 true)).size v ≤ 4194312
 numbers_small v f = omega (arith, bincode_len preallocation_limit (length v) f.0, total_within (λ n. Unit {0}) (λ n. 8) 8 (λ n u. omega arith) v f.2, f.1.1)
 
@@ -245,11 +203,3 @@ unrelayed word shape input left old bytes (relay.Read e) known same d =
 unrelayed word shape input left old bytes (relay.Write e) known same d =
     ((shape, known), Keeps-refl old, known_input (λ all. RecodeRefused word all (relay.Write e)) input bytes same (shape, known, d))
 unrelayed word shape input left old bytes _ known same d = absurd d
-
--- ---- a source and an output
-
-pub stream_unrelayed : (word : List ℕ) (shape : KnownShape) (reader : ReaderState) (old : Option (List ℕ)) (e : RelayError) → word ≡ word_of shape
-    → RecodeInputRefused shape reader e → StreamRelayRefused word reader old old e
-stream_unrelayed word shape reader old (relay.Read e) named d = (Keeps-refl old, (shape, named, d))
-stream_unrelayed word shape reader old (relay.Write e) named d = (Keeps-refl old, (shape, named, d))
-stream_unrelayed word shape reader old _ named d = absurd d

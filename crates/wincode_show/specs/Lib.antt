@@ -1,2 +1,4 @@
 pub mod Shapes
 pub mod Recoding
+pub mod Passing
+pub mod Streaming

@@ -1,5 +1,5 @@
 -- What recoding answers.
-use Rattle.std.specs.Prelude.{⊤, ◌≡◌, ℕ, ◌^◌, ◌<◌, false, List, [], ◌++◌, length, Option, IfSome, IsTrue}
+use Rattle.std.specs.Prelude.{⊤, ◌≡◌, ℕ, ◌^◌, ◌<◌, false, List, ◌++◌, length, Option, IfSome, IsTrue}
 use Rattle.std.specs.Io.KnownBytes.{Keeps, Appends}
 use Rattle.wincode_base.specs.Grammar.{ReadGrammar, WriteGrammar}
 use Rattle.wincode_base.specs.Outcomes.{Found, SchemaReadRefused, FrontReadRefused, SerializeRefused}
@@ -112,19 +112,6 @@ RelayRefused word input left old new (relay.Read e) = IsKnown word × Keeps old 
 RelayRefused word input left old new (relay.Write e) = IsKnown word × Keeps old new × IfSome input (λ bytes. RecodeRefused word bytes (relay.Write e))
 RelayRefused word input left old new (relay.Output e) = IsKnown word × IfSome input (λ bytes. (text : List ℕ) × IsRecoded word bytes text)
 RelayRefused word input left old new relay.OutOfMemory = IsKnown word × Keeps old new
-
--- what the reader of a source has was recoded, where it is known, and its encoding and nothing else was written
-abbrev pub IsStreamRelayed : List ℕ → ReaderState → Option (List ℕ) → Option (List ℕ) → Type 0
-IsStreamRelayed word reader old new = IsKnown word × (IsTrue reader.is_known → (text : List ℕ) × IsRecoded word reader.rest text × Appends old new text)
-
--- Why relaying it was refused, and that but for an output that failed nothing was written. The reader has its buffer, so that
--- memory is wanted for reading or writing the value alone.
-abbrev pub StreamRelayRefused : List ℕ → ReaderState → Option (List ℕ) → Option (List ℕ) → RelayError → Type 0
-StreamRelayRefused word reader old new relay.UnknownShape = (IsKnown word → ⊥) × Keeps old new
-StreamRelayRefused word reader old new (relay.Input e) = ⊥
-StreamRelayRefused word reader old new (relay.Output e) = IsKnown word × (IsTrue reader.is_known → (text : List ℕ) × IsRecoded word reader.rest text)
-StreamRelayRefused word reader old new relay.OutOfMemory = ⊥
-StreamRelayRefused word reader old new e = Keeps old new × ((shape : KnownShape) × (word ≡ word_of shape) × RecodeInputRefused shape reader e)
 
 -- the input failed, or memory was wanted
 abbrev pub GatherRefused : RelayError → Type 0

@@ -6,6 +6,7 @@ use std::io::{self, ErrorKind, Read, Write};
 use thiserror::Error;
 use wincode::ReadError;
 use wincode::io::StdSource;
+use wincode_derive_text::shown;
 use wincode_describe::{
     DescribeError, Described, checked_line, checked_source_line, explained_lines,
     explained_source_lines,
@@ -14,7 +15,7 @@ use wincode_describe::{
 /// What `--help` prints.
 pub const HELP: &str = "\
 wincode_show SHAPE                          reads a value from standard input and writes it to standard output
-wincode_show relay --stream SHAPE           so, without all of the input in memory
+wincode_show relay --stream SHAPE           so, as the input comes: nested list by list, any other as one value in memory
 wincode_show explain [OPTIONS] TYPE [FILE]  the parts of the value at the front, a line each
 wincode_show check [OPTIONS] TYPE [FILE]    one line: ok, N bytes, M left; or the refusal with its offset
 wincode_show types                          what can be written in a type, with an example each
@@ -35,6 +36,9 @@ pub enum Fault {
     Relay(RelayError),
     #[error(transparent)]
     Type(DescribeError),
+    /// What is wrong with the declarations, a line each with those that show where.
+    #[error("{0}")]
+    Declared(String),
     #[error("the input can't be read: {0}")]
     Unread(io::Error),
     /// What comes of the input can't be counted to its end.
@@ -51,7 +55,7 @@ impl Fault {
     pub fn status(&self) -> u8 {
         match self {
             Fault::Relay(error) => error.status(),
-            Fault::Usage | Fault::Type(_) | Fault::Unread(_) => 2,
+            Fault::Usage | Fault::Type(_) | Fault::Declared(_) | Fault::Unread(_) => 2,
             Fault::Uncounted(_) | Fault::Unwritten(_) | Fault::OutOfMemory => 1,
         }
     }
@@ -186,6 +190,20 @@ fn type_of(text: &str) -> &str {
     }
 }
 
+/// Why a type can't be read, told with the file of its declarations where these are wrong.
+fn untyped(alloc: Global, (file, source): (&str, &str), error: DescribeError) -> Fault {
+    let DescribeError::Declaration(error) = error else {
+        return Fault::Type(error);
+    };
+    match shown(alloc, file, source, &error) {
+        Ok(mut text) => {
+            let _ = text.pop();
+            Fault::Declared(text)
+        }
+        Err(_) => Fault::OutOfMemory,
+    }
+}
+
 impl Question {
     /// What is asked, where these declarations name types.
     pub fn of(
@@ -194,10 +212,17 @@ impl Question {
         asked: &Asked,
         source: &str,
     ) -> Result<Question, Fault> {
+        let described = match Described::parse_with(alloc, source, type_of(asked.text)) {
+            Ok(described) => described,
+            Err(error) => {
+                let file = asked.types.unwrap_or("");
+                return Err(untyped(alloc, (file, source), error));
+            }
+        };
         Ok(Question {
             is_check,
             is_stream: asked.is_stream,
-            described: Described::parse_with(alloc, source, type_of(asked.text))?,
+            described,
         })
     }
 

@@ -1,9 +1,11 @@
 //! `wincode_show SHAPE`: reads a value from standard input and writes it again to standard output; `wincode_show relay
-//! --stream SHAPE`: so, without all of the input in memory; `wincode_show explain TYPE [FILE]` and `wincode_show check TYPE
-//! [FILE]`: shows bytes by their type, and says whether they begin with a value of it; `wincode_show --help` says all.
+//! --stream SHAPE`: so, as the input comes, and of lists in lists list by list; `wincode_show explain TYPE [FILE]` and
+//! `wincode_show check TYPE [FILE]`: shows bytes by their type, and says whether they begin with a value of it;
+//! `wincode_show --help` says all.
 #![tactic(auto)]
 
 mod asking;
+mod passing;
 mod recoding;
 mod relaying;
 mod streaming;
@@ -19,7 +21,7 @@ use std::process::ExitCode;
 use std::rt::{Env, Files};
 use std::{env, fs, io};
 use streaming::relay_stream;
-use wincode::io::{StdSource, StreamReader};
+use wincode::io::{StdSink, StdSource, StreamReader, StreamWriter};
 use wincode_describe::TYPES;
 
 /// Why the arguments aren't known: no memory for them, or one that is no text.
@@ -74,12 +76,15 @@ fn recode(rt: &(impl Input + Print + AllocGlobal), shape: &str) -> Result<bool, 
     Ok(true)
 }
 
-/// So, without all of the input in memory.
+/// So, without all of the input in memory, and of lists in lists one list at a time.
 fn recode_stream(rt: &(impl Input + Print + AllocGlobal), shape: &str) -> Result<bool, Fault> {
     let Ok(reader) = StreamReader::new(rt.alloc(), StdSource::new(rt.reader())) else {
         return Err(Fault::from(RelayError::OutOfMemory));
     };
-    relay_stream(rt.alloc(), shape, reader, &mut io::writer(rt))?;
+    let Ok(mut writer) = StreamWriter::new(rt.alloc(), StdSink::new(io::writer(rt))) else {
+        return Err(Fault::from(RelayError::OutOfMemory));
+    };
+    relay_stream(rt.alloc(), shape, reader, &mut writer)?;
     Ok(true)
 }
 

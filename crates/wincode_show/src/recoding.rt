@@ -12,7 +12,7 @@ use wincode::len::ShortU16Len;
 use wincode::serde::{Deserialize, Serialize};
 use wincode::{ReadError, RoundTrip, WriteError, containers};
 
-/// Why a value is not recoded. But for `Output`, nothing was written.
+/// Why a value is not recoded. But for `Output`, nothing was written, unless it was written as it was read.
 #[derive(Debug, Drop, Error)]
 pub enum RelayError {
     /// The shape's word is not known; nothing was read.
@@ -24,7 +24,7 @@ pub enum RelayError {
     /// No front of the input is an encoding of the shape, or memory for its value was refused.
     #[error(transparent)]
     Read(ReadError),
-    /// Memory for the encoding was refused.
+    /// Memory for what is to be written was refused, or it is more than the writer counts.
     #[error(transparent)]
     Write(WriteError),
     /// Writing the output failed; a part of the encoding may have gone out.

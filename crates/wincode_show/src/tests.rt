@@ -1,4 +1,5 @@
 //! The program: worked rows, and what is refused.
+mod devices;
 mod explaining;
 mod program;
 mod relaying;

@@ -1,29 +1,6 @@
 -- Encodings that are put, one after another, over the front of a list of bytes.
-use Rattle.std.proofs.Common.{
-  ◌≡◌,
-  ◌∙◌,
-  sym,
-  ap,
-  subst,
-  ℕ,
-  ◌+◌,
-  ◌*◌,
-  ◌<◌,
-  ◌≤◌,
-  List,
-  ◌++◌,
-  length,
-  map,
-  take,
-  drop,
-  get_or,
-  refl,
-  arith,
-  Some,
-  length-append,
-  length-take-le,
-  take-append-drop,
-}
+use Rattle.std.proofs.Common.{◌≡◌, ◌∙◌, sym, ap, subst, ℕ, ◌+◌, ◌*◌, ◌<◌, ◌≤◌, List, ◌++◌, length, map, take, drop, get_or, refl, arith, Some}
+use Rattle.std.proofs.Common.{length-append, length-take-le, take-append-drop}
 use Rattle.std.proofs.lemmas.List.{take_all, take-append-le, length-map}
 use Rattle.std.proofs.lemmas.Slice.{take-put_mid_below}
 use Rattle.std.proofs.Math.Seq.{take-append-add}

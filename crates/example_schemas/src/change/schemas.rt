@@ -1,7 +1,7 @@
 //! Written by `wincode_derive`: the schemas of what the module above declares.
 ghost use Rattle.std.specs.Prelude.{Ok, Err};
 ghost use Rattle.wincode_base.specs.PairLaws.{write_laws_by, reads_back_by};
-ghost use Rattle.example_schemas.specs.declared.change.Change.TheVariants.{Closed as ChangeClosed, Named as ChangeNamed};
+ghost use Rattle.example_schemas.specs.declared.change.Change.TheVariants.{Closed as Change-Closed, Named as Change-Named};
 
 use super::*;
 use std::alloc::Global;
@@ -20,7 +20,7 @@ impl EnumParts for Change {
 
     type Parts = Result<u64, String>;
 
-    ghost parts = { elim [ ChangeClosed a ↦ Ok a | ChangeNamed a ↦ Err a ] };
+    ghost parts = { elim [ Change-Closed a ↦ Ok a | Change-Named a ↦ Err a ] };
 
     fn make(made_of: Self::Parts) -> Change {
         match made_of {

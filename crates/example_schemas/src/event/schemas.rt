@@ -1,9 +1,9 @@
 //! Written by `wincode_derive` EventU8 EventU32 MarkU8: the schemas of what the module above declares.
 ghost use Rattle.std.specs.Prelude.{Ok, Err};
 ghost use Rattle.wincode_base.specs.PairLaws.{write_laws_by, reads_back_by};
-ghost use Rattle.example_schemas.specs.declared.event.Event.TheVariants.{Named as EventU8Named, Blob as EventU8Blob, Empty as EventU8Empty};
-ghost use Rattle.example_schemas.specs.declared.event.Event.TheVariants.{Named as EventU32Named, Blob as EventU32Blob, Empty as EventU32Empty};
-ghost use Rattle.example_schemas.specs.declared.event.Mark.TheVariants.{A as MarkU8A, B as MarkU8B, C as MarkU8C};
+ghost use Rattle.example_schemas.specs.declared.event.Event.TheVariants.{Named as EventU8-Named, Blob as EventU8-Blob, Empty as EventU8-Empty};
+ghost use Rattle.example_schemas.specs.declared.event.Event.TheVariants.{Named as EventU32-Named, Blob as EventU32-Blob, Empty as EventU32-Empty};
+ghost use Rattle.example_schemas.specs.declared.event.Mark.TheVariants.{A as MarkU8-A, B as MarkU8-B, C as MarkU8-C};
 
 use super::*;
 use std::alloc::Global;
@@ -23,13 +23,15 @@ impl EnumParts for EventU8 {
 
     type Parts = Result<(String, u64), Result<(String, Vec<u8>), ()>>;
 
-    ghost parts = { elim [ EventU8Named a b ↦ Ok (a, b) | EventU8Blob a b ↦ Err (Ok (a, b)) | EventU8Empty ↦ Err (Err tt) ] };
+    ghost parts = { elim [ EventU8-Named a b ↦ Ok (a, b) | EventU8-Blob a b ↦ Err (Ok (a, b)) | EventU8-Empty ↦ Err (Err tt) ] };
 
     fn make(made_of: Self::Parts) -> Event {
         match made_of {
             Ok((name, id)) => Event::Named { name, id },
-            Err(Ok((a, b))) => Event::Blob(a, b),
-            Err(Err(())) => Event::Empty,
+            Err(rest) => match rest {
+                Ok((a, b)) => Event::Blob(a, b),
+                Err(()) => Event::Empty,
+            },
         }
     }
 }
@@ -162,13 +164,15 @@ impl EnumParts for EventU32 {
 
     type Parts = Result<(String, u64), Result<(String, Vec<u8>), ()>>;
 
-    ghost parts = { elim [ EventU32Named a b ↦ Ok (a, b) | EventU32Blob a b ↦ Err (Ok (a, b)) | EventU32Empty ↦ Err (Err tt) ] };
+    ghost parts = { elim [ EventU32-Named a b ↦ Ok (a, b) | EventU32-Blob a b ↦ Err (Ok (a, b)) | EventU32-Empty ↦ Err (Err tt) ] };
 
     fn make(made_of: Self::Parts) -> Event {
         match made_of {
             Ok((name, id)) => Event::Named { name, id },
-            Err(Ok((a, b))) => Event::Blob(a, b),
-            Err(Err(())) => Event::Empty,
+            Err(rest) => match rest {
+                Ok((a, b)) => Event::Blob(a, b),
+                Err(()) => Event::Empty,
+            },
         }
     }
 }
@@ -301,13 +305,15 @@ impl EnumParts for MarkU8 {
 
     type Parts = Result<(), Result<(), ()>>;
 
-    ghost parts = { elim [ MarkU8A ↦ Ok tt | MarkU8B ↦ Err (Ok tt) | MarkU8C ↦ Err (Err tt) ] };
+    ghost parts = { elim [ MarkU8-A ↦ Ok tt | MarkU8-B ↦ Err (Ok tt) | MarkU8-C ↦ Err (Err tt) ] };
 
     fn make(made_of: Self::Parts) -> Mark {
         match made_of {
             Ok(()) => Mark::A,
-            Err(Ok(())) => Mark::B,
-            Err(Err(())) => Mark::C,
+            Err(rest) => match rest {
+                Ok(()) => Mark::B,
+                Err(()) => Mark::C,
+            },
         }
     }
 }

@@ -26,7 +26,12 @@ impl<'a> Model for FailingWriter<'a> {
 
     ghost Value = { WrittenTo };
 
-    ghost view = { λ w. record { content = (⟦<SliceWriter<'static> as Writer>⟧.state w.slice).content; slice = (⟦<SliceWriter<'static> as Writer>⟧.state w.slice).kept; made = w.made; device = w.device } };
+    ghost view = { λ w. record {
+      content = (⟦<SliceWriter<'static> as Writer>⟧.state w.slice).content;
+      slice = (⟦<SliceWriter<'static> as Writer>⟧.state w.slice).kept;
+      made = w.made;
+      device = w.device;
+    } };
 }
 
 impl<'a> FailingWriter<'a> {

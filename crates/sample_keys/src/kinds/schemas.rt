@@ -2,9 +2,9 @@
 ghost use Rattle.std.specs.Prelude.{Ok, Err, refl};
 ghost use Rattle.wincode_base.specs.PairLaws.{write_laws_by, reads_back_by};
 ghost use Rattle.wincode_derive_support.specs.Keys.{ok_same, err_same, ok_not_err, err_not_ok};
-ghost use Rattle.sample_keys.specs.contracts.kinds.KindEq.TheImpl.Laws as KindEqLaws;
-ghost use Rattle.sample_keys.specs.contracts.kinds.KindOrd.TheImpl.Laws as KindOrdLaws;
-ghost use Rattle.sample_keys.specs.declared.kinds.Kind.TheVariants.{Plain as KindPlain, Written as KindWritten, Placed as KindPlaced};
+ghost use Rattle.sample_keys.specs.contracts.kinds.KindEq.TheImpl.Laws as Kind-eq-laws;
+ghost use Rattle.sample_keys.specs.contracts.kinds.KindOrd.TheImpl.Laws as Kind-ord-laws;
+ghost use Rattle.sample_keys.specs.declared.kinds.Kind.TheVariants.{Plain as Kind-Plain, Written as Kind-Written, Placed as Kind-Placed};
 
 use super::*;
 use std::alloc::Global;
@@ -28,16 +28,18 @@ impl EnumParts for Kind {
 
     type Parts = Result<(), Result<String, (i16, i16, bool)>>;
 
-    ghost parts = { elim [ KindPlain ↦ Ok tt | KindWritten a ↦ Err (Ok a) | KindPlaced a b c ↦ Err (Err (a, b, c)) ] };
+    ghost parts = { elim [ Kind-Plain ↦ Ok tt | Kind-Written a ↦ Err (Ok a) | Kind-Placed a b c ↦ Err (Err (a, b, c)) ] };
 
     fn make(made_of: Self::Parts) -> Kind {
         match made_of {
             Ok(()) => Kind::Plain,
-            Err(Ok(a)) => Kind::Written(a),
-            Err(Err((east, north, is_high))) => Kind::Placed {
-                east,
-                north,
-                is_high,
+            Err(rest) => match rest {
+                Ok(a) => Kind::Written(a),
+                Err((east, north, is_high)) => Kind::Placed {
+                    east,
+                    north,
+                    is_high,
+                },
             },
         }
     }
@@ -187,27 +189,27 @@ impl<L: Lending> LawfulKey<L> for Kind {
 
     ghost equal = { ⟦<Kind as PartialEq>⟧.eq };
 
-    ghost equivalence = { KindEqLaws.laws-law };
+    ghost equivalence = { Kind-eq-laws.laws-law };
 
     ghost alike = { elim [
-      | KindPlain ↦ elim [ KindPlain ↦ λ e. refl | KindWritten a' ↦ λ e. ok_not_err e | KindPlaced a' b' c' ↦ λ e. ok_not_err e ]
-      | KindWritten a ↦ elim [
-        | KindPlain ↦ λ e. err_not_ok e
-        | KindWritten a' ↦ λ e. ⟦<String as LawfulKey<L>>⟧.alike a a' (ok_same (err_same e))
-        | KindPlaced a' b' c' ↦ λ e. ok_not_err (err_same e)
+      | Kind-Plain ↦ elim [ Kind-Plain ↦ λ e. refl | Kind-Written a' ↦ λ e. ok_not_err e | Kind-Placed a' b' c' ↦ λ e. ok_not_err e ]
+      | Kind-Written a ↦ elim [
+        | Kind-Plain ↦ λ e. err_not_ok e
+        | Kind-Written a' ↦ λ e. ⟦<String as LawfulKey<L>>⟧.alike a a' (ok_same (err_same e))
+        | Kind-Placed a' b' c' ↦ λ e. ok_not_err (err_same e)
       ]
-      | KindPlaced a b c ↦ elim [
-        | KindPlain ↦ λ e. err_not_ok e
-        | KindWritten a' ↦ λ e. err_not_ok (err_same e)
-        | KindPlaced a' b' c' ↦ λ e. ⟦<(i16, (i16, bool)) as LawfulKey<L>>⟧.alike (a, (b, c)) (a', (b', c')) (err_same (err_same e))
+      | Kind-Placed a b c ↦ elim [
+        | Kind-Plain ↦ λ e. err_not_ok e
+        | Kind-Written a' ↦ λ e. err_not_ok (err_same e)
+        | Kind-Placed a' b' c' ↦ λ e. ⟦<(i16, (i16, bool)) as LawfulKey<L>>⟧.alike (a, (b, c)) (a', (b', c')) (err_same (err_same e))
       ]
     ] };
 
     ghost order = { ⟦<Kind as Ord>⟧.cmp };
 
-    ghost order_total = { KindOrdLaws.total-law };
+    ghost order_total = { Kind-ord-laws.total-law };
 
-    ghost order_ties = { KindOrdLaws.matches_eq-law };
+    ghost order_ties = { Kind-ord-laws.matches_eq-law };
 }
 
 type TallyFields = (

@@ -2,12 +2,12 @@
 ghost use Rattle.std.specs.Prelude.{Ok, Err, refl};
 ghost use Rattle.wincode_base.specs.PairLaws.{write_laws_by, reads_back_by};
 ghost use Rattle.wincode_derive_support.specs.Keys.{err_same, ok_not_err, err_not_ok};
-ghost use Rattle.sample_keys.specs.contracts.marks.RangeEq.TheImpl.Laws as RangeEqLaws;
-ghost use Rattle.sample_keys.specs.contracts.marks.RangeOrd.TheImpl.Laws as RangeOrdLaws;
-ghost use Rattle.sample_keys.specs.contracts.marks.MarkEq.TheImpl.Laws as MarkEqLaws;
-ghost use Rattle.sample_keys.specs.contracts.marks.MarkOrd.TheImpl.Laws as MarkOrdLaws;
-ghost use Rattle.sample_keys.specs.declared.marks.Mark.TheVariants.{Plus as MarkPlus, Minus as MarkMinus, Other as MarkOther};
-ghost use Rattle.sample_keys.specs.declared.marks.Only.TheVariants.{Marked as OnlyMarked};
+ghost use Rattle.sample_keys.specs.contracts.marks.RangeEq.TheImpl.Laws as Range-eq-laws;
+ghost use Rattle.sample_keys.specs.contracts.marks.RangeOrd.TheImpl.Laws as Range-ord-laws;
+ghost use Rattle.sample_keys.specs.contracts.marks.MarkEq.TheImpl.Laws as Mark-eq-laws;
+ghost use Rattle.sample_keys.specs.contracts.marks.MarkOrd.TheImpl.Laws as Mark-ord-laws;
+ghost use Rattle.sample_keys.specs.declared.marks.Mark.TheVariants.{Plus as Mark-Plus, Minus as Mark-Minus, Other as Mark-Other};
+ghost use Rattle.sample_keys.specs.declared.marks.Only.TheVariants.{Marked as Only-Marked};
 
 use super::*;
 use std::alloc::Global;
@@ -286,15 +286,15 @@ impl<L: Lending> LawfulKey<L> for Range {
 
     ghost equal = { ⟦<Range as PartialEq>⟧.eq };
 
-    ghost equivalence = { RangeEqLaws.laws-law };
+    ghost equivalence = { Range-eq-laws.laws-law };
 
     ghost alike = { λ x y. ⟦<RangePairs as LawfulKey<L>>⟧.alike (x.from, x.to) (y.from, y.to) };
 
     ghost order = { ⟦<Range as Ord>⟧.cmp };
 
-    ghost order_total = { RangeOrdLaws.total-law };
+    ghost order_total = { Range-ord-laws.total-law };
 
-    ghost order_ties = { RangeOrdLaws.matches_eq-law };
+    ghost order_ties = { Range-ord-laws.matches_eq-law };
 }
 
 type MarkerFields = ();
@@ -404,13 +404,15 @@ impl EnumParts for Mark {
 
     type Parts = Result<(), Result<(), ()>>;
 
-    ghost parts = { elim [ MarkPlus ↦ Ok tt | MarkMinus ↦ Err (Ok tt) | MarkOther ↦ Err (Err tt) ] };
+    ghost parts = { elim [ Mark-Plus ↦ Ok tt | Mark-Minus ↦ Err (Ok tt) | Mark-Other ↦ Err (Err tt) ] };
 
     fn make(made_of: Self::Parts) -> Mark {
         match made_of {
             Ok(()) => Mark::Plus,
-            Err(Ok(())) => Mark::Minus,
-            Err(Err(())) => Mark::Other,
+            Err(rest) => match rest {
+                Ok(()) => Mark::Minus,
+                Err(()) => Mark::Other,
+            },
         }
     }
 }
@@ -551,19 +553,19 @@ impl<L: Lending> LawfulKey<L> for Mark {
 
     ghost equal = { ⟦<Mark as PartialEq>⟧.eq };
 
-    ghost equivalence = { MarkEqLaws.laws-law };
+    ghost equivalence = { Mark-eq-laws.laws-law };
 
     ghost alike = { elim [
-      | MarkPlus ↦ elim [ MarkPlus ↦ λ e. refl | MarkMinus ↦ λ e. ok_not_err e | MarkOther ↦ λ e. ok_not_err e ]
-      | MarkMinus ↦ elim [ MarkPlus ↦ λ e. err_not_ok e | MarkMinus ↦ λ e. refl | MarkOther ↦ λ e. ok_not_err (err_same e) ]
-      | MarkOther ↦ elim [ MarkPlus ↦ λ e. err_not_ok e | MarkMinus ↦ λ e. err_not_ok (err_same e) | MarkOther ↦ λ e. refl ]
+      | Mark-Plus ↦ elim [ Mark-Plus ↦ λ e. refl | Mark-Minus ↦ λ e. ok_not_err e | Mark-Other ↦ λ e. ok_not_err e ]
+      | Mark-Minus ↦ elim [ Mark-Plus ↦ λ e. err_not_ok e | Mark-Minus ↦ λ e. refl | Mark-Other ↦ λ e. ok_not_err (err_same e) ]
+      | Mark-Other ↦ elim [ Mark-Plus ↦ λ e. err_not_ok e | Mark-Minus ↦ λ e. err_not_ok (err_same e) | Mark-Other ↦ λ e. refl ]
     ] };
 
     ghost order = { ⟦<Mark as Ord>⟧.cmp };
 
-    ghost order_total = { MarkOrdLaws.total-law };
+    ghost order_total = { Mark-ord-laws.total-law };
 
-    ghost order_ties = { MarkOrdLaws.matches_eq-law };
+    ghost order_ties = { Mark-ord-laws.matches_eq-law };
 }
 
 type OnlyCases = OneOf<<Only as EnumShape>::Tag, <Only as EnumShape>::Cases>;
@@ -573,7 +575,7 @@ impl EnumParts for Only {
 
     type Parts = Mark;
 
-    ghost parts = { elim [ OnlyMarked a ↦ a ] };
+    ghost parts = { elim [ Only-Marked a ↦ a ] };
 
     fn make(made_of: Self::Parts) -> Only {
         match made_of {

@@ -75,7 +75,8 @@ impl<L: Lending, A: SchemaRead<L>, B: SchemaRead<L>> SchemaRead<L> for Pair<A, B
         dst: &mut Option<Pair<A::Dst, B::Dst>>,
     ) -> ReadResult<()> {
         match <PairFields<A, B> as SchemaGet<L>>::get(alloc, reader) {
-            Ok((first, second)) => {
+            Ok(parts) => {
+                let (first, second) = parts;
                 *dst = Some(Pair { first, second });
                 Ok(())
             }
@@ -271,7 +272,8 @@ impl<L: Lending, T: SchemaRead<L>> SchemaRead<L> for Page<T> {
         dst: &mut Option<Page<T::Dst>>,
     ) -> ReadResult<()> {
         match <PageFields<T> as SchemaGet<L>>::get(alloc, reader) {
-            Ok((items, next, others, both, named)) => {
+            Ok(parts) => {
+                let (items, next, others, both, named) = parts;
                 *dst = Some(Page {
                     items,
                     next,
@@ -416,7 +418,8 @@ impl<L: Lending, T: SchemaRead<L>> SchemaRead<L> for Alone<T> {
         dst: &mut Option<Alone<T::Dst>>,
     ) -> ReadResult<()> {
         match <AloneFields<T> as SchemaGet<L>>::get(alloc, reader) {
-            Ok(a) => {
+            Ok(parts) => {
+                let a = parts;
                 *dst = Some(Alone(a));
                 Ok(())
             }

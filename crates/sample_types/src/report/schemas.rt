@@ -266,8 +266,9 @@ impl EnumParts for Report {
             weight,
             pages,
             pair,
-            (is_open, begun, ended),
+            rest,
         ) = made_of;
+        let (is_open, begun, ended) = rest;
         Report {
             number,
             title,

@@ -1,7 +1,12 @@
 //! Written by `wincode_derive`: the schemas of what the module above declares.
 ghost use Rattle.std.specs.Prelude.{Ok, Err};
 ghost use Rattle.wincode_base.specs.PairLaws.{write_laws_by, reads_back_by};
-ghost use Rattle.sample_types.specs.declared.signal.Signal.TheVariants.{Start as SignalStart, Noted as SignalNoted, Moved as SignalMoved, Named as SignalNamed};
+ghost use Rattle.sample_types.specs.declared.signal.Signal.TheVariants.{
+  Start as Signal-Start,
+  Noted as Signal-Noted,
+  Moved as Signal-Moved,
+  Named as Signal-Named,
+};
 
 use super::*;
 use std::alloc::Global;
@@ -24,10 +29,10 @@ impl EnumParts for Signal {
     type Parts = Result<(), Result<Note, Result<(u32, i16), (String, Vec<u16>, u64)>>>;
 
     ghost parts = { elim [
-      | SignalStart ↦ Ok tt
-      | SignalNoted a ↦ Err (Ok a)
-      | SignalMoved a b ↦ Err (Err (Ok (a, b)))
-      | SignalNamed a b c ↦ Err (Err (Err (
+      | Signal-Start ↦ Ok tt
+      | Signal-Noted a ↦ Err (Ok a)
+      | Signal-Moved a b ↦ Err (Err (Ok (a, b)))
+      | Signal-Named a b c ↦ Err (Err (Err (
         a,
         b,
         c,
@@ -37,9 +42,13 @@ impl EnumParts for Signal {
     fn make(made_of: Self::Parts) -> Signal {
         match made_of {
             Ok(()) => Signal::Start,
-            Err(Ok(a)) => Signal::Noted(a),
-            Err(Err(Ok((a, b)))) => Signal::Moved(a, b),
-            Err(Err(Err((name, marks, at)))) => Signal::Named { name, marks, at },
+            Err(rest) => match rest {
+                Ok(a) => Signal::Noted(a),
+                Err(rest) => match rest {
+                    Ok((a, b)) => Signal::Moved(a, b),
+                    Err((name, marks, at)) => Signal::Named { name, marks, at },
+                },
+            },
         }
     }
 }

@@ -35,4 +35,13 @@ impl CountedSliceReader {
     {
         CountedSliceReader { all, place, end }
     }
+
+    /// The bytes that it has left.
+    pub(crate) fn unread(&self) -> &[u8]
+        ensures { result.now ≡ self.now }
+    {
+        let (place, end) = (self.place, self.end);
+        let bytes = self.all.as_slice();
+        &bytes[place..end]
+    }
 }

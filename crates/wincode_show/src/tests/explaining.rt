@@ -182,6 +182,22 @@ fn declared_types(rt: HostRuntime) -> Result<(), Fail> {
 }
 
 #[test]
+fn wrong_declarations(rt: HostRuntime) -> Result<(), Fail> {
+    let alloc = rt.alloc();
+    let source = "struct Point {\n    x: u8,\n    y: Arc<u8>,\n}\n";
+    let words = ["--types", "points.rs", "Vec<Point>"];
+    let said = match question(alloc, false, &words, source) {
+        Err(fault) => format!(in alloc; "{fault}")?,
+        Ok(_) => String::new(alloc),
+    };
+    assert_eq!(rt;
+        said.as_str(),
+        "points.rs:3:8: `Point.y`: no schema for `Arc<u8>`: take `Rc` or `Box`\n    y: Arc<u8>,\n       ^"
+    );
+    Ok(())
+}
+
+#[test]
 fn what_is_no_type_is_not_explained(rt: HostRuntime) -> Result<(), Fail> {
     let alloc = rt.alloc();
     assert!(rt; matches!(&question(alloc, false, &["other"], ""), Err(Fault::Type(_))));

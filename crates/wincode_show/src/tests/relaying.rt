@@ -1,9 +1,10 @@
 //! Relaying: inputs of every size, short reads and writes, devices that fail, and how it ends.
 use super::NESTED;
+use super::devices::Sink;
 use crate::recoding::{RelayError, recode};
 use crate::relaying::relay;
 use std::alloc::Global;
-use std::io::{self, ErrorKind, Read, Write};
+use std::io::{self, ErrorKind, Read};
 use std::process::Abort;
 use std::test::Fail;
 use testkit_schemas::rows::printed;
@@ -30,43 +31,6 @@ impl Read for Source<'_> {
         buf[..n].copy_from_slice(front);
         self.bytes = rest;
         Ok(n)
-    }
-}
-
-/// Takes at most `piece` bytes a call, and fails once it was asked `sound` times.
-#[derive(Drop)]
-struct Sink {
-    taken: Vec<u8>,
-    piece: usize,
-    sound: usize,
-    is_asked: bool,
-}
-
-impl Sink {
-    fn new(alloc: Global, piece: usize, sound: usize) -> Sink {
-        Sink {
-            taken: Vec::new(alloc),
-            piece,
-            sound,
-            is_asked: false,
-        }
-    }
-}
-
-impl Write for Sink {
-    fn write(&mut self, buf: &[u8]) -> io::Result<usize> {
-        self.is_asked = true;
-        if self.sound == 0 {
-            return Err(io::Error::from(ErrorKind::Other));
-        }
-        self.sound -= 1;
-        let n = self.piece.min(buf.len());
-        self.taken.extend_from_slice(&buf[..n])?;
-        Ok(n)
-    }
-
-    fn flush(&mut self) -> io::Result<()> {
-        Ok(())
     }
 }
 
@@ -196,10 +160,10 @@ fn inputs_fail(rt: &(impl Abort + AllocGlobal), text: &[u8], piece: usize, piece
         let answer = relay(alloc, "nested", &mut source, &mut sink);
         if sound <= pieces {
             assert!(rt; is_input(&answer, failure), "{sound} of {pieces}");
-            assert!(rt; !sink.is_asked);
+            assert!(rt; !sink.is_asked());
         } else {
             assert!(rt; answer.is_ok());
-            assert_eq!(rt; sink.taken.as_slice(), text);
+            assert_eq!(rt; sink.taken(), text);
         }
     }
 }
@@ -213,10 +177,10 @@ fn outputs_fail(rt: &(impl Abort + AllocGlobal), text: &[u8], piece: usize, piec
         if sound < pieces {
             assert!(rt; is_output(&answer), "{sound} of {pieces}");
             let front = text.get(..sound.saturating_mul(piece));
-            assert_eq!(rt; Some(sink.taken.as_slice()), front);
+            assert_eq!(rt; Some(sink.taken()), front);
         } else {
             assert!(rt; answer.is_ok());
-            assert_eq!(rt; sink.taken.as_slice(), text);
+            assert_eq!(rt; sink.taken(), text);
         }
     }
 }

@@ -1,13 +1,19 @@
-//! Relaying what comes of a source, in pieces.
+//! Relaying what comes of a source, in pieces, to a sink.
 use super::NESTED;
+use super::devices::{Given, Sink, Taken, WIDEST, lists_of, long_size};
 use crate::recoding::RelayError;
 use crate::relaying::relay;
 use crate::streaming::relay_stream;
 use example_schemas::faults::Pieces;
 use std::alloc::Global;
+use std::cell::Cell;
+use std::io::ErrorKind;
+use std::process::Abort;
 use std::test::Fail;
 use wincode::ReadError;
-use wincode::io::{ReadError as IoReadError, Source, StdSource, StreamReader};
+use wincode::io::{
+    MemorySink, ReadError as IoReadError, Source, StdSink, StdSource, StreamReader, StreamWriter,
+};
 
 /// The bytes in pieces of this size, with an empty one before each.
 fn in_pieces(alloc: Global, bytes: &[u8], size: usize, fails: bool) -> Result<Pieces, Fail> {
@@ -19,18 +25,21 @@ fn in_pieces(alloc: Global, bytes: &[u8], size: usize, fails: bool) -> Result<Pi
     Ok(Pieces::new(alloc, pieces, fails))
 }
 
-/// What was written, and how it ended.
+/// What the sink took, and how it ended.
 fn relayed<S: Source + Drop>(
     alloc: Global,
     shape: &str,
     source: S,
 ) -> (Vec<u8>, Result<(), RelayError>) {
-    let mut output = Vec::new(alloc);
-    let answer = match StreamReader::new(alloc, source) {
-        Ok(reader) => relay_stream(alloc, shape, reader, &mut output),
-        Err(_) => Err(RelayError::OutOfMemory),
+    let Ok(mut writer) = StreamWriter::new(alloc, MemorySink::new(alloc)) else {
+        return (Vec::new(alloc), Err(RelayError::OutOfMemory));
     };
-    (output, answer)
+    let Ok(reader) = StreamReader::new(alloc, source) else {
+        return (Vec::new(alloc), Err(RelayError::OutOfMemory));
+    };
+    let answer = relay_stream(alloc, shape, reader, &mut writer);
+    let (sink, _kept) = writer.into_sink();
+    (sink.into_bytes(), answer)
 }
 
 #[test]
@@ -100,5 +109,84 @@ fn cut_or_failing(rt: HostRuntime) -> Result<(), Fail> {
     );
     let (output, answer) = relayed(alloc, "short", in_pieces(alloc, &[0], 1, false)?);
     assert!(rt; answer.is_ok() && output.as_slice() == [0u8].as_slice());
+    Ok(())
+}
+
+/// Each front of 40 lists: refused, and what went out is a front of it, which is all but what a buffer keeps and what
+/// was read of the list that was cut.
+#[test]
+fn cut_at_many_places(rt: HostRuntime) -> Result<(), Fail> {
+    let alloc = rt.alloc();
+    let text = lists_of(alloc, 40, 100)?;
+    for n in (0..text.len()).step_by(397) {
+        let front = &text.as_slice()[..n];
+        let (output, answer) = relayed(alloc, "nested", StdSource::new(front));
+        let is_short = matches!(
+            &answer,
+            Err(RelayError::Read(ReadError::Io(IoReadError::ReadSizeLimit(_))))
+        );
+        assert!(rt; is_short && front.starts_with(output.as_slice()), "{n}");
+        assert!(rt; n <= output.len().saturating_add(9_000), "{n}");
+    }
+    let (output, answer) = relayed(alloc, "nested", StdSource::new(text.as_slice()));
+    assert!(rt; answer.is_ok() && output == text);
+    Ok(())
+}
+
+/// Relays the text to a sink that serves so many calls, of so many bytes each; whether it fails then, with a front of the
+/// text and the bytes that are kept behind that, or it took all.
+fn is_served(alloc: Global, text: &[u8], piece: usize, sound: usize) -> Result<bool, Fail> {
+    let sink = StdSink::new(Sink::new(alloc, piece, sound));
+    let Ok(mut writer) = StreamWriter::new(alloc, sink) else {
+        return Err(Fail::from("a writer"));
+    };
+    let Ok(reader) = StreamReader::new(alloc, StdSource::new(text)) else {
+        return Err(Fail::from("a reader"));
+    };
+    let answer = relay_stream(alloc, "nested", reader, &mut writer);
+    let (sink, kept) = writer.into_inner();
+    let (front, rest) = text.split_at(sink.taken().len().min(text.len()));
+    let is_front = front == sink.taken() && rest.starts_with(kept.as_slice());
+    match &answer {
+        Ok(()) => Ok(is_front && rest.is_empty()),
+        Err(RelayError::Output(error)) => Ok(is_front && error.kind() == ErrorKind::Other),
+        Err(_) => Ok(false),
+    }
+}
+
+/// Relays the text to sinks that fail at each of their calls in turn, and at none.
+fn sinks_fail(rt: &(impl Abort + AllocGlobal), piece: usize, count: usize) -> Result<(), Fail> {
+    let alloc = rt.alloc();
+    let text = lists_of(alloc, 24, 100)?;
+    for sound in 0..count {
+        assert!(rt; is_served(alloc, text.as_slice(), piece, sound)?, "{sound}");
+    }
+    assert!(rt; is_served(alloc, text.as_slice(), piece, usize::MAX)?);
+    Ok(())
+}
+
+#[test]
+fn sinks_fail_in_turn(rt: HostRuntime) -> Result<(), Fail> {
+    sinks_fail(&rt, 100, 194)?;
+    sinks_fail(&rt, 1_000, 20)
+}
+
+/// Lists that are made up as they are read, and looked at where they are written: of half a mebibyte no more than
+/// a list and what two buffers keep is on the way at any time.
+#[test]
+fn what_is_on_the_way(rt: HostRuntime) -> Result<(), Fail> {
+    let alloc = rt.alloc();
+    let (given, taken, widest) = (Cell::new(0), Cell::new(0), Cell::new(0));
+    let source = StdSource::new(Given::new(&given));
+    let Ok(mut writer) = StreamWriter::new(alloc, StdSink::new(Taken::new(&given, &taken, &widest)))
+    else {
+        return Err(Fail::from("a writer"));
+    };
+    let Ok(reader) = StreamReader::new(alloc, source) else {
+        return Err(Fail::from("a reader"));
+    };
+    relay_stream(alloc, "nested", reader, &mut writer)?;
+    assert_eq!(rt; taken.get(), long_size());
+    assert!(rt; widest.get() <= WIDEST);
     Ok(())
 }

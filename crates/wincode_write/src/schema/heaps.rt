@@ -15,6 +15,7 @@ use std::collections::BinaryHeap;
 use wincode_base::error::WriteResult;
 use wincode_base::len::{BincodeLen, PREALLOCATION_LIMIT};
 use wincode_base::meta::TypeMeta;
+use wincode_base::sizes::ItemSize;
 use wincode_io::Writer;
 
 /// A `BinaryHeap` is some list of its items, seen as the bag of them.
@@ -41,7 +42,10 @@ where
     }
 
     fn write<W: Writer>(writer: &mut W, src: &BinaryHeap<T::Src>) -> WriteResult<()> {
-        write_list::<BincodeLen<PREALLOCATION_LIMIT>, T, BinaryHeap<T::Src>, W, 24>(writer, src)
+        let size = ItemSize::of(T::type_meta());
+        write_list::<BincodeLen<PREALLOCATION_LIMIT>, T, BinaryHeap<T::Src>, W, 24>(
+            writer, src, size,
+        )
     }
 
     #[inline(always)]

@@ -17,7 +17,8 @@ use wincode_io::Writer;
 
 /// Writes bytes as they are, all or nothing.
 fn write_bytes<W: Writer>(writer: &mut W, items: &[u8]) -> WriteResult<()>
-    ensures { WrittenAtOnce 1 (length items.now) (number_write 1 true) (W.state writer.old) (W.state writer.new) (map (λ v. v) items.now) (Each (λ v. v < 256 ^ 1) items.now) result }
+    ensures { WrittenAtOnce 1 (length items.now) (number_write 1 true)
+        (W.state writer.old) (W.state writer.new) (map (λ v. v) items.now) (Each (λ v. v < 256 ^ 1) items.now) result }
 {
     writer.write(items)?;
     Ok(())
@@ -54,7 +55,8 @@ impl SchemaWrite for u8 {
     #[inline(always)]
     fn write_at_once<W: Writer>(writer: &mut W, items: &[u8]) -> Option<WriteResult<()>>
         ensures always { IsSome result }
-        ensures done { IfSome result (λ r. WrittenAtOnce 1 (length items.now) (number_write 1 true) (W.state writer.old) (W.state writer.new) (map (λ v. v) items.now) (Each (λ v. v < 256 ^ 1) items.now) r) }
+        ensures done { IfSome result (λ r. WrittenAtOnce 1 (length items.now) (number_write 1 true)
+            (W.state writer.old) (W.state writer.new) (map (λ v. v) items.now) (Each (λ v. v < 256 ^ 1) items.now) r) }
         ensures left { IsNone result → W.state writer.new ≡ W.state writer.old }
     {
         Some(write_bytes::<W>(writer, items))

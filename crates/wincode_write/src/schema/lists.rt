@@ -16,6 +16,7 @@ use std::collections::{LinkedList, VecDeque};
 use wincode_base::error::WriteResult;
 use wincode_base::len::{BincodeLen, NO_LIMIT, PREALLOCATION_LIMIT};
 use wincode_base::meta::TypeMeta;
+use wincode_base::sizes::ItemSize;
 use wincode_io::Writer;
 
 /// A `Vec` is the list of its items.
@@ -39,7 +40,12 @@ impl<T: SchemaWrite> SchemaWrite for Vec<T> {
     }
 
     fn write<W: Writer>(writer: &mut W, src: &Vec<T::Src>) -> WriteResult<()> {
-        write_list::<BincodeLen<PREALLOCATION_LIMIT>, T, &[T::Src], W, 24>(writer, &src.as_slice())
+        let size = ItemSize::of(T::type_meta());
+        write_list::<BincodeLen<PREALLOCATION_LIMIT>, T, &[T::Src], W, 24>(
+            writer,
+            &src.as_slice(),
+            size,
+        )
     }
 
     #[inline]
@@ -90,7 +96,8 @@ impl<T: SchemaWrite> SchemaWrite for VecDeque<T> {
     }
 
     fn write<W: Writer>(writer: &mut W, src: &VecDeque<T::Src>) -> WriteResult<()> {
-        write_list::<BincodeLen<PREALLOCATION_LIMIT>, T, VecDeque<T::Src>, W, 24>(writer, src)
+        let size = ItemSize::of(T::type_meta());
+        write_list::<BincodeLen<PREALLOCATION_LIMIT>, T, VecDeque<T::Src>, W, 24>(writer, src, size)
     }
 
     #[inline(always)]
@@ -143,7 +150,10 @@ impl<T: SchemaWrite> SchemaWrite for LinkedList<T> {
     }
 
     fn write<W: Writer>(writer: &mut W, src: &LinkedList<T::Src>) -> WriteResult<()> {
-        write_list::<BincodeLen<PREALLOCATION_LIMIT>, T, LinkedList<T::Src>, W, 24>(writer, src)
+        let size = ItemSize::of(T::type_meta());
+        write_list::<BincodeLen<PREALLOCATION_LIMIT>, T, LinkedList<T::Src>, W, 24>(
+            writer, src, size,
+        )
     }
 
     #[inline(always)]
@@ -196,7 +206,8 @@ impl<'a, U: 'a, T: SchemaWrite<Src = U>> SchemaWrite for &'a [T] {
     }
 
     fn write<W: Writer>(writer: &mut W, src: &&'a [U]) -> WriteResult<()> {
-        write_list::<BincodeLen<NO_LIMIT>, T, &'a [U], W, 16>(writer, src)
+        let size = ItemSize::of(T::type_meta());
+        write_list::<BincodeLen<NO_LIMIT>, T, &'a [U], W, 16>(writer, src, size)
     }
 
     fn write_at_once<W: Writer>(writer: &mut W, items: &[&'a [U]]) -> Option<WriteResult<()>> {

@@ -20,7 +20,7 @@ ghost use Rattle.wincode_base.specs.ScatteredLaws.{scattered_write_laws_of, scat
 ghost use Rattle.wincode_base.specs.ItemSizes.{pair_size};
 
 use crate::schema::SchemaWrite;
-use crate::schema::to_items::{size_of_list, write_list, write_list_of};
+use crate::schema::to_items::{size_of_list, write_list};
 use std::collections::{BTreeMap, BTreeSet, HashMap, HashSet};
 use std::hash::Hash;
 use wincode_base::error::WriteResult;
@@ -60,7 +60,7 @@ where
 
     fn write<W: Writer>(writer: &mut W, src: &BTreeMap<K::Src, V::Src>) -> WriteResult<()> {
         let size = ItemSize::of_pair(K::type_meta(), V::type_meta());
-        write_list_of::<
+        write_list::<
             BincodeLen<PREALLOCATION_LIMIT>,
             Members2<K, V>,
             BTreeMap<K::Src, V::Src>,
@@ -130,7 +130,7 @@ where
 
     fn write<W: Writer>(writer: &mut W, src: &HashMap<K::Src, V::Src>) -> WriteResult<()> {
         let size = ItemSize::of_pair(K::type_meta(), V::type_meta());
-        write_list_of::<
+        write_list::<
             BincodeLen<PREALLOCATION_LIMIT>,
             Members2<K, V>,
             HashMap<K::Src, V::Src>,
@@ -193,7 +193,8 @@ where
     }
 
     fn write<W: Writer>(writer: &mut W, src: &BTreeSet<K::Src>) -> WriteResult<()> {
-        write_list::<BincodeLen<PREALLOCATION_LIMIT>, K, BTreeSet<K::Src>, W, 24>(writer, src)
+        let size = ItemSize::of(K::type_meta());
+        write_list::<BincodeLen<PREALLOCATION_LIMIT>, K, BTreeSet<K::Src>, W, 24>(writer, src, size)
     }
 
     #[inline(always)]
@@ -249,7 +250,8 @@ where
     }
 
     fn write<W: Writer>(writer: &mut W, src: &HashSet<K::Src>) -> WriteResult<()> {
-        write_list::<BincodeLen<PREALLOCATION_LIMIT>, K, HashSet<K::Src>, W, 24>(writer, src)
+        let size = ItemSize::of(K::type_meta());
+        write_list::<BincodeLen<PREALLOCATION_LIMIT>, K, HashSet<K::Src>, W, 24>(writer, src, size)
     }
 
     #[inline(always)]

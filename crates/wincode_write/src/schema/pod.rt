@@ -62,8 +62,8 @@ impl<T: ZeroCopy> SchemaWrite for Pod<T> {
     #[inline(always)]
     fn write_at_once<W: Writer>(writer: &mut W, items: &[T]) -> Option<WriteResult<()>>
         ensures always { IsSome result }
-        ensures done { IfSome result (λ r. WrittenAtOnce T.size (length items.now) (form_write T.is_valid T.size T.form true (form_prealloc T.size)) (W.state writer.old) (W.state writer.new) (map (λ v. v) items.now)
-            (Each T.is_valid items.now) r) }
+        ensures done { IfSome result (λ r. WrittenAtOnce T.size (length items.now) (form_write T.is_valid T.size T.form true (form_prealloc T.size))
+            (W.state writer.old) (W.state writer.new) (map (λ v. v) items.now) (Each T.is_valid items.now) r) }
         ensures left { IsNone result → W.state writer.new ≡ W.state writer.old }
     {
         Some(write_pods::<T, W>(writer, items))

@@ -16,18 +16,31 @@ ghost use Rattle.wincode_base.specs.ItemSizes.{IsWriteItemSize};
 
 use crate::schema::SchemaWrite;
 use crate::schema::encoded::{short_size, write_item};
-use crate::schema::runs::write_many;
+use crate::schema::runs::encode_first;
 use crate::schema::tuples::{encode_front_members_2, size_of_members_2};
 use std::collections::{BTreeMap, BTreeSet, BinaryHeap, HashMap, HashSet, LinkedList, VecDeque};
 use std::hash::Hash;
 use wincode_base::error::{WriteResult, write_length_encoding_overflow};
 use wincode_base::len::SeqLen;
+use wincode_base::meta::TypeMeta;
 use wincode_base::parts::{Member, Members2};
 use wincode_base::sizes::{ItemSize, checked_sum};
 use wincode_io::{WriteWindow, Writer};
 
 /// How many bytes of pairs are put together at a time.
 const BLOCK: usize = 1024;
+
+/// How many bytes of other encodings are put together at a time.
+const RUN: usize = 2048;
+
+/// How many items go as their schema writes them, once two that follow each other were not put together.
+const APART: usize = 64;
+
+/// The longest byte form, in bytes, of which many are written by the schema's own `write_items`.
+const SMALL: usize = 16;
+
+/// How many items are written one by one, where a block for them costs more.
+const FEW: usize = 4;
 
 /// Items that are gone over in order, by reference.
 pub trait ToItems<T: SchemaWrite> {
@@ -80,7 +93,8 @@ pub(crate) fn write_apart<T: SchemaWrite, W: Writer>(
     Ok(())
 }
 
-/// They are written by the schema's `write_items`.
+/// More than a few that are put together are written a block at a time, for which the writer has room at hand, and others
+/// as their schema writes them, those too whose form is as short as in memory.
 impl<'a, U: 'a, T: SchemaWrite<Src = U>> ToItems<T> for &'a [U] {
     ghost listed = { λ s. s.now };
 
@@ -105,7 +119,33 @@ impl<'a, U: 'a, T: SchemaWrite<Src = U>> ToItems<T> for &'a [U] {
     }
 
     fn write_to<W: Writer>(&self, writer: &mut W) -> WriteResult<()> {
-        write_many::<T, W>(writer, *self)
+        let items: &[U] = *self;
+        let is_short_form = match T::type_meta() {
+            TypeMeta::Static { size, zero_copy } => zero_copy && size <= SMALL,
+            TypeMeta::Dynamic => false,
+        };
+        if is_short_form || items.len() <= FEW {
+            return T::write_items::<W>(writer, items);
+        }
+        let mut block = [0; RUN];
+        let mut rest = items;
+        let mut apart = 1;
+        while !rest.is_empty() {
+            let room = writer.room_at_hand().min(RUN);
+            let (count, filled) = encode_first::<T>(rest, &mut block[..room]);
+            if count == 0 {
+                let (run, more) = rest.split_at(rest.len().min(apart));
+                T::write_items::<W>(writer, run)?;
+                rest = more;
+                apart = APART;
+            } else {
+                writer.write_ready(&block[..filled]);
+                let (_written, more) = rest.split_at(count);
+                rest = more;
+                apart = 1;
+            }
+        }
+        Ok(())
     }
 }
 
@@ -127,8 +167,8 @@ impl<U, T: SchemaWrite<Src = U>> ToItems<T> for VecDeque<U> {
 
     fn write_to<W: Writer>(&self, writer: &mut W) -> WriteResult<()> {
         let (front, back) = self.as_slices();
-        write_many::<T, W>(writer, front)?;
-        write_many::<T, W>(writer, back)
+        ToItems::<T>::write_to::<W>(&front, writer)?;
+        ToItems::<T>::write_to::<W>(&back, writer)
     }
 }
 
@@ -173,7 +213,7 @@ impl<U: Ord, T: SchemaWrite<Src = U>> ToItems<T> for BinaryHeap<U> {
     }
 
     fn write_to<W: Writer>(&self, writer: &mut W) -> WriteResult<()> {
-        write_many::<T, W>(writer, self.as_slice())
+        ToItems::<T>::write_to::<W>(&self.as_slice(), writer)
     }
 }
 
@@ -393,13 +433,11 @@ fn write_parts<Len: SeqLen, T: SchemaWrite, C: ToItems<T>, W: Writer, const COUN
 /// Writes a list of items of this size, through one window of all of it where the size is known: then
 /// it asks for the length's encoding, for the total and for the room, in this order.
 #[inline]
-pub(crate) fn write_list_of<
-    Len: SeqLen,
-    T: SchemaWrite,
-    C: ToItems<T>,
-    W: Writer,
-    const COUNT: usize,
->(writer: &mut W, src: &C, size: ItemSize) -> WriteResult<()>
+pub fn write_list<Len: SeqLen, T: SchemaWrite, C: ToItems<T>, W: Writer, const COUNT: usize>(
+    writer: &mut W,
+    src: &C,
+    size: ItemSize,
+) -> WriteResult<()>
     requires size { IsWriteItemSize T.writing size }
     ensures outcome { WriteOutcome (list_write_of Len.scheme COUNT size T.writing) (W.state writer.old) (W.state writer.new) (map T.model (C.listed src.now))
         (Each T.is_valid (C.listed src.now)) result }
@@ -419,16 +457,4 @@ pub(crate) fn write_list_of<
     write_parts::<Len, T, C, WriteWindow<'_, W>, COUNT>(&mut window, src)?;
     window.finish()?;
     Ok(())
-}
-
-/// Writes a list.
-#[inline]
-pub fn write_list<Len: SeqLen, T: SchemaWrite, C: ToItems<T>, W: Writer, const COUNT: usize>(
-    writer: &mut W,
-    src: &C,
-) -> WriteResult<()>
-    ensures outcome { WriteOutcome (list_write Len.scheme COUNT T.writing) (W.state writer.old) (W.state writer.new) (map T.model (C.listed src.now)) (Each T.is_valid (C.listed src.now)) result }
-    ensures sound { C.sound src.now }
-{
-    write_list_of::<Len, T, C, W, COUNT>(writer, src, ItemSize::of(T::type_meta()))
 }

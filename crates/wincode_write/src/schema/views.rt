@@ -13,7 +13,7 @@ use wincode_base::error::{WriteResult, write_length_encoding_overflow};
 use wincode_base::len::{BincodeLen, NO_LIMIT};
 use wincode_base::meta::TypeMeta;
 use wincode_base::parts::Pod;
-use wincode_base::sizes::form_meta;
+use wincode_base::sizes::{ItemSize, form_meta};
 use wincode_io::{Held, SharedBytes, SliceView, View, Writer, ZeroCopy, see_bytes};
 
 /// A `Ref` is written as the form that it views.
@@ -121,7 +121,8 @@ impl<B: SharedBytes, T: ZeroCopy> SchemaWrite for SliceView<B, T> {
     }
 
     fn write<W: Writer>(writer: &mut W, src: &SliceView<B, T>) -> WriteResult<()> {
-        write_list::<BincodeLen<NO_LIMIT>, Pod<T>, SliceView<B, T>, W, 16>(writer, src)
+        let size = ItemSize::of(Pod::<T>::type_meta());
+        write_list::<BincodeLen<NO_LIMIT>, Pod<T>, SliceView<B, T>, W, 16>(writer, src, size)
     }
 
     #[inline(always)]

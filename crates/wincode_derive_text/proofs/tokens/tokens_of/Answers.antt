@@ -1,4 +1,4 @@
-use Rattle.std.proofs.Common.{[], List, length, refl, rules}
+use Rattle.std.proofs.Common.{[], length, refl, rules}
 use Rattle.std.proofs.lemmas.Iterator.{YieldsList-from_chars}
 use Rattle.std.proofs.lemmas.Iterator.Consumers.{YieldsList-turn, YieldsList-end}
 use Rattle.std.proofs.lemmas.List.{length_push}
@@ -6,11 +6,14 @@ use Rattle.std.proofs.lemmas.Result.{err_from_is_err_and}
 use Rattle.std.specs.Str.{chars}
 use Rattle.wincode_derive_text.specs.Splits.{tokens_in}
 use Rattle.wincode_derive_text.proofs.Splitting.{left_turn, left_step, left_refused, left_ended, left_last, left_not_between, left_first}
+use Rattle.wincode_derive_text.specs.declared.tokens.Mark.{Mark}
 use Rattle.wincode_derive_text.specs.declared.tokens.Place.TheVariants as place
 use Rattle.wincode_derive_text.proofs.tokens.tokens_of.Goals as goal
 
 pub loop-c-init : goal.loop-c-init
-loop-c-init c = left_first (record { tokens = c.new.result; word = c.new-2.result; place = place.Between; line = 1; at = 0; begin = 0 })
+loop-c-init c =
+    let first : Mark = record { line = 1; column = 1; at = 0 } in
+    left_first (record { tokens = c.new.result; word = c.new-2.result; place = place.Between; here = first; begin = first; depth = 0 })
     (chars c.args.source.now) c.new.ensures.items c.new-2.ensures.bytes refl
 
 pub loop-c-preserved : goal.loop-c-preserved

@@ -7,32 +7,9 @@ use Rattle.wincode_describe.specs.Forms.{seen, seen_cases}
 use Rattle.wincode_describe.specs.Phrases.{left, word_front}
 use Rattle.wincode_describe.specs.Readers.{and_then, readers, array_or_word, word_by, several_by, unread, tag_of, plain_of, opening_of}
 use Rattle.wincode_describe.specs.declared.parsing.Opening.TheVariants as opening
-use Rattle.wincode_describe.proofs.ReadSteps.{
-  next_ok,
-  next_err,
-  next_word,
-  made,
-  sign_taken,
-  sign_left,
-  one_level,
-  no_level,
-  below_is,
-  members_is,
-  tuple_is,
-  below_members,
-  below_members_is,
-  word_plain,
-  word_opening,
-  no_word,
-  chosen_is,
-  chosen_is_none,
-  test_true,
-  test_false,
-  parsed_no_tokens,
-  parsed_err,
-  parsed_ok,
-  parsed_more,
-}
+use Rattle.wincode_describe.proofs.ReadSteps.{next_ok, next_err, next_word, made, sign_taken, sign_left, one_level, no_level, below_is, members_is}
+use Rattle.wincode_describe.proofs.ReadSteps.{tuple_is, below_members, below_members_is, word_plain, word_opening, no_word, chosen_is, chosen_is_none}
+use Rattle.wincode_describe.proofs.ReadSteps.{test_true, test_false, parsed_no_tokens, parsed_err, parsed_ok, parsed_more}
 use Rattle.wincode_describe.proofs.parsing.+parsing.Goals as goal
 
 pub members_at-returns-in_err-first : goal.members_at-returns-in_err-first

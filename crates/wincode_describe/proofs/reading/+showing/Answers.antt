@@ -20,49 +20,12 @@ use Rattle.wincode_io.specs.Joins.{AreItems}
 use Rattle.wincode_describe.specs.Types.{described_read, cases_read, list_of, scheme_of, list_shown, both_shown, option_shown, result_shown, tag_bytes}
 use Rattle.wincode_describe.specs.declared.shown.Shown.TheVariants as shown
 use Rattle.wincode_describe.proofs.Shows.{began_none, began_took, began_gave, began_behind, behind_here, behind_window, behind_gave, tag_joined, length_joined}
-use Rattle.wincode_describe.proofs.Shows.{
-  show_refused,
-  show_map,
-  show_as,
-  joined_snoc,
-  shown_gives,
-  shown_refused,
-  shown_unspared,
-  shown_memory,
-  run_gives,
-  run_refused,
-  length_refused,
-  run_dynamic,
-  run_window_gives,
-  run_window_refused,
-}
-use Rattle.wincode_describe.proofs.Shows.{
-  run_unwindowed,
-  run_overflows,
-  array_window_gives,
-  array_window_refused,
-  array_unwindowed,
-  parts_window_gives,
-  parts_window_refused,
-  parts_unwindowed,
-}
-use Rattle.wincode_describe.proofs.Shows.{
-  option_shows,
-  option_unshown,
-  option_nameless,
-  side_unshown,
-  ok_shows,
-  err_shows,
-  ok_unshown,
-  err_unshown,
-  side_nameless,
-  chosen_gives,
-  chosen_first,
-  chosen_second,
-  chosen_memory,
-  option_first,
-  case_nameless,
-}
+use Rattle.wincode_describe.proofs.Shows.{show_refused, show_map, show_as, joined_snoc, shown_gives, shown_refused, shown_unspared, shown_memory}
+use Rattle.wincode_describe.proofs.Shows.{run_gives, run_refused, length_refused, run_dynamic, run_window_gives, run_window_refused}
+use Rattle.wincode_describe.proofs.Shows.{run_unwindowed, run_overflows, array_window_gives, array_window_refused, array_unwindowed}
+use Rattle.wincode_describe.proofs.Shows.{parts_window_gives, parts_window_refused, parts_unwindowed}
+use Rattle.wincode_describe.proofs.Shows.{option_shows, option_unshown, option_nameless, side_unshown, ok_shows, err_shows, ok_unshown, err_unshown}
+use Rattle.wincode_describe.proofs.Shows.{side_nameless, chosen_gives, chosen_first, chosen_second, chosen_memory, option_first, case_nameless}
 use Rattle.wincode_describe.proofs.reading.+showing.Goals as goal
 
 -- ---- windows

@@ -5,4 +5,4 @@ use Rattle.wincode.proofs.containers.BinaryHeapSchemaWrite.write.Goals as goal
 pub returns : goal.returns
 returns g c =
     let T = g.T.SchemaWrite in
-    scattered_outcome g.Len.SeqLen.scheme (item_size T.writing.meta) T.writing _ _ c.write_list.ensures.outcome
+    scattered_outcome g.Len.SeqLen.scheme (item_size T.writing.meta) T.writing _ _ (rw (c.of-size.ensures, c.type_meta.ensures) at c.write_list.ensures.outcome)

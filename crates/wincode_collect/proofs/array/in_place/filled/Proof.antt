@@ -10,33 +10,8 @@ use seplogic.Ra.Ura.{Ura}
 use base.Fraction.{full_share}
 use base.Logic.{SProp, ent, sep, emp, wand, wand_i, apply∗, id⊢}
 use base.Fml.{ftrue, fat, froom, flft}
-use mir.Syntax.{
-  Fn,
-  Ty,
-  Sym,
-  Args,
-  Dict,
-  Callee,
-  Width,
-  w8,
-  w16,
-  w32,
-  w64,
-  w128,
-  named,
-  a_type,
-  a_number,
-  dcons,
-  dnil,
-  ty_int,
-  ty_array,
-  ty_struct,
-  ty_enum,
-  tcons,
-  tnil,
-  ttcons,
-  ttnil,
-}
+use mir.Syntax.{Fn, Ty, Sym, Args, Dict, Callee, Width, w8, w16, w32, w64, w128, named, a_type, a_number, dcons, dnil, ty_int, ty_array, ty_struct}
+use mir.Syntax.{ty_enum, tcons, tnil, ttcons, ttnil}
 use mir.Syntax.{Body, seq, assign, place, rv_opd, copy, aggregate, int}
 use mir.MapTy.{inst_fn}
 use mir.Val.{Val, vint, vstruct, vcons, vnil, of_list, bytes, has_ty, WT}
@@ -50,41 +25,8 @@ use contract.Lifetimes.{Lfts}
 use contract.Monad.{Fun, fact, fact_i}
 use contract.Running.{tables, tables_of}
 use sound.WpLaws.{fm_of, WpFn-mono}
-use types.Kit.{
-  any_q,
-  ‵,
-  raw,
-  ◌⊛◌,
-  some,
-  later,
-  at_ret,
-  ◌$◌,
-  ◌∵◌,
-  !,
-  qed,
-  by,
-  move,
-  keep,
-  drop,
-  use0,
-  use1,
-  use2,
-  use3,
-  split,
-  split3,
-  join,
-  fsplit,
-  fsplit3,
-  fjoin,
-  fpick,
-  feq_i,
-  feq_l,
-  pick,
-  rewrite,
-  suffices,
-  await,
-  done,
-}
+use types.Kit.{any_q, ‵, raw, ◌⊛◌, some, later, at_ret, ◌$◌, ◌∵◌, !, qed, by, move, keep, drop, use0, use1, use2, use3, split, split3, join, fsplit}
+use types.Kit.{fsplit3, fjoin, fpick, feq_i, feq_l, pick, rewrite, suffices, await, done}
 use types.Part.{whole, sub, agg}
 use types.Match.{live}
 use types.Run.{stop, fld, addr, from, load, look, lit, num_lit, align_word, no_more, and_then, of_opd, bin, first, blocks, branches, exec, returns, enter}
@@ -142,23 +84,8 @@ use types.Kit.{given, learn}
 use types.ByLocal.{lands_last, is}
 use Rattle.std_alloc.proofs.VecSteps.El.{El as Elem, no_al}
 use Rattle.std_alloc.proofs.vec.Blocks.{el, all as places-at}
-use Rattle.std_alloc.proofs.vec.Spares.{
-  Row,
-  row_Typed,
-  parts_typed,
-  Row-seen,
-  from_key,
-  into_key,
-  From,
-  at_from,
-  Made,
-  from_goes,
-  from_gives,
-  Into,
-  at_into,
-  Into-goes,
-  Into-gives,
-}
+use Rattle.std_alloc.proofs.vec.Spares.{Row, row_Typed, parts_typed, Row-seen, from_key, into_key, From, at_from, Made, from_goes, from_gives, Into}
+use Rattle.std_alloc.proofs.vec.Spares.{at_into, Into-goes, Into-gives}
 use Rattle.core.proofs.slots.Slots.from_raw_parts.Met as froms
 use Rattle.core.proofs.slots.Slots.into_raw_parts.Met as intos
 

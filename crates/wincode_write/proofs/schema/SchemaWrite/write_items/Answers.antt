@@ -7,12 +7,8 @@ use Rattle.wincode_base.specs.declared.error.WriteError.TheVariants as writing
 use Rattle.wincode_base.proofs.InWindow.{short_halted}
 use Rattle.wincode_base.proofs.Lists.{items_after, items_stopped, items_place, item_place}
 use Rattle.wincode_base.proofs.WriteAnswers.{write_refused}
-use Rattle.wincode_write.proofs.schema.SchemaWrite.write_items.Goals.{
-  in-Static,
-  in-Dynamic,
-  then-size-le-LONGEST+then-encode+in_ok-write,
-  else-size-le-LONGEST+in_ok-write-2,
-}
+use Rattle.wincode_write.proofs.schema.SchemaWrite.write_items.Goals.{in-Static, in-Dynamic, then-size-le-LONGEST+then-encode+in_ok-write}
+use Rattle.wincode_write.proofs.schema.SchemaWrite.write_items.Goals.{else-size-le-LONGEST+in_ok-write-2}
 use Rattle.wincode_write.proofs.schema.SchemaWrite.write_items.Goals as goal
 
 pub loop-item-init : goal.loop-item-init

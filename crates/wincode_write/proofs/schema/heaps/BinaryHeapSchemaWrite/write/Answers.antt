@@ -6,4 +6,4 @@ use Rattle.wincode_write.proofs.schema.heaps.BinaryHeapSchemaWrite.write.Goals a
 pub returns : goal.returns
 returns g c =
     let T = g.T.SchemaWrite in
-    scattered_outcome (bincode preallocation_limit) (item_size T.writing.meta) T.writing _ _ c.write_list.ensures.outcome
+    scattered_outcome (bincode preallocation_limit) (item_size T.writing.meta) T.writing _ _ (rw (c.of-size.ensures, c.type_meta.ensures) at c.write_list.ensures.outcome)

@@ -3,4 +3,4 @@ use Rattle.wincode_write.proofs.schema.maps.BTreeSetSchemaWrite.write.Goals as g
 
 pub returns : goal.returns
 returns g c =
-    sound_outcome _ _ _ _ c.write_list.ensures.sound _ c.write_list.ensures.outcome
+    sound_outcome _ _ _ _ c.write_list.ensures.sound _ (rw (c.of-size.ensures, c.type_meta.ensures) at c.write_list.ensures.outcome)

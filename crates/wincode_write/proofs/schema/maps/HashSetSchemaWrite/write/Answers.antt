@@ -8,4 +8,4 @@ pub returns : goal.returns
 returns g c =
     let K = g.K.SchemaWrite in
     sound_outcome _ _ _ _ c.write_list.ensures.sound _ (scattered_outcome (bincode preallocation_limit) (item_size K.writing.meta)
-    K.writing _ _ c.write_list.ensures.outcome)
+    K.writing _ _ (rw (c.of-size.ensures, c.type_meta.ensures) at c.write_list.ensures.outcome))

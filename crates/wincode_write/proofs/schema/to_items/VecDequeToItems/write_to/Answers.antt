@@ -2,11 +2,11 @@ use Rattle.wincode_base.proofs.Walks.{runs_wrote, runs_each, runs_refused_first,
 use Rattle.wincode_base.proofs.WriteAnswers.{write_refused, write_map}
 use Rattle.wincode_write.proofs.schema.to_items.VecDequeToItems.write_to.Goals as goal
 
-pub returns-in_err-write_many : goal.returns-in_err-write_many
-returns-in_err-write_many g c =
+pub returns-in_err-write_to : goal.returns-in_err-write_to
+returns-in_err-write_to g c =
     let laws = g.met.W.Writer.writer_laws in
     let l = g.T.SchemaWrite.write_laws in
-    let o = c.in_err-write_many.ensures in
+    let o = c.in_err-write_to.ensures in
     write_refused _ _ _ _ _ c.from_residual.ensures (runs_refused_first laws l _ _ _ c.as_slices.ensures.items o.refused)
     (runs_halted_first laws l _ _ _ c.as_slices.ensures.items o.place)
 
@@ -14,7 +14,7 @@ pub returns : goal.returns
 returns g c =
     let laws = g.met.W.Writer.writer_laws in
     let l = g.T.SchemaWrite.write_laws in
-    let o = c.in_ok-write_many.ensures in
+    let o = c.in_ok-write_to.ensures in
     write_map _ _ _ _ _ _ _ (λ r. runs_wrote laws l _ _ _ c.as_slices.ensures.items o.ok r) (λ p. runs_each _ _ _ _ c.as_slices.ensures.items o.value p)
     (λ e u. runs_refused_second laws l _ _ _ c.as_slices.ensures.items o.ok u) (λ e h. runs_halted_second laws l _ _ _ c.as_slices.ensures.items o.ok h)
-    c.write_many-2.ensures
+    c.write_to-2.ensures

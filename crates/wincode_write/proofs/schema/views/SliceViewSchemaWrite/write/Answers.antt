@@ -11,4 +11,4 @@ returns g c =
     let q = max T.size 1 in
     write_map _ _ _ _ _ _ _ (λ r. listed_wrote T.is_valid T.size T.form true p q _ r) (λ p. p)
     (λ e u. listed_unwritten T.is_valid T.size T.form true p q _ e u) (λ e h. listed_halted T.is_valid T.size T.form true p q _ e h)
-    c.write_list.ensures.outcome
+    (rw (c.of-size.ensures, c.type_meta.ensures) at c.write_list.ensures.outcome)

@@ -1,0 +1,177 @@
+//! A writer to a sink, beside the same bytes in a vector.
+use std::alloc::Global;
+use std::io::ErrorKind;
+use std::test::Fail;
+use testkit_io::few::Few;
+use wincode_io::{MemorySink, StdSink, StreamWriter, Unfinished, WriteError, WriteResult, Writer};
+
+/// The lengths of the pieces that are written: fewer than the 8192 bytes that are kept at most, as many, and more.
+const PIECES: [usize; 12] = [0, 1, 8, 3, 8000, 181, 8192, 8193, 5, 9001, 7, 0];
+
+/// A piece of this length, whose bytes depend on where it begins.
+fn piece(alloc: Global, start: usize, len: usize) -> Result<Vec<u8>, Fail> {
+    let mut bytes = Vec::new(alloc);
+    for i in 0..len {
+        bytes.push((start.wrapping_add(i) % 251) as u8)?;
+    }
+    Ok(bytes)
+}
+
+/// Whether a refusal is the device's, of this kind.
+fn fails_as(refusal: WriteResult<()>, kind: ErrorKind) -> bool {
+    match refusal {
+        Err(WriteError::Io(error)) => error.kind() == kind,
+        _ => false,
+    }
+}
+
+/// Writes all pieces and finishes; whether the sink then has what a vector has, and never more was kept than is said.
+fn passes_all(alloc: Global, few: Few) -> Result<bool, Fail> {
+    let mut wanted = Vec::new(alloc);
+    let mut writer = StreamWriter::new(alloc, StdSink::new(few))?;
+    let mut is_kept_short = true;
+    for len in PIECES {
+        let bytes = piece(alloc, wanted.len(), len)?;
+        writer.write(bytes.as_slice())?;
+        wanted.extend_from_slice(bytes.as_slice())?;
+        is_kept_short = is_kept_short
+            && writer.unsent().len() <= len.max(8192)
+            && writer.position() == wanted.len();
+    }
+    writer.finish()?;
+    let is_sound = !writer.has_failed() && writer.unsent().is_empty();
+    let (few, _) = writer.into_inner();
+    Ok(is_kept_short && is_sound && few.bytes == wanted && few.flushes == 1)
+}
+
+#[test]
+fn that_takes_few_bytes_a_call(rt: HostRuntime) -> Result<(), Fail> {
+    let alloc = rt.alloc();
+    for size in [7, 1000, 8191, 8192, 65536] {
+        assert!(rt; passes_all(alloc, Few::new(alloc, size))?);
+        assert!(rt; passes_all(alloc, Few::interrupted(alloc, size))?);
+    }
+    Ok(())
+}
+
+#[test]
+fn that_takes_three_bytes_a_call(rt: HostRuntime) -> Result<(), Fail> {
+    let alloc = rt.alloc();
+    assert!(rt; passes_all(alloc, Few::new(alloc, 3))?);
+    Ok(())
+}
+
+#[test]
+fn that_takes_two_bytes_a_call(rt: HostRuntime) -> Result<(), Fail> {
+    let alloc = rt.alloc();
+    assert!(rt; passes_all(alloc, Few::new(alloc, 2))?);
+    Ok(())
+}
+
+#[test]
+fn that_takes_a_byte_a_call(rt: HostRuntime) -> Result<(), Fail> {
+    let alloc = rt.alloc();
+    assert!(rt; passes_all(alloc, Few::new(alloc, 1))?);
+    Ok(())
+}
+
+/// Writes all pieces to a sink that fails behind so many calls: what it has and what is kept are the pieces whose calls
+/// succeeded, the first failure is the sink's own, each later one of kind Other, and the sink isn't asked again.
+fn fails_once(alloc: Global, size: usize, sound: usize) -> Result<bool, Fail> {
+    let mut wanted = Vec::new(alloc);
+    let mut writer = StreamWriter::new(alloc, StdSink::new(Few::failing(alloc, size, sound)))?;
+    let mut is_due = true;
+    for len in PIECES {
+        let bytes = piece(alloc, wanted.len(), len)?;
+        let kind = match writer.has_failed() {
+            true => ErrorKind::Other,
+            false => ErrorKind::BrokenPipe,
+        };
+        let result = writer.write(bytes.as_slice());
+        if result.is_ok() {
+            wanted.extend_from_slice(bytes.as_slice())?;
+        } else {
+            is_due = is_due && fails_as(result, kind) && writer.has_failed();
+        }
+        is_due = is_due && writer.position() == wanted.len();
+    }
+    is_due = is_due && writer.finish().is_err() == writer.has_failed();
+    let has_failed = writer.has_failed();
+    let (few, kept) = writer.into_inner();
+    let is_asked_once_more = !has_failed || few.calls == sound.saturating_add(1);
+    let mut all = few.bytes;
+    all.extend_from_slice(kept.as_slice())?;
+    Ok(is_due && is_asked_once_more && all == wanted)
+}
+
+#[test]
+fn that_fails_at_each_call(rt: HostRuntime) -> Result<(), Fail> {
+    let alloc = rt.alloc();
+    for sound in 0..40 {
+        assert!(rt; fails_once(alloc, 1000, sound)?);
+    }
+    Ok(())
+}
+
+#[test]
+fn that_fails_at_each_long_call(rt: HostRuntime) -> Result<(), Fail> {
+    let alloc = rt.alloc();
+    for sound in 0..8 {
+        assert!(rt; fails_once(alloc, 9000, sound)?);
+        assert!(rt; fails_once(alloc, 3000, sound)?);
+    }
+    Ok(())
+}
+
+#[test]
+fn that_takes_no_more(rt: HostRuntime) -> Result<(), Fail> {
+    let alloc = rt.alloc();
+    let mut writer = StreamWriter::new(alloc, StdSink::new(Few::new(alloc, 0)))?;
+    writer.write(b"some")?;
+    assert!(rt; fails_as(writer.finish(), ErrorKind::WriteZero));
+    assert!(rt; fails_as(writer.finish(), ErrorKind::Other));
+    writer.write(b" more")?;
+    assert!(rt; writer.unsent() == b"some more".as_slice());
+    assert_eq!(rt; writer.position(), 9);
+    let (few, _) = writer.into_inner();
+    assert_eq!(rt; few.calls, 1);
+    Ok(())
+}
+
+#[test]
+fn in_memory(rt: HostRuntime) -> Result<(), Fail> {
+    let alloc = rt.alloc();
+    let mut wanted = Vec::new(alloc);
+    let mut writer = StreamWriter::new(alloc, MemorySink::new(alloc))?;
+    for number in 0..3000u64 {
+        writer.write_t(&number)?;
+        wanted.write_t(&number)?;
+    }
+    writer.write_slice_t(&[1u16, 2, 3])?;
+    wanted.write_slice_t(&[1u16, 2, 3])?;
+    writer.finish()?;
+    let (sink, _) = writer.into_sink();
+    assert_eq!(rt; sink.failures(), 0);
+    assert!(rt; sink.into_bytes() == wanted);
+    Ok(())
+}
+
+/// Many small pieces of writing, each of which ends by `finish`, are passed on together.
+#[test]
+fn that_is_finished_by_its_owner(rt: HostRuntime) -> Result<(), Fail> {
+    let alloc = rt.alloc();
+    let mut writer = StreamWriter::new(alloc, StdSink::new(Few::new(alloc, 65536)))?;
+    {
+        let mut lent = Unfinished::new(&mut writer);
+        for number in 0..2000u64 {
+            lent.write_t(&number)?;
+            lent.finish()?;
+        }
+    }
+    writer.finish()?;
+    let (few, _) = writer.into_inner();
+    assert_eq!(rt; few.bytes.len(), 16000);
+    assert_eq!(rt; few.calls, 2);
+    assert_eq!(rt; few.flushes, 1);
+    Ok(())
+}

@@ -1,0 +1,140 @@
+//! Logs that were cut off, and gone on with.
+use std::alloc::Global;
+use std::test::Fail;
+use testkit_io::few::Few;
+use wincode::io::{self, SliceWriter, StdSink, StdSource, StreamWriter};
+use wincode::{Messages, ReadError, WriteError, append_message, serialize_into, whole_length};
+
+type Entry = (u16, String);
+
+/// As many letters as the number has behind its sevens.
+fn letters(number: u16) -> &'static str {
+    match number % 7 {
+        0 => "",
+        1 => "a",
+        2 => "ab",
+        3 => "abc",
+        4 => "abcd",
+        5 => "abcde",
+        _ => "abcdef",
+    }
+}
+
+/// A log of so many entries, and where each ends: two bytes of a number, eight of a length, and the letters.
+fn log_of(alloc: Global, count: u16) -> Result<(Vec<u8>, Vec<usize>), Fail> {
+    let mut bytes = Vec::new(alloc);
+    let mut ends = Vec::new(alloc);
+    for number in 0..count {
+        let text = letters(number);
+        bytes.extend_from_slice(&number.to_le_bytes())?;
+        bytes.extend_from_slice(&(text.len() as u64).to_le_bytes())?;
+        bytes.extend_from_slice(text.as_bytes())?;
+        ends.push(bytes.len())?;
+    }
+    Ok((bytes, ends))
+}
+
+/// The last of the ends that is within so many bytes.
+fn last_within(ends: &[usize], size: usize) -> usize {
+    let mut last = 0;
+    for end in ends {
+        if *end <= size {
+            last = *end;
+        }
+    }
+    last
+}
+
+/// How many entries are read in front of the bytes, one after another, and where the last of them ended.
+fn read_in_front(alloc: Global, bytes: &[u8]) -> Result<(u16, usize), ReadError> {
+    let mut messages: Messages<_, Entry> = Messages::new(alloc, bytes)?;
+    for count in 0..u16::MAX {
+        match messages.next() {
+            Some(Ok((number, text))) => {
+                if number != count || text.as_str() != letters(number) {
+                    return Err(ReadError::Custom("another entry"));
+                }
+            }
+            _ => return Ok((count, messages.position())),
+        }
+    }
+    Err(ReadError::Custom("too many entries"))
+}
+
+#[test]
+fn cut_at_every_byte(rt: HostRuntime) -> Result<(), Fail> {
+    let alloc = rt.alloc();
+    let (bytes, ends) = log_of(alloc, 50)?;
+    for size in 0..=bytes.len() {
+        let whole = whole_length::<Entry, _>(alloc, &bytes[..size])?;
+        assert_eq!(rt; whole, last_within(ends.as_slice(), size));
+    }
+    Ok(())
+}
+
+#[test]
+fn cut_and_gone_on_with(rt: HostRuntime) -> Result<(), Fail> {
+    let alloc = rt.alloc();
+    let (bytes, ends) = log_of(alloc, 20)?;
+    for size in 0..=bytes.len() {
+        let (count, position) = read_in_front(alloc, &bytes[..size])?;
+        assert_eq!(rt; position, last_within(ends.as_slice(), size));
+        let whole: &[u8] = bytes.get(..position).unwrap_or(&[]);
+        let mut log = Vec::from_slice(alloc, whole)?;
+        for number in count..20 {
+            append_message::<Entry, _>(
+                &mut log,
+                &(number, String::from_str(alloc, letters(number))?),
+            )?;
+        }
+        assert!(rt; log == bytes);
+    }
+    Ok(())
+}
+
+/// What isn't appended whole isn't appended.
+#[test]
+fn without_room(rt: HostRuntime) -> Result<(), Fail> {
+    let alloc = rt.alloc();
+    let entry = (5, String::from_str(alloc, "abcde")?);
+    for room in 0..15 {
+        let mut bytes = [7; 15];
+        let mut writer = SliceWriter::new(&mut bytes[..room]);
+        let refused = append_message::<Entry, _>(&mut writer, &entry);
+        assert!(rt;
+            matches!(
+                refused,
+                Err(WriteError::Io(io::WriteError::WriteSizeLimit(15)))
+            )
+        );
+        assert!(rt; bytes == [7; 15]);
+    }
+    Ok(())
+}
+
+/// Entries to a sink that fails behind so many calls: what it has is a front of the log.
+fn is_front(alloc: Global, size: usize, sound: usize) -> Result<bool, Fail> {
+    let (bytes, ends) = log_of(alloc, 12)?;
+    let mut writer = StreamWriter::new(alloc, StdSink::new(Few::failing(alloc, size, sound)))?;
+    for number in 0..12 {
+        let entry: Entry = (number, String::from_str(alloc, letters(number))?);
+        if serialize_into(&mut writer, &entry).is_err() {
+            break;
+        }
+    }
+    let (few, _) = writer.into_inner();
+    let sent = few.bytes.as_slice();
+    let whole = whole_length::<Entry, _>(alloc, StdSource::new(sent))?;
+    Ok(bytes.as_slice().starts_with(sent) && whole == last_within(ends.as_slice(), sent.len()))
+}
+
+#[test]
+fn of_a_sink_that_fails(rt: HostRuntime) -> Result<(), Fail> {
+    let alloc = rt.alloc();
+    for size in [1, 5, 13, 8192] {
+        for sound in [0, 1, 2, 3, 7, 11, 20, 60, 100, 300] {
+            assert!(rt; is_front(alloc, size, sound)?);
+        }
+    }
+    Ok(())
+}

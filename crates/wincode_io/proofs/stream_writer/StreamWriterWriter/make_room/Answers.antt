@@ -1,0 +1,5 @@
+use Rattle.std.proofs.Common.{rules}
+use Rattle.wincode_io.proofs.stream_writer.StreamWriterWriter.make_room.Goals as goal
+
+pub returns-in_err-pass_on-clause-refused : goal.returns-in_err-pass_on-clause-refused
+returns-in_err-pass_on-clause-refused g c = let r = c.in_err-pass_on.ensures.refused c.args.n in search (rules, r)
