@@ -2,7 +2,9 @@
 //! of their declarations.
 #![tactic(auto)]
 
+pub mod bank;
 pub mod note;
 pub mod pages;
 pub mod report;
+pub mod shapes;
 pub mod signal;

@@ -2,6 +2,8 @@
 #![tactic(auto)]
 
 #[cfg(test)]
+mod banks;
+#[cfg(test)]
 mod encoded;
 #[cfg(test)]
 mod keys;
@@ -13,5 +15,7 @@ mod marks;
 mod pages;
 #[cfg(test)]
 mod reports;
+#[cfg(test)]
+mod shapes;
 #[cfg(test)]
 mod signals;

@@ -644,11 +644,26 @@ fn set_enum(
         "write",
         Ok(format!(in alloc; "        write_enum::<{me}, W>(writer, src)\n")?),
     );
-    if generics.is_none() {
-        let tag = format!(in alloc; "<{me} as EnumShape>::Tag")?;
+    set_schemas(
+        alloc,
+        words,
+        (all, declaration),
+        (me, sides.as_str(), cases.tag.as_str()),
+    )
+}
+
+/// Sets by which schema an enum goes, and its laws.
+fn set_schemas(
+    alloc: Global,
+    words: &mut Words,
+    (all, declaration): (&[Declaration], &Declaration),
+    (me, sides, tag): (&str, &str, &str),
+) -> DeriveResult<()> {
+    if declaration.generics.is_none() {
+        let of_tag = format!(in alloc; "<{me} as EnumShape>::Tag")?;
         words.set(
             "schemas",
-            Ok(format!(in alloc; "OneOf<{tag}, <{me} as EnumShape>::Cases>")?),
+            Ok(format!(in alloc; "OneOf<{of_tag}, <{me} as EnumShape>::Cases>")?),
         );
         words.set(
             "laws",
@@ -656,7 +671,7 @@ fn set_enum(
         );
         return Ok(());
     }
-    let (sides, tag) = (sides.as_str(), cases.tag.as_str());
+    let parameters = declaration.generics.parameters.as_slice();
     let schemas = format!(in alloc; "OneOf<{tag}, {sides}>")?;
     let seen = looked_into(alloc, all, (schemas.as_str(), parameters))?;
     words.set(

@@ -80,7 +80,7 @@ impl<A: SchemaWrite, B: SchemaWrite> SchemaWrite for (A, B) {
 
     #[inline]
     fn write<W: Writer>(writer: &mut W, src: &Self::Src) -> WriteResult<()> {
-        write_members_2::<A, B, W>(writer, &src.0, &src.1)
+        write_in_window::<Members2<A, B>, W>(writer, src)
     }
 
     #[inline(always)]

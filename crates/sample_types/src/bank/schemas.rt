@@ -1,0 +1,438 @@
+//! Written by `wincode_derive`: the schemas of what the module above declares.
+ghost use Rattle.std.specs.Prelude.{Ok, Err};
+ghost use Rattle.wincode_base.specs.PairLaws.{write_laws_by, reads_back_by};
+ghost use Rattle.sample_types.specs.declared.bank.Request.TheVariants.{
+  Status as Request-Status,
+  Open as Request-Open,
+  Sealed as Request-Sealed,
+  Named as Request-Named,
+  Limited as Request-Limited,
+  Close as Request-Close,
+  Paid as Request-Paid,
+  Ended as Request-Ended,
+};
+ghost use Rattle.sample_types.specs.declared.bank.Refusal.TheVariants.{
+  NotFound as Refusal-NotFound,
+  Denied as Refusal-Denied,
+  Busy as Refusal-Busy,
+  Timeout as Refusal-Timeout,
+  Closed as Refusal-Closed,
+  Invalid as Refusal-Invalid,
+  Other as Refusal-Other,
+};
+
+use super::*;
+use std::alloc::Global;
+use wincode::io::{Lending, Reader, Writer};
+use wincode::schema::tuples::{
+    size_of_members_2, size_of_members_3, write_members_2, write_members_3,
+};
+use wincode::{
+    OneText, ReadResult, RoundTrip, SchemaRead, SchemaReadOwned, SchemaWrite, TypeMeta, WriteResult,
+};
+use wincode_derive_support::enums::{EnumParts, EnumShape, read_enum, size_of_enum, write_enum};
+use wincode_derive_support::laws::{FieldsOneText, FieldsReadOwned, Lawful};
+use wincode_derive_support::sums::{Case, Last, OneOf};
+
+type RequestCases = OneOf<<Request as EnumShape>::Tag, <Request as EnumShape>::Cases>;
+
+impl EnumParts for Request {
+    type Src = Request;
+
+    type Parts = Result<
+        (),
+        Result<
+            (u64, u64, [u8; 32]),
+            Result<
+                ([u8; 32], u8),
+                Result<String, Result<Option<u64>, Result<(), Result<(u64, String), ()>>>>,
+            >,
+        >,
+    >;
+
+    ghost parts = { elim [
+      | Request-Status ↦ Ok tt
+      | Request-Open a b c ↦ Err (Ok (a, b, c))
+      | Request-Sealed a b ↦ Err (Err (Ok (a, b)))
+      | Request-Named a ↦ Err (Err (Err (Ok a)))
+      | Request-Limited a ↦ Err (Err (Err (Err (Ok a))))
+      | Request-Close ↦ Err (Err (Err (Err (Err (Ok tt)))))
+      | Request-Paid a b ↦ Err (Err (Err (Err (Err (Err (Ok (
+        a,
+        b,
+      )))))))
+      | Request-Ended ↦ Err (Err (Err (Err (Err (Err (Err tt))))))
+    ] };
+
+    fn make(made_of: Self::Parts) -> Request {
+        match made_of {
+            Ok(()) => Request::Status,
+            Err(rest) => match rest {
+                Ok(parts) => {
+                    let (lamports, space, owner) = parts;
+                    Request::Open {
+                        lamports,
+                        space,
+                        owner,
+                    }
+                }
+                Err(rest) => match rest {
+                    Ok(parts) => {
+                        let (a, b) = parts;
+                        Request::Sealed(a, b)
+                    }
+                    Err(rest) => match rest {
+                        Ok(a) => Request::Named(a),
+                        Err(rest) => match rest {
+                            Ok(a) => Request::Limited(a),
+                            Err(rest) => match rest {
+                                Ok(()) => Request::Close,
+                                Err(rest) => match rest {
+                                    Ok((a, b)) => Request::Paid(a, b),
+                                    Err(()) => Request::Ended,
+                                },
+                            },
+                        },
+                    },
+                },
+            },
+        }
+    }
+}
+
+impl EnumShape for Request {
+    type Tag = u32;
+
+    type Cases = Case<
+        0,
+        (),
+        Case<
+            1,
+            (u64, u64, [u8; 32]),
+            Case<
+                2,
+                ([u8; 32], u8),
+                Case<
+                    3,
+                    String,
+                    Case<4, Option<u64>, Case<5, (), Case<6, (u64, String), Last<7, ()>>>>,
+                >,
+            >,
+        >,
+    >;
+
+    fn tag(src: &Request) -> usize {
+        match src {
+            Request::Status => 0,
+            Request::Open { .. } => 1,
+            Request::Sealed(_, _) => 2,
+            Request::Named(_) => 3,
+            Request::Limited(_) => 4,
+            Request::Close => 5,
+            Request::Paid(_, _) => 6,
+            Request::Ended => 7,
+        }
+    }
+
+    fn part_size(src: &Request) -> WriteResult<usize> {
+        match src {
+            Request::Status => <() as SchemaWrite>::size_of(&()),
+            Request::Open {
+                lamports,
+                space,
+                owner,
+            } => size_of_members_3::<u64, u64, [u8; 32]>(lamports, space, owner),
+            Request::Sealed(a, b) => size_of_members_2::<[u8; 32], u8>(a, b),
+            Request::Named(a) => <String as SchemaWrite>::size_of(a),
+            Request::Limited(a) => <Option<u64> as SchemaWrite>::size_of(a),
+            Request::Close => <() as SchemaWrite>::size_of(&()),
+            Request::Paid(a, b) => size_of_members_2::<u64, String>(a, b),
+            Request::Ended => <() as SchemaWrite>::size_of(&()),
+        }
+    }
+
+    fn write_part<W: Writer>(writer: &mut W, src: &Request) -> WriteResult<()> {
+        match src {
+            Request::Status => <() as SchemaWrite>::write::<W>(writer, &()),
+            Request::Open {
+                lamports,
+                space,
+                owner,
+            } => write_members_3::<u64, u64, [u8; 32], W>(writer, lamports, space, owner),
+            Request::Sealed(a, b) => write_members_2::<[u8; 32], u8, W>(writer, a, b),
+            Request::Named(a) => <String as SchemaWrite>::write::<W>(writer, a),
+            Request::Limited(a) => <Option<u64> as SchemaWrite>::write::<W>(writer, a),
+            Request::Close => <() as SchemaWrite>::write::<W>(writer, &()),
+            Request::Paid(a, b) => write_members_2::<u64, String, W>(writer, a, b),
+            Request::Ended => <() as SchemaWrite>::write::<W>(writer, &()),
+        }
+    }
+}
+
+impl SchemaWrite for Request {
+    type Src = Request;
+
+    ghost Value = { ⟦<RequestCases as SchemaWrite>⟧.Value };
+
+    ghost model = { λ x. ⟦<RequestCases as SchemaWrite>⟧.model (⟦<Request as EnumParts>⟧.parts x) };
+
+    ghost is_valid = { λ x. ⟦<RequestCases as SchemaWrite>⟧.is_valid (⟦<Request as EnumParts>⟧.parts x) };
+
+    ghost writing = { ⟦<RequestCases as SchemaWrite>⟧.writing };
+
+    fn type_meta() -> TypeMeta {
+        <RequestCases as SchemaWrite>::type_meta()
+    }
+
+    fn size_of(src: &Request) -> WriteResult<usize> {
+        size_of_enum::<Request>(src)
+    }
+
+    fn write<W: Writer>(writer: &mut W, src: &Request) -> WriteResult<()> {
+        write_enum::<Request, W>(writer, src)
+    }
+
+    ghost write_laws = { write_laws_by ⟦<Request as EnumParts>⟧.parts ⟦<RequestCases as SchemaWrite>⟧.write_laws };
+}
+
+impl<L: Lending> SchemaRead<L> for Request {
+    type Dst = Request;
+
+    ghost Value = { ⟦<RequestCases as SchemaRead<L>>⟧.Value };
+
+    ghost model = { λ x. ⟦<RequestCases as SchemaRead<L>>⟧.model (⟦<Request as EnumParts>⟧.parts x) };
+
+    ghost is_valid = { ⟦<RequestCases as SchemaRead<L>>⟧.is_valid };
+
+    ghost reading = { ⟦<RequestCases as SchemaRead<L>>⟧.reading };
+
+    fn type_meta() -> TypeMeta {
+        <RequestCases as SchemaRead<L>>::type_meta()
+    }
+
+    fn prealloc_size() -> usize {
+        <RequestCases as SchemaRead<L>>::prealloc_size()
+    }
+
+    fn read<R: Reader<L>>(
+        alloc: Global,
+        reader: &mut R,
+        dst: &mut Option<Request>,
+    ) -> ReadResult<()> {
+        read_enum::<L, RequestCases, Request, R>(alloc, reader, dst)
+    }
+
+    ghost read_laws = { ⟦<RequestCases as Lawful<L>>⟧.read_laws };
+}
+
+impl<L: Lending> Lawful<L> for Request {
+    type Dst = Request;
+
+    ghost Value = { ⟦<RequestCases as Lawful<L>>⟧.Value };
+
+    ghost model = { λ x. ⟦<RequestCases as Lawful<L>>⟧.model (⟦<Request as EnumParts>⟧.parts x) };
+
+    ghost is_valid = { ⟦<RequestCases as Lawful<L>>⟧.is_valid };
+
+    ghost reading = { ⟦<RequestCases as Lawful<L>>⟧.reading };
+
+    ghost read_laws = { ⟦<RequestCases as Lawful<L>>⟧.read_laws };
+}
+
+impl<L: Lending> RoundTrip<L> for Request
+where
+    RequestCases: RoundTrip<L>,
+{
+    ghost reads_back = { reads_back_by ⟦<Request as EnumParts>⟧.parts bound-5.reads_back };
+}
+
+impl<L: Lending> OneText<L> for Request
+where
+    RequestCases: FieldsOneText<L>,
+{
+    ghost one_text = { bound-5.fields_one_text };
+}
+
+impl<L: Lending> SchemaReadOwned<L> for Request
+where
+    RequestCases: FieldsReadOwned<L>,
+{
+    ghost owned = { bound-5.fields_owned };
+}
+
+type RefusalCases = OneOf<<Refusal as EnumShape>::Tag, <Refusal as EnumShape>::Cases>;
+
+impl EnumParts for Refusal {
+    type Src = Refusal;
+
+    type Parts = Result<(), Result<(), Result<(), Result<(), Result<(), Result<u32, String>>>>>>;
+
+    ghost parts = { elim [
+      | Refusal-NotFound ↦ Ok tt
+      | Refusal-Denied ↦ Err (Ok tt)
+      | Refusal-Busy ↦ Err (Err (Ok tt))
+      | Refusal-Timeout ↦ Err (Err (Err (Ok tt)))
+      | Refusal-Closed ↦ Err (Err (Err (Err (Ok tt))))
+      | Refusal-Invalid a ↦ Err (Err (Err (Err (Err (Ok a)))))
+      | Refusal-Other a ↦ Err (Err (Err (Err (Err (Err a)))))
+    ] };
+
+    fn make(made_of: Self::Parts) -> Refusal {
+        match made_of {
+            Ok(()) => Refusal::NotFound,
+            Err(rest) => match rest {
+                Ok(()) => Refusal::Denied,
+                Err(rest) => match rest {
+                    Ok(()) => Refusal::Busy,
+                    Err(rest) => match rest {
+                        Ok(()) => Refusal::Timeout,
+                        Err(rest) => match rest {
+                            Ok(()) => Refusal::Closed,
+                            Err(rest) => match rest {
+                                Ok(a) => Refusal::Invalid(a),
+                                Err(a) => Refusal::Other(a),
+                            },
+                        },
+                    },
+                },
+            },
+        }
+    }
+}
+
+impl EnumShape for Refusal {
+    type Tag = u32;
+
+    type Cases = Case<
+        0,
+        (),
+        Case<1, (), Case<2, (), Case<3, (), Case<4, (), Case<5, u32, Last<6, String>>>>>>,
+    >;
+
+    fn tag(src: &Refusal) -> usize {
+        match src {
+            Refusal::NotFound => 0,
+            Refusal::Denied => 1,
+            Refusal::Busy => 2,
+            Refusal::Timeout => 3,
+            Refusal::Closed => 4,
+            Refusal::Invalid(_) => 5,
+            Refusal::Other(_) => 6,
+        }
+    }
+
+    fn part_size(src: &Refusal) -> WriteResult<usize> {
+        match src {
+            Refusal::NotFound => <() as SchemaWrite>::size_of(&()),
+            Refusal::Denied => <() as SchemaWrite>::size_of(&()),
+            Refusal::Busy => <() as SchemaWrite>::size_of(&()),
+            Refusal::Timeout => <() as SchemaWrite>::size_of(&()),
+            Refusal::Closed => <() as SchemaWrite>::size_of(&()),
+            Refusal::Invalid(a) => <u32 as SchemaWrite>::size_of(a),
+            Refusal::Other(a) => <String as SchemaWrite>::size_of(a),
+        }
+    }
+
+    fn write_part<W: Writer>(writer: &mut W, src: &Refusal) -> WriteResult<()> {
+        match src {
+            Refusal::NotFound => <() as SchemaWrite>::write::<W>(writer, &()),
+            Refusal::Denied => <() as SchemaWrite>::write::<W>(writer, &()),
+            Refusal::Busy => <() as SchemaWrite>::write::<W>(writer, &()),
+            Refusal::Timeout => <() as SchemaWrite>::write::<W>(writer, &()),
+            Refusal::Closed => <() as SchemaWrite>::write::<W>(writer, &()),
+            Refusal::Invalid(a) => <u32 as SchemaWrite>::write::<W>(writer, a),
+            Refusal::Other(a) => <String as SchemaWrite>::write::<W>(writer, a),
+        }
+    }
+}
+
+impl SchemaWrite for Refusal {
+    type Src = Refusal;
+
+    ghost Value = { ⟦<RefusalCases as SchemaWrite>⟧.Value };
+
+    ghost model = { λ x. ⟦<RefusalCases as SchemaWrite>⟧.model (⟦<Refusal as EnumParts>⟧.parts x) };
+
+    ghost is_valid = { λ x. ⟦<RefusalCases as SchemaWrite>⟧.is_valid (⟦<Refusal as EnumParts>⟧.parts x) };
+
+    ghost writing = { ⟦<RefusalCases as SchemaWrite>⟧.writing };
+
+    fn type_meta() -> TypeMeta {
+        <RefusalCases as SchemaWrite>::type_meta()
+    }
+
+    fn size_of(src: &Refusal) -> WriteResult<usize> {
+        size_of_enum::<Refusal>(src)
+    }
+
+    fn write<W: Writer>(writer: &mut W, src: &Refusal) -> WriteResult<()> {
+        write_enum::<Refusal, W>(writer, src)
+    }
+
+    ghost write_laws = { write_laws_by ⟦<Refusal as EnumParts>⟧.parts ⟦<RefusalCases as SchemaWrite>⟧.write_laws };
+}
+
+impl<L: Lending> SchemaRead<L> for Refusal {
+    type Dst = Refusal;
+
+    ghost Value = { ⟦<RefusalCases as SchemaRead<L>>⟧.Value };
+
+    ghost model = { λ x. ⟦<RefusalCases as SchemaRead<L>>⟧.model (⟦<Refusal as EnumParts>⟧.parts x) };
+
+    ghost is_valid = { ⟦<RefusalCases as SchemaRead<L>>⟧.is_valid };
+
+    ghost reading = { ⟦<RefusalCases as SchemaRead<L>>⟧.reading };
+
+    fn type_meta() -> TypeMeta {
+        <RefusalCases as SchemaRead<L>>::type_meta()
+    }
+
+    fn prealloc_size() -> usize {
+        <RefusalCases as SchemaRead<L>>::prealloc_size()
+    }
+
+    fn read<R: Reader<L>>(
+        alloc: Global,
+        reader: &mut R,
+        dst: &mut Option<Refusal>,
+    ) -> ReadResult<()> {
+        read_enum::<L, RefusalCases, Refusal, R>(alloc, reader, dst)
+    }
+
+    ghost read_laws = { ⟦<RefusalCases as Lawful<L>>⟧.read_laws };
+}
+
+impl<L: Lending> Lawful<L> for Refusal {
+    type Dst = Refusal;
+
+    ghost Value = { ⟦<RefusalCases as Lawful<L>>⟧.Value };
+
+    ghost model = { λ x. ⟦<RefusalCases as Lawful<L>>⟧.model (⟦<Refusal as EnumParts>⟧.parts x) };
+
+    ghost is_valid = { ⟦<RefusalCases as Lawful<L>>⟧.is_valid };
+
+    ghost reading = { ⟦<RefusalCases as Lawful<L>>⟧.reading };
+
+    ghost read_laws = { ⟦<RefusalCases as Lawful<L>>⟧.read_laws };
+}
+
+impl<L: Lending> RoundTrip<L> for Refusal
+where
+    RefusalCases: RoundTrip<L>,
+{
+    ghost reads_back = { reads_back_by ⟦<Refusal as EnumParts>⟧.parts bound-5.reads_back };
+}
+
+impl<L: Lending> OneText<L> for Refusal
+where
+    RefusalCases: FieldsOneText<L>,
+{
+    ghost one_text = { bound-5.fields_one_text };
+}
+
+impl<L: Lending> SchemaReadOwned<L> for Refusal
+where
+    RefusalCases: FieldsReadOwned<L>,
+{
+    ghost owned = { bound-5.fields_owned };
+}
