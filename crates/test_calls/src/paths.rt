@@ -5,9 +5,9 @@ mod top {
     pub use wincode::{
         By, Error, ExactError, Key, Messages, OneText, ReadError, ReadResult, Result, RoundTrip,
         SchemaGet, SchemaRead, SchemaReadOwned, SchemaWrite, Shape, TagCode, Told, TypeMeta,
-        WriteError, WriteResult, ZeroCopy, append_message, copy_front, deserialize,
+        VERSION, WriteError, WriteResult, ZeroCopy, append_message, copy_front, deserialize,
         deserialize_exact, deserialize_from, deserialize_mut, read_tag, rewrite, serialize,
-        VERSION, serialize_into, serialized_size, whole_length, write_tag,
+        serialize_into, serialized_size, whole_length, write_tag,
     };
 }
 

@@ -61,10 +61,7 @@ fn settings_of_a_file(rt: HostRuntime) -> Result<(), Fail> {
     match settings_of(alloc, bytes.as_slice()) {
         Err(damaged) => {
             let text = format!(in alloc; "{damaged}")?;
-            assert_eq!(rt;
-                text.as_str(),
-                "at position 5: Invalid bool encoding: 2"
-            );
+            assert_eq!(rt; text.as_str(), "at position 5: Invalid bool encoding: 2");
         }
         Ok(_) => return Err(Fail::from("settings")),
     }
