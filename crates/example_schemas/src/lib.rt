@@ -10,6 +10,7 @@ pub mod faults;
 pub mod forms;
 pub mod front;
 pub mod label;
+pub mod limits;
 pub mod message;
 pub mod recipes;
 pub mod transfer;

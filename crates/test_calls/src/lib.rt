@@ -16,6 +16,8 @@ mod leaves;
 #[cfg(test)]
 mod lifetimes;
 #[cfg(test)]
+mod limits;
+#[cfg(test)]
 mod methods;
 #[cfg(test)]
 mod parts;

@@ -3,11 +3,12 @@
 /// What stands at the top.
 mod top {
     pub use wincode::{
-        By, Error, ExactError, Key, Messages, OneText, ReadError, ReadResult, Result, RoundTrip,
-        SchemaGet, SchemaRead, SchemaReadOwned, SchemaWrite, Shape, TagCode, Told, TypeMeta,
-        VERSION, WriteError, WriteResult, ZeroCopy, append_message, copy_front, deserialize,
-        deserialize_exact, deserialize_from, deserialize_mut, read_tag, rewrite, serialize,
-        serialize_into, serialized_size, whole_length, write_tag,
+        By, Error, ExactError, Key, LimitError, Limited, LimitedLen, LimitedShape, Messages,
+        OneText, ReadError, ReadResult, Result, RoundTrip, SchemaGet, SchemaRead, SchemaReadOwned,
+        SchemaWrite, Shape, TagCode, Told, TypeMeta, VERSION, WriteError, WriteResult, ZeroCopy,
+        append_message, copy_front, deserialize, deserialize_exact, deserialize_from,
+        deserialize_mut, read_tag, rewrite, serialize, serialize_into, serialize_limited,
+        serialized_size, whole_length, write_tag,
     };
 }
 
@@ -21,6 +22,7 @@ mod modules {
     pub use wincode::len::{
         BincodeLen, NO_LIMIT, PREALLOCATION_LIMIT, SeqLen, ShortU16, ShortU16Len, short_vec,
     };
+    pub use wincode::limits::{LimitError, Limited, LimitedLen, LimitedShape};
     pub use wincode::logs::{append_message, whole_length};
     pub use wincode::markers::{OneText, SchemaReadOwned};
     pub use wincode::meta::TypeMeta;

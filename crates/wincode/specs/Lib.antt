@@ -5,3 +5,4 @@ pub mod Serde
 pub mod Messages
 pub mod Rewriting
 pub mod Logs
+pub mod Limits

@@ -10,6 +10,7 @@
 //! - `containers`: lists with a length scheme of choice, options and results with a tag of choice, and more.
 //! - `messages`: the values of a file, a pipe or a socket, one after another; `logs`: how a log is gone on with that was cut.
 //! - `exact`: why bytes are not exactly one value.
+//! - `limits`: values that are written where they read back.
 //! - `markers`: `RoundTrip`, `OneText`, `SchemaReadOwned`, which a generic call may ask for.
 //! - `rewriting`: `rewrite` and `copy_front`, two calls that ask for them.
 //! - `shape`: a type that is read and written as another.
@@ -23,6 +24,7 @@ pub mod containers;
 pub mod exact;
 pub mod laws;
 pub mod len;
+pub mod limits;
 pub mod logs;
 pub mod markers;
 pub mod messages;
@@ -38,9 +40,10 @@ pub const VERSION: &str = "0.1.0";
 
 pub use calls::{
     deserialize, deserialize_exact, deserialize_from, deserialize_mut, serialize, serialize_into,
-    serialized_size,
+    serialize_limited, serialized_size,
 };
 pub use exact::ExactError;
+pub use limits::{LimitError, Limited, LimitedLen, LimitedShape};
 pub use logs::{append_message, whole_length};
 pub use markers::{OneText, RoundTrip, SchemaReadOwned};
 pub use messages::Messages;
