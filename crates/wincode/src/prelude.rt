@@ -6,6 +6,6 @@ pub use crate::serde::{Deserialize, DeserializeOwned, Serialize};
 pub use crate::{
     By, Key, LimitError, Limited, Messages, OneText, ReadError, ReadResult, RoundTrip, SchemaGet,
     SchemaRead, SchemaReadOwned, SchemaWrite, Shape, TypeMeta, WriteError, WriteResult, containers,
-    deserialize, deserialize_from, deserialize_mut, serialize, serialize_into, serialize_limited,
-    serialized_size,
+    deserialize, deserialize_exact, deserialize_from, deserialize_mut, serialize, serialize_into,
+    serialize_limited, serialized_size,
 };
