@@ -1,5 +1,5 @@
 -- Whether all items of a collection, and all parts of a value, are within their limits.
-use Rattle.std.proofs.Common.{◌≡◌, ◌∙◌, sym, ap, subst, ℕ, ◌<◌, List, [], ◌∷◌, ◌++◌, length, map, get_or, take, refl, arith, append_assoc, append-nil, take_all, ◌≤◌}
+use Rattle.std.proofs.Common.{◌≡◌, ◌∙◌, sym, ap, subst, ℕ, List, [], ◌∷◌, ◌++◌, length, map, refl, arith, append_assoc, append-nil}
 use Rattle.std.proofs.Common.{Option, Some, None, Result, Ok, Err}
 use Rattle.std.proofs.lemmas.List.{length-map, map-append}
 use Rattle.std.specs.Option.{option_map}
@@ -8,7 +8,7 @@ use Rattle.wincode_io.specs.Joins.{Each}
 use Rattle.wincode_io.specs.JoinLaws.{each_append, each_split}
 use Rattle.wincode_base.specs.Arrays.{IsArray}
 use Rattle.wincode_base.specs.Grammar.{WriteGrammar}
-use Rattle.wincode_base.specs.Lengths.{Scheme, SchemeLaws, HasEncoding}
+use Rattle.wincode_base.specs.Lengths.{Scheme, SchemeLaws}
 use Rattle.wincode_base.specs.Tags.{IfPart, IfSide}
 use Rattle.wincode.specs.Limits.{ListFits}
 

@@ -1,5 +1,4 @@
-use Rattle.std.proofs.Common.{rules, ◌≡◌, ◌*◌, ◌<◌, ◌≤◌, ◌^◌, ap, refl, max, length, arith}
-use Rattle.wincode_io.specs.Viewed.{values_seen}
+use Rattle.std.proofs.Common.{rules, ◌≡◌, refl, max, arith}
 use Rattle.wincode_io.specs.Writers.{byte_limit}
 use Rattle.wincode_base.specs.LengthLaws.{bincode_laws}
 use Rattle.wincode_base.specs.Lengths.{bincode}
