@@ -4,11 +4,13 @@ use std::alloc::Global;
 use std::collections::{BTreeMap, BTreeSet, BinaryHeap, HashMap, HashSet, LinkedList, VecDeque};
 use std::rc::{Rc, RcSlice};
 use std::test::Fail;
+use testkit_schemas::byte_len::ByteLen;
 use wincode::io::{Lifetime, Ref, SliceRef, StreamReader};
 use wincode::len::{BincodeLen, ShortU16, ShortU16Len};
 use wincode::serde::{Deserialize, Serialize};
 use wincode::{
-    LimitError, Limited, ReadError, RoundTrip, SchemaGet, WriteError, containers, serialize_limited,
+    LimitError, Limited, LimitedLen, ReadError, RoundTrip, SchemaGet, WriteError, containers,
+    serialize_limited,
 };
 
 /// Whether the value is written, where that is due, and its bytes are read; or else is refused as past a limit, and its
@@ -47,23 +49,26 @@ fn bytes_of(alloc: Global, n: usize) -> Result<Vec<u8>, Fail> {
 #[test]
 fn lists_of_numbers(rt: HostRuntime) -> Result<(), Fail> {
     let alloc = rt.alloc();
-    for (n, is_due) in [(0, true), (524_288, true), (524_289, false)] {
-        assert!(rt; is_answered::<Vec<u64>>(alloc, &Vec::from_elem(alloc, 7u64, n)?, is_due)?);
-    }
-    for (n, is_due) in [(4_194_304, true), (4_194_305, false)] {
-        assert!(rt; is_answered::<Vec<u8>>(alloc, &bytes_of(alloc, n)?, is_due)?);
-    }
+    let mut numbers = Vec::from_elem(alloc, 7u64, 524_289)?;
+    assert!(rt; is_answered::<Vec<u64>>(alloc, &numbers, false)?);
+    numbers.truncate(524_288);
+    assert!(rt; is_answered::<Vec<u64>>(alloc, &numbers, true)?);
+    let mut bytes = bytes_of(alloc, 4_194_305)?;
+    assert!(rt; is_answered::<Vec<u8>>(alloc, &bytes, false)?);
+    bytes.truncate(4_194_304);
+    assert!(rt; is_answered::<Vec<u8>>(alloc, &bytes, true)?);
     Ok(())
 }
 
 #[test]
 fn texts(rt: HostRuntime) -> Result<(), Fail> {
     let alloc = rt.alloc();
-    for (n, is_due) in [(0, true), (4_194_304, true), (4_194_305, false)] {
-        let text = String::from_utf8(bytes_of(alloc, n)?)?;
-        assert!(rt; serialize_limited(alloc, &text).is_ok() == is_due);
-        assert!(rt; serialize_limited(alloc, &text.as_str()).is_ok() == is_due);
-    }
+    let mut text = String::from_utf8(bytes_of(alloc, 4_194_305)?)?;
+    assert!(rt; is_answered::<String>(alloc, &text, false)?);
+    assert!(rt; serialize_limited(alloc, &text.as_str()).is_err());
+    text.pop();
+    assert!(rt; serialize_limited(alloc, &text)?.len() == 4_194_312);
+    assert!(rt; serialize_limited(alloc, &text.as_str())?.len() == 4_194_312);
     Ok(())
 }
 
@@ -106,19 +111,22 @@ fn lists_of_each_kind(rt: HostRuntime) -> Result<(), Fail> {
     Ok(())
 }
 
-/// A length past 65535 has no encoding.
+/// Whether a list of so many bytes, of which the scheme has no encoding, is refused as past its limit.
+fn is_past<Len: LimitedLen>(alloc: Global, n: usize) -> Result<bool, Fail> {
+    let bytes = bytes_of(alloc, n)?;
+    let answer = <containers::Vec<u8, Len> as Limited>::serialize_limited(alloc, &bytes);
+    Ok(matches!(answer, Err(LimitError::PastLimit)))
+}
+
 #[test]
-fn short_lengths(rt: HostRuntime) -> Result<(), Fail> {
+fn lengths_without_an_encoding(rt: HostRuntime) -> Result<(), Fail> {
     let alloc = rt.alloc();
     type Short = containers::Vec<u8, ShortU16Len>;
     assert!(rt; is_answered::<Short>(alloc, &bytes_of(alloc, 65_535)?, true)?);
-    let many = bytes_of(alloc, 65_536)?;
-    assert!(rt;
-        matches!(
-            <Short as Limited>::serialize_limited(alloc, &many),
-            Err(LimitError::PastLimit)
-        )
-    );
+    assert!(rt; is_past::<ShortU16Len>(alloc, 65_536)?);
+    type Byte = containers::Vec<u8, ByteLen>;
+    assert!(rt; is_answered::<Byte>(alloc, &bytes_of(alloc, 255)?, true)?);
+    assert!(rt; is_past::<ByteLen>(alloc, 256)?);
     Ok(())
 }
 
@@ -155,8 +163,8 @@ fn lists_of_lists(rt: HostRuntime) -> Result<(), Fail> {
         let linked = LinkedList::from_array(alloc, [bytes_of(alloc, 2)?, bytes_of(alloc, n)?])?;
         assert!(rt; is_answered::<LinkedList<Few>>(alloc, &linked, is_due)?);
     }
-    let outer = vec![in alloc; bytes_of(alloc, 1)?, bytes_of(alloc, 4_194_305)?]?;
-    assert!(rt; is_answered::<Vec<Vec<u8>>>(alloc, &outer, false)?);
+    let outer = vec![in alloc; items_of(alloc, 1)?, items_of(alloc, 1025)?]?;
+    assert!(rt; is_answered::<Vec<Vec<[u64; 512]>>>(alloc, &outer, false)?);
     Ok(())
 }
 
@@ -172,20 +180,25 @@ fn values_of_maps(rt: HostRuntime) -> Result<(), Fail> {
     Ok(())
 }
 
+/// A list of so many items that count 4096 each.
+fn items_of(alloc: Global, n: usize) -> Result<Vec<[u64; 512]>, Fail> {
+    Ok(Vec::from_elem(alloc, [7u64; 512], n)?)
+}
+
 #[test]
-fn keys_and_items_of_sets(rt: HostRuntime) -> Result<(), Fail> {
+fn keys_and_items(rt: HostRuntime) -> Result<(), Fail> {
     let alloc = rt.alloc();
-    for (n, is_due) in [(2, true), (4_194_305, false)] {
-        let map = BTreeMap::from_array(alloc, [(bytes_of(alloc, n)?, 7u8)])?;
+    for (n, is_due) in [(2, true), (1024, true), (1025, false)] {
+        let map = BTreeMap::from_array(alloc, [(items_of(alloc, n)?, 7u8)])?;
         assert!(rt; serialize_limited(alloc, &map).is_ok() == is_due);
-        let set = BTreeSet::from_array(alloc, [bytes_of(alloc, n)?])?;
-        assert!(rt; serialize_limited(alloc, &set).is_ok() == is_due);
-        let set = HashSet::from_array(alloc, [bytes_of(alloc, n)?])?;
+        let set = BTreeSet::from_array(alloc, [items_of(alloc, n)?])?;
         assert!(rt; serialize_limited(alloc, &set).is_ok() == is_due);
         let mut heap = BinaryHeap::new(alloc);
-        heap.push(bytes_of(alloc, n)?)?;
+        heap.push(items_of(alloc, n)?)?;
         assert!(rt; serialize_limited(alloc, &heap).is_ok() == is_due);
     }
+    let set = HashSet::from_array(alloc, [bytes_of(alloc, 2)?])?;
+    assert!(rt; is_answered::<HashSet<Vec<u8>>>(alloc, &set, true)?);
     Ok(())
 }
 

@@ -4,7 +4,7 @@ ghost use Rattle.testkit_schemas.specs.ByteLengths.{byte_scheme, byte_scheme_law
 
 use wincode::io::{Lending, Reader, Writer, fill_array};
 use wincode::len::SeqLen;
-use wincode::{ReadResult, WriteError, WriteResult};
+use wincode::{LimitedLen, ReadResult, WriteError, WriteResult};
 
 /// Lengths below 256, each in a byte. It has no limit of its own: a length is read whatever its items
 /// count.
@@ -39,4 +39,10 @@ impl SeqLen for ByteLen {
     }
 
     ghost scheme_laws = { byte_scheme_laws };
+}
+
+impl LimitedLen for ByteLen {
+    fn admits(len: usize, _prealloc: usize) -> bool {
+        len < 256
+    }
 }
