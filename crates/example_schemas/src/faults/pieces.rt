@@ -22,22 +22,23 @@ pub struct Pieces {
 }
 
 impl Model for Pieces {
-    ghost use Rattle.std.specs.Prelude.{◌≤◌, true, drop, ◌++◌, vec_len};
+    ghost use Rattle.std.specs.Prelude.{◌≤◌, Bool, true, drop, ◌++◌, vec_len};
     ghost use Rattle.std.specs.declared.io.ErrorKind.TheVariants.{Other};
     ghost use Rattle.wincode_io.specs.Sources.{SourceState};
     ghost use Rattle.example_schemas.specs.Pieces.{joined};
 
-    ghost Value = { SourceState };
+    ghost Value = { SourceState × Bool };
 
-    ghost view = { λ p. record { coming = drop p.place p.piece.items ++ joined p.later.items; failures = p.failures; last = Other; is_known = true } };
+    // The bytes that are left, and whether it fails behind them.
+    ghost view = { λ p. (record { coming = drop p.place p.piece.items ++ joined p.later.items; failures = p.failures; last = Other; is_known = true }, p.fails) };
 
     ghost invariant = { λ p. p.place ≤ vec_len p.piece };
 }
 
 impl Pieces {
-    /// A source of these pieces, which has not failed.
+    /// A source of these pieces, which has not failed, and which ends or fails behind them.
     pub fn new(alloc: Global, pieces: Vec<Vec<u8>>, fails: bool) -> Pieces
-        ensures { result ≡ record { coming = joined pieces.items; failures = 0; last = Other; is_known = true } }
+        ensures { result ≡ (record { coming = joined pieces.items; failures = 0; last = Other; is_known = true }, fails) }
     {
         Pieces {
             piece: Vec::new(alloc),
@@ -50,7 +51,7 @@ impl Pieces {
 }
 
 impl Source for Pieces {
-    ghost state = { λ p. p };
+    ghost state = { λ p. p.0 };
 
     fn read_some(&mut self, buf: &mut [u8]) -> io::Result<usize> {
         if buf.is_empty() {
