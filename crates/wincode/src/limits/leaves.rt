@@ -7,7 +7,6 @@ use crate::len::{BincodeLen, NO_LIMIT, PREALLOCATION_LIMIT, ShortU16};
 use crate::limits::lists::list_is_within;
 use crate::limits::{Limited, LimitedLen};
 use std::marker::PhantomData;
-use std::str;
 use wincode_write::schema::to_items::ToItems;
 
 impl Limited for bool {
@@ -85,6 +84,10 @@ impl Limited for String {
         24
     }
 
+    fn has_no_limits() -> bool {
+        false
+    }
+
     fn is_within(src: &String) -> bool {
         src.len() <= PREALLOCATION_LIMIT
     }
@@ -148,6 +151,10 @@ impl<B: SharedBytes, T: ZeroCopy> Limited for View<B, T> {
 impl<B: SharedBytes, T: ZeroCopy> Limited for SliceView<B, T> {
     fn counts() -> usize {
         16
+    }
+
+    fn has_no_limits() -> bool {
+        false
     }
 
     fn is_within(src: &SliceView<B, T>) -> bool {

@@ -132,6 +132,10 @@ impl<T: Limited> Limited for Vec<T> {
         24
     }
 
+    fn has_no_limits() -> bool {
+        false
+    }
+
     fn is_within(src: &Vec<T::Src>) -> bool {
         list_is_within::<PlainLen, T, &[T::Src]>(&src.as_slice())
     }
@@ -142,6 +146,10 @@ impl<T: Limited> Limited for VecDeque<T> {
         24
     }
 
+    fn has_no_limits() -> bool {
+        false
+    }
+
     fn is_within(src: &VecDeque<T::Src>) -> bool {
         list_is_within::<PlainLen, T, VecDeque<T::Src>>(src)
     }
@@ -150,6 +158,10 @@ impl<T: Limited> Limited for VecDeque<T> {
 impl<T: Limited> Limited for LinkedList<T> {
     fn counts() -> usize {
         24
+    }
+
+    fn has_no_limits() -> bool {
+        false
     }
 
     fn is_within(src: &LinkedList<T::Src>) -> bool {
@@ -165,6 +177,10 @@ where
         24
     }
 
+    fn has_no_limits() -> bool {
+        false
+    }
+
     fn is_within(src: &BTreeMap<K::Src, V::Src>) -> bool {
         list_is_within::<PlainLen, Members2<K, V>, BTreeMap<K::Src, V::Src>>(src)
     }
@@ -176,6 +192,10 @@ where
 {
     fn counts() -> usize {
         24
+    }
+
+    fn has_no_limits() -> bool {
+        false
     }
 
     fn is_within(src: &HashMap<K::Src, V::Src>) -> bool {
@@ -191,6 +211,10 @@ where
         24
     }
 
+    fn has_no_limits() -> bool {
+        false
+    }
+
     fn is_within(src: &BTreeSet<K::Src>) -> bool {
         list_is_within::<PlainLen, K, BTreeSet<K::Src>>(src)
     }
@@ -204,6 +228,10 @@ where
         24
     }
 
+    fn has_no_limits() -> bool {
+        false
+    }
+
     fn is_within(src: &HashSet<K::Src>) -> bool {
         list_is_within::<PlainLen, K, HashSet<K::Src>>(src)
     }
@@ -215,6 +243,10 @@ where
 {
     fn counts() -> usize {
         24
+    }
+
+    fn has_no_limits() -> bool {
+        false
     }
 
     fn is_within(src: &BinaryHeap<T::Src>) -> bool {

@@ -1,0 +1,116 @@
+//! Reads and writes the values of `run_bench --time` in plain Rust, as a careful hand would write it over `Vec<u8>` and
+//! `&[u8]`: what has one size is copied at once, each length is looked at before memory is asked for, and what is cut off
+//! or is no value is refused. Prints a row for each measurement, named as there: the least time of 40 runs in nanoseconds.
+//!
+//! `tools/compare` builds it by `rustc` alone and runs it beside the bench. An argument is the number that the values are
+//! made of, which no compiler knows.
+mod coded;
+mod made;
+
+use coded::{Coded, LIMIT, LONG_LIMIT, Refused};
+use made::{Event, Made, Pod, Record};
+use std::collections::{BTreeMap, HashMap, VecDeque};
+use std::hint::black_box;
+use std::time::Instant;
+
+const RUNS: u32 = 40;
+
+/// The least time of the runs, in nanoseconds.
+fn least<T>(mut run: impl FnMut() -> T) -> u128 {
+    let mut least = u128::MAX;
+    for _ in 0..RUNS {
+        let start = Instant::now();
+        let made = run();
+        let taken = start.elapsed().as_nanos();
+        black_box(&made);
+        drop(made);
+        least = least.min(taken);
+    }
+    least
+}
+
+fn row(name: &str, done: &str, nanoseconds: u128) {
+    println!("{name} {done}: {nanoseconds} nanoseconds");
+}
+
+/// The value's encoding in a new vector.
+fn serialize<T: Coded>(value: &T) -> Result<Vec<u8>, Refused> {
+    let mut bytes = Vec::with_capacity(value.size().ok_or(Refused)?);
+    value.write(&mut bytes);
+    Ok(bytes)
+}
+
+/// Times a value's reading and writing.
+fn time_value<T: Made + Coded, const MAX: usize>(name: &str, first: u64, lengths: &[u64]) -> Result<(), Refused> {
+    let value = T::made(first, lengths);
+    let text = serialize(&value)?;
+    row(name, "copied", least(|| black_box(&text[..]).to_vec()));
+    row(name, "read", least(|| T::read::<MAX>(&mut black_box(&text[..]))));
+    row(name, "written", least(|| serialize(black_box(&value))));
+    Ok(())
+}
+
+fn time_numbers(first: u64) -> Result<(), Refused> {
+    time_value::<Vec<u64>, LIMIT>("numbers", first, &[500_000])?;
+    for (name, count) in [("a million numbers", 1), ("2 million numbers", 2), ("4 million numbers", 4), ("8 million numbers", 8)] {
+        time_value::<Vec<u64>, LONG_LIMIT>(name, first, &[count * 1_000_000])?;
+    }
+    time_value::<Vec<u8>, LIMIT>("bytes", first, &[4_000_000])?;
+    time_value::<Vec<u8>, LONG_LIMIT>("more bytes", first, &[16_000_000])?;
+    time_value::<Vec<Vec<u64>>, LIMIT>("lists of numbers", first, &[1_000, 1_000])?;
+    time_value::<Vec<Vec<Vec<Vec<u32>>>>, LIMIT>("nested four deep", first, &[20, 20, 20, 20])?;
+    time_value::<VecDeque<u64>, LIMIT>("queue", first, &[500_000])
+}
+
+fn time_texts(first: u64) -> Result<(), Refused> {
+    time_value::<String, LIMIT>("one text", first, &[4_000_000])?;
+    time_value::<Vec<String>, LIMIT>("texts", first, &[100_000, 20])?;
+    time_value::<Vec<String>, LIMIT>("more texts", first, &[100_000, 4])?;
+    time_value::<Vec<(u64, String)>, LIMIT>("records with a text", first, &[50_000, 20])?;
+    time_value::<BTreeMap<u64, u64>, LIMIT>("sorted pairs", first, &[100_000])?;
+    time_value::<HashMap<u64, u64>, LIMIT>("hashed pairs", first, &[100_000])
+}
+
+fn time_parts(first: u64) -> Result<(), Refused> {
+    time_value::<Vec<Record>, LIMIT>("records in a list", first, &[50_000])?;
+    time_value::<Vec<Record>, LONG_LIMIT>("more records", first, &[200_000])?;
+    time_value::<Vec<[u8; 32]>, LIMIT>("arrays", first, &[50_000])?;
+    time_value::<Vec<Pod>, LIMIT>("arrays as forms", first, &[50_000])?;
+    time_value::<Vec<(u64, u32)>, LIMIT>("pairs", first, &[100_000])?;
+    time_value::<Vec<Option<u64>>, LIMIT>("options", first, &[100_000])?;
+    time_value::<Vec<Result<u64, u64>>, LIMIT>("results", first, &[100_000])?;
+    time_value::<Vec<Event>, LIMIT>("events", first, &[50_000])
+}
+
+/// Records that are read one after another from one slice, and written one after another to one vector.
+fn time_records(first: u64) -> Result<(), Refused> {
+    let name = "records one by one";
+    let records = Vec::<Record>::made(first, &[50_000]);
+    let join = |records: &[Record]| {
+        let mut bytes = Vec::with_capacity(records.len() * 41);
+        records.iter().for_each(|record| record.write(&mut bytes));
+        bytes
+    };
+    let text = join(&records);
+    row(name, "copied", least(|| black_box(&text[..]).to_vec()));
+    let read = || -> Result<u64, Refused> {
+        let mut rest = black_box(&text[..]);
+        let mut sum = 0u64;
+        for place in 0..records.len() {
+            let (number, is_odd, bytes) = Record::read::<LIMIT>(&mut rest)?;
+            sum = sum.wrapping_add(number).wrapping_add(u64::from(is_odd)).wrapping_add(u64::from(bytes[place % 32]));
+        }
+        Ok(sum)
+    };
+    row(name, "read", least(read));
+    row(name, "written", least(|| join(black_box(&records))));
+    Ok(())
+}
+
+fn main() -> Result<(), Refused> {
+    let first = std::env::args().count() as u64 - 1;
+    time_numbers(first)?;
+    time_texts(first)?;
+    time_parts(first)?;
+    time_records(first)
+}
