@@ -1,0 +1,5 @@
+pub mod CountLaws
+pub mod Messages
+pub mod Pages
+pub mod Refusals
+pub mod Reports
