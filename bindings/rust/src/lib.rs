@@ -28,12 +28,48 @@ struct Report {
     second: usize,
 }
 
+/// As `struct wincode_page`.
+#[repr(C)]
+#[derive(Default)]
+struct Page {
+    length: usize,
+    lines: usize,
+    behind: usize,
+}
+
 type Call = unsafe extern "C" fn(*const u8, usize, *const u8, usize, *mut Report) -> i32;
 
 extern "C" {
     fn wincode_check(text: *const u8, text_length: usize, bytes: *const u8, length: usize, report: *mut Report) -> i32;
     fn wincode_check_exact(text: *const u8, text_length: usize, bytes: *const u8, length: usize, report: *mut Report) -> i32;
+    fn wincode_explain(
+        text: *const u8,
+        text_length: usize,
+        bytes: *const u8,
+        length: usize,
+        from: usize,
+        room: *mut u8,
+        room_length: usize,
+        report: *mut Report,
+        page: *mut Page,
+    ) -> i32;
+    fn wincode_layout(
+        source: *const u8,
+        source_length: usize,
+        text: *const u8,
+        text_length: usize,
+        room: *mut u8,
+        room_length: usize,
+        length: *mut usize,
+    ) -> i32;
 }
+
+/// How many bytes of lines are asked for at first.
+const ROOM: usize = 65_536;
+
+const TEXT_OUT_OF_MEMORY: i32 = -5;
+
+const TOO_LITTLE_ROOM: i32 = -6;
 
 /// A type of values.
 #[derive(Debug, Clone, PartialEq, Eq)]
@@ -76,8 +112,11 @@ pub enum Kind {
     NoSuchTag(usize),
     /// The byte is neither 0 nor 1.
     NoBool(usize),
-    /// A length or a size can't be counted.
-    LengthOverflow,
+    /// A length is past what its scheme can say, or a size past what can be counted.
+    LengthOverflow {
+        /// Whether it is a short length.
+        is_short: bool,
+    },
     /// No character begins with this byte.
     NoCharacter(usize),
     /// Memory was refused.
@@ -115,9 +154,79 @@ impl Type {
     pub fn parse(text: &str) -> Result<Type, NoType> {
         let (number, report) = call(wincode_check, text, &[]);
         if number < 0 {
-            return Err(NoType { at: report.place, is_too_deep: number == -3, is_memory: number == -4 });
+            return Err(NoType::of(number, report.place));
         }
         Ok(Type { text: text.to_owned() })
+    }
+
+    /// The type of that name, where the structs and enums that a Rust source declares have theirs: `Vec<Account>` too.
+    pub fn of_declarations(source: &str, text: &str) -> Result<Type, NoType> {
+        let mut room = vec![0; 1_024];
+        loop {
+            let mut length = 0;
+            // SAFETY: as in `call`; the room is a vector's, and nothing else holds it or the length.
+            let number = unsafe {
+                let (source, source_length) = (source.as_ptr(), source.len());
+                wincode_layout(
+                    source,
+                    source_length,
+                    text.as_ptr(),
+                    text.len(),
+                    room.as_mut_ptr(),
+                    room.len(),
+                    &mut length,
+                )
+            };
+            match number {
+                0 => room.truncate(length),
+                TOO_LITTLE_ROOM => {
+                    room.resize(length, 0);
+                    continue;
+                }
+                number => return Err(NoType::of(number, length)),
+            }
+            let text = String::from_utf8(room).map_err(|_| NoType::of(-2, 0))?;
+            return Ok(Type { text });
+        }
+    }
+
+    /// The lines that explain the value at the front of the bytes, one for each part: its offset, its bytes, its place and
+    /// its value. Of a refusal the last line has the offset, the place and why.
+    pub fn explain(&self, bytes: &[u8]) -> Result<Lines, Refused> {
+        let mut room = vec![0; ROOM];
+        loop {
+            let (mut report, mut page) = (Report::default(), Page::default());
+            // SAFETY: as in `call`; the room is a vector's, and nothing else holds it, the report or the page.
+            let number = unsafe {
+                let (text, bytes, length) = (&self.text, bytes.as_ptr(), bytes.len());
+                wincode_explain(
+                    text.as_ptr(),
+                    text.len(),
+                    bytes,
+                    length,
+                    0,
+                    room.as_mut_ptr(),
+                    room.len(),
+                    &mut report,
+                    &mut page,
+                )
+            };
+            if number == TEXT_OUT_OF_MEMORY {
+                return Err(Refused {
+                    kind: Kind::OutOfMemory,
+                    offset: report.length,
+                    place: report.place,
+                });
+            }
+            if page.behind == 0 {
+                room.truncate(page.length);
+                return Ok(Lines {
+                    text: String::from_utf8_lossy(&room).into_owned(),
+                    at: 0,
+                });
+            }
+            room.resize(page.length + page.behind, 0);
+        }
     }
 
     /// The value at the front of the bytes.
@@ -133,9 +242,35 @@ impl Type {
     fn read(&self, check: Call, bytes: &[u8]) -> Result<Checked, Refused> {
         let (number, report) = call(check, &self.text, bytes);
         if number == 0 {
-            return Ok(Checked { length: report.length, parts: report.parts, behind: report.behind });
+            return Ok(Checked {
+                length: report.length,
+                parts: report.parts,
+                behind: report.behind,
+            });
         }
-        Err(Refused { kind: Kind::of(number, &report), offset: report.length, place: report.place })
+        Err(Refused {
+            kind: Kind::of(number, &report),
+            offset: report.length,
+            place: report.place,
+        })
+    }
+}
+
+/// Lines that explain a value, without their line breaks.
+#[derive(Debug, Clone)]
+pub struct Lines {
+    text: String,
+    at: usize,
+}
+
+impl Iterator for Lines {
+    type Item = String;
+
+    fn next(&mut self) -> Option<String> {
+        let rest = &self.text[self.at..];
+        let end = rest.find('\n')?;
+        self.at += end + 1;
+        Some(rest[..end].to_owned())
     }
 }
 
@@ -154,13 +289,19 @@ impl Kind {
         match number {
             1 => Kind::TooFewBytes(report.first),
             4 | 14 | -4 => Kind::OutOfMemory,
-            5 => Kind::NotUtf8 { valid_up_to: report.first, error_len: (report.second > 0).then_some(report.second) },
-            7 => Kind::PastLimit { needed: report.first, limit: report.second },
+            5 => Kind::NotUtf8 {
+                valid_up_to: report.first,
+                error_len: (report.second > 0).then_some(report.second),
+            },
+            7 => Kind::PastLimit {
+                needed: report.first,
+                limit: report.second,
+            },
             8 => Kind::NoSuchTag(report.first),
             9 => Kind::NoBool(report.first),
-            10 => Kind::LengthOverflow,
+            10 | 16 => Kind::LengthOverflow { is_short: number == 16 },
             11 => Kind::NoCharacter(report.first),
-            15 => Kind::BytesBehind(report.behind),
+            15 => Kind::BytesBehind(report.first),
             number => Kind::Other(number),
         }
     }
@@ -171,21 +312,33 @@ impl fmt::Display for Kind {
     fn fmt(&self, to: &mut fmt::Formatter<'_>) -> fmt::Result {
         match self {
             Kind::TooFewBytes(wanted) => write!(to, "Attempting to read {wanted} bytes"),
-            Kind::NotUtf8 { valid_up_to, error_len: Some(count) } => {
+            Kind::NotUtf8 {
+                valid_up_to,
+                error_len: Some(count),
+            } => {
                 write!(to, "invalid utf-8 sequence of {count} bytes from index {valid_up_to}")
             }
-            Kind::NotUtf8 { valid_up_to, error_len: None } => {
+            Kind::NotUtf8 {
+                valid_up_to,
+                error_len: None,
+            } => {
                 write!(to, "incomplete utf-8 byte sequence from index {valid_up_to}")
             }
             Kind::PastLimit { needed, limit } => {
-                write!(to, "Encoded sequence length exceeded preallocation limit of {limit} bytes (needed {needed} bytes)")
+                write!(
+                    to,
+                    "Encoded sequence length exceeded preallocation limit of {limit} bytes (needed {needed} bytes)"
+                )
             }
             Kind::NoSuchTag(tag) => write!(to, "Invalid tag encoding: {tag}"),
             Kind::NoBool(byte) => write!(to, "Invalid bool encoding: {byte}"),
-            Kind::LengthOverflow => write!(to, "Sequence length would overflow length encoding scheme"),
+            Kind::LengthOverflow { is_short } => {
+                let most = if *is_short { "u16::MAX" } else { "usize::MAX" };
+                write!(to, "Sequence length would overflow length encoding scheme: {most}")
+            }
             Kind::NoCharacter(byte) => write!(to, "Invalid char lead: {byte}"),
             Kind::OutOfMemory => write!(to, "Out of memory"),
-            Kind::BytesBehind(count) => write!(to, "{count} bytes behind the value"),
+            Kind::BytesBehind(count) => write!(to, "Bytes behind the value: {count}"),
             Kind::Other(number) => write!(to, "refused: {number}"),
         }
     }
@@ -198,6 +351,16 @@ impl fmt::Display for Refused {
 }
 
 impl std::error::Error for Refused {}
+
+impl NoType {
+    fn of(number: i32, at: usize) -> NoType {
+        NoType {
+            at,
+            is_too_deep: number == -3,
+            is_memory: number == -4 || number == TEXT_OUT_OF_MEMORY,
+        }
+    }
+}
 
 impl fmt::Display for NoType {
     fn fmt(&self, to: &mut fmt::Formatter<'_>) -> fmt::Result {
