@@ -8,3 +8,4 @@ mod ReadsBack
 mod WrittenSplits
 mod LineParts
 mod Placed
+mod Likes

@@ -1,0 +1,51 @@
+-- What the encodings of two types are to each other.
+use Rattle.std.specs.Prelude.{◌≡◌, ℕ, List, true}
+use Rattle.wincode_base.specs.Grammar.{ReadGrammar}
+use Rattle.wincode_base.specs.Lengths.{Scheme}
+use Rattle.wincode_base.specs.Outcomes.{Found}
+use Rattle.wincode_describe.specs.Forms.{seen_cases}
+use Rattle.wincode_describe.specs.Parts.{Part}
+use Rattle.wincode_describe.specs.Readers.{has_tag}
+use Rattle.wincode_describe.specs.Types.{described_read, cases_read}
+use Rattle.wincode_describe.specs.declared.described.Cases.{Cases}
+use Rattle.wincode_describe.specs.declared.described.Described.{Described}
+use Rattle.wincode_describe.specs.declared.likeness.Likeness.{Likeness}
+use Rattle.wincode_describe.specs.declared.likeness.Likeness.TheVariants.{Same, Reads, Unlike}
+
+-- Each input that begins with a value of the old type begins with one of the new type, as long and with the same parts, which
+-- so stand at the same offsets.
+abbrev pub ReadsAs : Described → Described → Type 0
+ReadsAs old new = (bytes rest : List ℕ) (parts : List Part) → Found (described_read old).reads bytes parts rest
+    → Found (described_read new).reads bytes parts rest
+
+-- what reads by the one grammar reads by the other, as the same parts
+abbrev pub Within : ReadGrammar (List Part) → ReadGrammar (List Part) → Type 0
+Within g h = (b : List ℕ) (w : List Part) → g.reads b w → h.reads b w
+
+-- What an answer says of two grammars: the same reads by both; what reads by the first reads by the second; or nothing.
+abbrev pub IsLike : Likeness → ReadGrammar (List Part) → ReadGrammar (List Part) → Type 0
+IsLike Same g h = Within g h × Within h g
+IsLike Reads g h = Within g h
+IsLike Unlike g h = Unit {0}
+
+-- So, of the lengths that a scheme reads where an item counts so much, and where it counts that.
+abbrev pub IsWider : Likeness → Scheme → ℕ → ℕ → Type 0
+IsWider Same s p q = ((n : ℕ) → s.admits n p → s.admits n q) × ((n : ℕ) → s.admits n q → s.admits n p)
+IsWider Reads s p q = (n : ℕ) → s.admits n p → s.admits n q
+IsWider Unlike s p q = Unit {0}
+
+-- what two answers say together
+abbrev pub both : Likeness → Likeness → Likeness
+both Same b = b
+both Reads Same = Reads
+both Reads Reads = Reads
+both Reads Unlike = Unlike
+both Unlike b = Unlike
+
+-- So, of what stands behind each tag of the first cases.
+abbrev pub AreLike : Likeness → Cases → Cases → Type 0
+AreLike a cs ds = (t : ℕ) → has_tag (seen_cases cs) t ≡ true → IsLike a ((cases_read cs).case t) ((cases_read ds).case t)
+
+-- each tag of the first cases is one of the others
+abbrev pub AreNamed : Cases → Cases → Type 0
+AreNamed cs ds = (t : ℕ) → has_tag (seen_cases cs) t ≡ true → has_tag (seen_cases ds) t ≡ true

@@ -1,0 +1,197 @@
+//! Whether what was written of one type is read of another, and as the same.
+use crate::described::Described;
+use crate::differing::{Change, changes_of};
+use crate::explaining::explain;
+use crate::likeness::{Likeness, likeness};
+use crate::lines::explained_lines;
+use crate::shown::Shown;
+use std::alloc::{AllocError, Global};
+use wincode_base::error::ReadError;
+use wincode_io::Lifetime;
+
+/// What the new type is to what was written of the old one.
+#[derive(Debug, Clone, Copy, PartialEq, Eq)]
+pub enum Answer {
+    /// Every input is accepted by both types or by neither, to the same length, with the same parts.
+    Same,
+    /// What the old type accepts the new one accepts, to the same length, with the same parts.
+    Reads,
+    /// Some input that the old type accepts isn't accepted by the new one with the same parts.
+    Differs,
+    /// Nothing is known.
+    MayDiffer,
+}
+
+/// How a new type compares to an old one.
+#[derive(Debug, Drop)]
+pub struct Comparison {
+    pub answer: Answer,
+    /// All that is written in two ways, in the order of the old type's parts.
+    pub changes: Vec<Change>,
+}
+
+/// Whether two parts are the same.
+fn is_same_part(one: &Shown, other: &Shown) -> bool {
+    match one {
+        Shown::Natural { integer, value } => match other {
+            Shown::Natural { integer: i, value: v } => *integer == *i && *value == *v,
+            _ => false,
+        },
+        Shown::Signed { integer, value } => match other {
+            Shown::Signed { integer: i, value: v } => *integer == *i && *value == *v,
+            _ => false,
+        },
+        Shown::Flag(flag) => match other {
+            Shown::Flag(f) => *flag == *f,
+            _ => false,
+        },
+        Shown::Character(character) => match other {
+            Shown::Character(c) => *character == *c,
+            _ => false,
+        },
+        Shown::Text(text) => match other {
+            Shown::Text(t) => text.as_str() == t.as_str(),
+            _ => false,
+        },
+        Shown::Bytes(bytes) => match other {
+            Shown::Bytes(b) => bytes.as_slice() == b.as_slice(),
+            _ => false,
+        },
+        Shown::Length { scheme, count } => match other {
+            Shown::Length { scheme: s, count: c } => *scheme == *s && *count == *c,
+            _ => false,
+        },
+        Shown::Tag { size, tag } => match other {
+            Shown::Tag { size: s, tag: t } => *size == *s && *tag == *t,
+            _ => false,
+        },
+        Shown::Nothing => match other {
+            Shown::Nothing => true,
+            _ => false,
+        },
+    }
+}
+
+/// Whether all parts are the same.
+fn are_same_parts(parts: &[Shown], others: &[Shown]) -> bool {
+    parts.len() == others.len()
+        && parts.iter().zip(others.iter()).all(|(part, other)| is_same_part(part, other))
+}
+
+/// Whether it says that the bytes are no value, whatever the memory.
+fn is_unaccepted(error: &ReadError) -> bool {
+    match error {
+        ReadError::OutOfMemory => false,
+        ReadError::Io(error) => matches!(error, wincode_io::error::ReadError::ReadSizeLimit(_)),
+        _ => true,
+    }
+}
+
+/// Whether the old type accepts the bytes, and the new one refuses them or reads other parts.
+fn is_witness(alloc: Global, old: &Described, new: &Described, bytes: &[u8]) -> bool {
+    let was = explain::<Lifetime>(alloc, old, bytes);
+    if was.refused.is_some() {
+        return false;
+    }
+    let is = explain::<Lifetime>(alloc, new, bytes);
+    match &is.refused {
+        Some(error) => is_unaccepted(error),
+        None => !are_same_parts(was.parts.as_slice(), is.parts.as_slice()),
+    }
+}
+
+/// Takes away each witness that shows nothing; whether one is left.
+fn tried(alloc: Global, old: &Described, new: &Described, changes: &mut Vec<Change>) -> bool {
+    let mut is_shown = false;
+    for change in changes.iter_mut() {
+        let shows = match &change.witness {
+            Some(bytes) => is_witness(alloc, old, new, bytes.as_slice()),
+            None => false,
+        };
+        if shows {
+            is_shown = true;
+        } else {
+            change.witness = None;
+        }
+    }
+    is_shown
+}
+
+/// Compares a new type to an old one by their forms: `Same`, where every input is accepted by both or by neither, to the same
+/// length, with the same parts at the same offsets; `Reads`, where what the old type accepts the new one accepts so; `Differs`,
+/// where a witness was read by both and shows it; else `MayDiffer`. Names change no answer. Its time grows with the types, and
+/// with the bytes of the witnesses, of which each has some 64 KiB at the most.
+pub fn compare(
+    alloc: Global,
+    old: &Described,
+    new: &Described,
+) -> Result<Comparison, AllocError> {
+    let mut changes = changes_of(alloc, old, new)?;
+    let is_shown = tried(alloc, old, new, &mut changes);
+    let answer = match likeness(old, new) {
+        Likeness::Same => Answer::Same,
+        Likeness::Reads => Answer::Reads,
+        Likeness::Unlike if is_shown => Answer::Differs,
+        Likeness::Unlike => Answer::MayDiffer,
+    };
+    Ok(Comparison { answer, changes })
+}
+
+/// The word of an answer.
+fn answer_word(answer: Answer) -> &'static str {
+    match answer {
+        Answer::Same => "same",
+        Answer::Reads => "reads",
+        Answer::Differs => "differs",
+        Answer::MayDiffer => "may differ",
+    }
+}
+
+/// Bytes in hexadecimal, with a space between them.
+fn spaced(alloc: Global, bytes: &[u8]) -> Result<String, AllocError> {
+    let mut text = String::new(alloc);
+    for byte in bytes {
+        let digits = format!(in alloc; " {byte:02x}")?;
+        text.push_str(digits.as_str())?;
+    }
+    Ok(text)
+}
+
+/// A change, and what its witness is by either type.
+fn push_change(
+    alloc: Global,
+    text: &mut String,
+    (old, new): (&Described, &Described),
+    change: &Change,
+) -> Result<(), AllocError> {
+    if !change.place.is_empty() {
+        text.push_str(change.place.as_str())?;
+        text.push_str(": ")?;
+    }
+    text.push_str(change.why.as_str())?;
+    text.push_str("\n")?;
+    if let Some(bytes) = &change.witness {
+        let digits = spaced(alloc, bytes.as_slice())?;
+        let (_, was) = explained_lines(alloc, old, bytes.as_slice())?;
+        let (_, is) = explained_lines(alloc, new, bytes.as_slice())?;
+        let shown = format!(in alloc; "  witness:{digits}\n  old:\n{was}  new:\n{is}")?;
+        text.push_str(shown.as_str())?;
+    }
+    Ok(())
+}
+
+/// What is printed of two types: the answer, and then a line for each change, of its place and of what changed. Behind a
+/// difference that was shown stand its witness in hexadecimal, and how the old and the new type explain it.
+pub fn compared_lines(
+    alloc: Global,
+    old: &Described,
+    new: &Described,
+) -> Result<(Answer, String), AllocError> {
+    let comparison = compare(alloc, old, new)?;
+    let word = answer_word(comparison.answer);
+    let mut text = format!(in alloc; "{word}\n")?;
+    for change in comparison.changes.iter() {
+        push_change(alloc, &mut text, (old, new), change)?;
+    }
+    Ok((comparison.answer, text))
+}
