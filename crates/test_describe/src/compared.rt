@@ -5,6 +5,7 @@ use wincode_describe::{Described, compared_lines};
 #[test]
 fn says_so(rt: HostRuntime) -> Result<(), Fail> {
     let alloc = rt.alloc();
+    let mut all = String::new(alloc);
     for (old, new) in [
         ("u32", "u64"),
         ("struct { id: u32, name: String }", "struct { id: u32, title: String }"),
@@ -17,8 +18,8 @@ fn says_so(rt: HostRuntime) -> Result<(), Fail> {
         ("Vec<Box<()>>", "Vec<Box<u8>>"),
     ] {
         let (_, text) = compared_lines(alloc, &Described::parse(alloc, old)?, &Described::parse(alloc, new)?)?;
-        let line = format!(in alloc; "{old} / {new}\n{text}")?;
-        assert_eq!(rt; line.as_str(), "");
+        all.push_str(format!(in alloc; "{old} / {new}\n{text}\n")?.as_str())?;
     }
+    assert_eq!(rt; all.as_str(), "");
     Ok(())
 }

@@ -9,3 +9,4 @@ mod WrittenSplits
 mod LineParts
 mod Placed
 mod Likes
+mod Witnesses

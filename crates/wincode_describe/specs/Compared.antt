@@ -3,10 +3,15 @@ use Rattle.std.specs.Prelude.{◌≡◌, ℕ, List, true}
 use Rattle.wincode_base.specs.Grammar.{ReadGrammar}
 use Rattle.wincode_base.specs.Lengths.{Scheme}
 use Rattle.wincode_base.specs.Outcomes.{Found}
+use Rattle.wincode_base.specs.declared.error.ReadError.{ReadError}
+use Rattle.wincode_base.specs.declared.error.ReadError.TheVariants as reading
+use Rattle.wincode_io.specs.declared.error.ReadError.TheVariants as reader
 use Rattle.wincode_describe.specs.Forms.{seen_cases}
 use Rattle.wincode_describe.specs.Parts.{Part}
 use Rattle.wincode_describe.specs.Readers.{has_tag}
 use Rattle.wincode_describe.specs.Types.{described_read, cases_read}
+use Rattle.wincode_describe.specs.declared.comparing.Answer.{Answer}
+use Rattle.wincode_describe.specs.declared.comparing.Answer.TheVariants as answer
 use Rattle.wincode_describe.specs.declared.described.Cases.{Cases}
 use Rattle.wincode_describe.specs.declared.described.Described.{Described}
 use Rattle.wincode_describe.specs.declared.likeness.Likeness.{Likeness}
@@ -17,6 +22,25 @@ use Rattle.wincode_describe.specs.declared.likeness.Likeness.TheVariants.{Same, 
 abbrev pub ReadsAs : Described → Described → Type 0
 ReadsAs old new = (bytes rest : List ℕ) (parts : List Part) → Found (described_read old).reads bytes parts rest
     → Found (described_read new).reads bytes parts rest
+
+-- The old type accepts a front of these bytes, and the new one no front with those parts.
+abbrev pub IsWitness : Described → Described → List ℕ → Type 0
+IsWitness old new bytes = (parts : List Part) × (rest : List ℕ) × Found (described_read old).reads bytes parts rest
+    × ((left : List ℕ) → Found (described_read new).reads bytes parts left → ⊥)
+
+-- an error that says that no value stands at the front, whatever memory and borrows there are
+abbrev pub IsUnaccepted : ReadError → Type 0
+IsUnaccepted reading.OutOfMemory = ⊥
+IsUnaccepted (reading.Io (reader.ReadSizeLimit n)) = Unit {0}
+IsUnaccepted (reading.Io e) = ⊥
+IsUnaccepted e = Unit {0}
+
+-- What an answer promises of two types.
+abbrev pub Answers : Answer → Described → Described → Type 0
+Answers answer.Same old new = ReadsAs old new × ReadsAs new old
+Answers answer.Reads old new = ReadsAs old new
+Answers answer.Differs old new = (bytes : List ℕ) × IsWitness old new bytes
+Answers answer.MayDiffer old new = Unit {0}
 
 -- what reads by the one grammar reads by the other, as the same parts
 abbrev pub Within : ReadGrammar (List Part) → ReadGrammar (List Part) → Type 0

@@ -1,8 +1,12 @@
 //! Whether what was written of one type is read of another, and as the same.
+ghost use Rattle.std.specs.Prelude.{◌≡◌, ℕ, List, true, map, IfOk, IfSome};
+ghost use Rattle.wincode_describe.specs.Compared.{Answers, IsUnaccepted, IsWitness};
+ghost use Rattle.wincode_describe.specs.Parts.{seen};
+
 use crate::described::Described;
-use crate::differing::{Change, changes_of};
+use crate::differing::{Change, ChangeKind, changes_of};
 use crate::explaining::explain;
-use crate::likeness::{Likeness, likeness};
+use crate::likeness::{Likeness, likeness_of};
 use crate::lines::explained_lines;
 use crate::shown::Shown;
 use std::alloc::{AllocError, Global};
@@ -31,7 +35,9 @@ pub struct Comparison {
 }
 
 /// Whether two parts are the same.
-fn is_same_part(one: &Shown, other: &Shown) -> bool {
+fn is_same_part(one: &Shown, other: &Shown) -> bool
+    ensures { seen one.now ≡ seen other.now → result ≡ true }
+{
     match one {
         Shown::Natural { integer, value } => match other {
             Shown::Natural { integer: i, value: v } => *integer == *i && *value == *v,
@@ -72,23 +78,39 @@ fn is_same_part(one: &Shown, other: &Shown) -> bool {
     }
 }
 
-/// Whether all parts are the same.
-fn are_same_parts(parts: &[Shown], others: &[Shown]) -> bool {
-    parts.len() == others.len()
-        && parts.iter().zip(others.iter()).all(|(part, other)| is_same_part(part, other))
+/// Whether all parts are the same, in order.
+pub fn are_same_parts(parts: &[Shown], others: &[Shown]) -> bool
+    ensures { map seen parts.now ≡ map seen others.now → result ≡ true }
+{
+    if parts.len() != others.len() {
+        return false;
+    }
+    for (part, other) in parts.iter().zip(others.iter()) {
+        if !is_same_part(part, other) {
+            return false;
+        }
+    }
+    true
 }
 
 /// Whether it says that the bytes are no value, whatever the memory.
-fn is_unaccepted(error: &ReadError) -> bool {
+fn is_unaccepted(error: &ReadError) -> bool
+    ensures { result ≡ true → IsUnaccepted error.now }
+{
     match error {
         ReadError::OutOfMemory => false,
-        ReadError::Io(error) => matches!(error, wincode_io::error::ReadError::ReadSizeLimit(_)),
+        ReadError::Io(error) => match error {
+            wincode_io::error::ReadError::ReadSizeLimit(_) => true,
+            _ => false,
+        },
         _ => true,
     }
 }
 
 /// Whether the old type accepts the bytes, and the new one refuses them or reads other parts.
-fn is_witness(alloc: Global, old: &Described, new: &Described, bytes: &[u8]) -> bool {
+fn is_witness(alloc: Global, old: &Described, new: &Described, bytes: &[u8]) -> bool
+    ensures { result ≡ true → IsWitness old.now new.now bytes.now }
+{
     let was = explain::<Lifetime>(alloc, old, bytes);
     if was.refused.is_some() {
         return false;
@@ -100,18 +122,32 @@ fn is_witness(alloc: Global, old: &Described, new: &Described, bytes: &[u8]) -> 
     }
 }
 
-/// Takes away each witness that shows nothing; whether one is left.
-fn tried(alloc: Global, old: &Described, new: &Described, changes: &mut Vec<Change>) -> bool {
+/// The bytes, if they are a witness.
+fn tried(
+    alloc: Global,
+    old: &Described,
+    new: &Described,
+    witness: Option<Vec<u8>>,
+) -> Option<Vec<u8>>
+    ensures { IfSome result (λ bytes. IsWitness old.now new.now bytes.items) }
+{
+    let bytes = witness?;
+    if is_witness(alloc, old, new, bytes.as_slice()) {
+        Some(bytes)
+    } else {
+        None
+    }
+}
+
+/// Keeps the witnesses that show something; whether there is one.
+fn is_shown(alloc: Global, old: &Described, new: &Described, changes: &mut [Change]) -> bool
+    ensures { result ≡ true → (bytes : List ℕ) × IsWitness old.now new.now bytes }
+{
     let mut is_shown = false;
     for change in changes.iter_mut() {
-        let shows = match &change.witness {
-            Some(bytes) => is_witness(alloc, old, new, bytes.as_slice()),
-            None => false,
-        };
-        if shows {
+        change.witness = tried(alloc, old, new, change.witness.take());
+        if change.witness.is_some() {
             is_shown = true;
-        } else {
-            change.witness = None;
         }
     }
     is_shown
@@ -125,15 +161,19 @@ pub fn compare(
     alloc: Global,
     old: &Described,
     new: &Described,
-) -> Result<Comparison, AllocError> {
+) -> Result<Comparison, AllocError>
+    ensures { IfOk result (λ c. Answers c.answer old.now new.now) }
+{
     let mut changes = changes_of(alloc, old, new)?;
-    let is_shown = tried(alloc, old, new, &mut changes);
-    let answer = match likeness(old, new) {
+    let answer = match likeness_of(old, new) {
         Likeness::Same => Answer::Same,
         Likeness::Reads => Answer::Reads,
-        Likeness::Unlike if is_shown => Answer::Differs,
+        Likeness::Unlike if is_shown(alloc, old, new, changes.as_mut_slice()) => Answer::Differs,
         Likeness::Unlike => Answer::MayDiffer,
     };
+    if answer == Answer::Same || answer == Answer::Reads {
+        changes.retain(|change| change.kind != ChangeKind::Differs);
+    }
     Ok(Comparison { answer, changes })
 }
 

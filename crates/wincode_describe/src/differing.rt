@@ -1,6 +1,6 @@
 //! Where two types differ, and bytes that show it. What it finds is a guess, which whoever asks tries by reading.
 use crate::described::{Cases, Described, LengthScheme, TagSize};
-use crate::likeness::{Likeness, case_of, likeness, list_in, opened, wider};
+use crate::likeness::{Likeness, case_of, likeness_of, list_in, opened, wider};
 use crate::lines::push_front;
 use crate::parts::integer_size;
 use crate::sizes::{prealloc_size, tag_bytes};
@@ -36,7 +36,7 @@ pub struct Change {
 
 /// The changes that are known so far, and the bytes of what stands before the place that is looked at.
 #[derive(Drop)]
-struct Search {
+struct Found {
     alloc: Global,
     before: Vec<u8>,
     changes: Vec<Change>,
@@ -121,7 +121,7 @@ fn push_case(bytes: &mut Vec<u8>, size: TagSize, cases: &Cases) -> Result<(), Al
     }
 }
 
-impl Search {
+impl Found {
     /// A change of which no bytes are known.
     fn tell(&mut self, kind: ChangeKind, place: &str, why: String) -> Result<(), AllocError> {
         let place = String::from_str(self.alloc, place)?;
@@ -177,10 +177,24 @@ fn members_in(described: &Described) -> &Described {
     }
 }
 
+/// The place of the first of these members.
+fn member_at(
+    alloc: Global,
+    members: &Described,
+    number: usize,
+    place: &str,
+) -> Result<String, AllocError> {
+    match members {
+        Described::Joined(first, _) => member_at(alloc, first, number, place),
+        Described::Field(name, _) => format!(in alloc; "{place}.{name}"),
+        _ => format!(in alloc; "{place}.{number}"),
+    }
+}
+
 /// What differs between two types that stand at one place.
 #[cycle(searching)]
 fn search(
-    found: &mut Search,
+    found: &mut Found,
     old: &Described,
     new: &Described,
     place: &str,
@@ -235,7 +249,7 @@ fn search(
             }
             _ => found.replace(old, new, place),
         },
-        _ => match likeness(old, new) {
+        _ => match likeness_of(old, new) {
             Likeness::Unlike => found.replace(old, new, place),
             _ => Ok(()),
         },
@@ -245,7 +259,7 @@ fn search(
 /// So, of members from one on.
 #[cycle(searching)]
 fn search_members(
-    found: &mut Search,
+    found: &mut Found,
     old: &Described,
     new: &Described,
     number: usize,
@@ -261,7 +275,7 @@ fn search_members(
                 let why = format!(in found.alloc; "`{more}` came behind it")?;
                 let mut behind = Vec::new(found.alloc);
                 push_smallest(&mut behind, old)?;
-                let last = format!(in found.alloc; "{place}.{number}")?;
+                let last = member_at(found.alloc, old, number, place)?;
                 found.differ(last.as_str(), why, behind)
             }
             _ => search_member(found, old, new, number, place),
@@ -272,7 +286,7 @@ fn search_members(
 /// So, of a member and those behind it.
 #[cycle(searching)]
 fn search_pair(
-    found: &mut Search,
+    found: &mut Found,
     (first, others): (&Described, &Described),
     new: &Described,
     number: usize,
@@ -294,7 +308,7 @@ fn search_pair(
         Some(more) => search_members(found, others, more, next, place)?,
         None => {
             let why = format!(in found.alloc; "`{others}` is gone")?;
-            let last = format!(in found.alloc; "{place}.{next}")?;
+            let last = member_at(found.alloc, others, next, place)?;
             found.differ(last.as_str(), why, tail)?;
         }
     }
@@ -305,7 +319,7 @@ fn search_pair(
 /// So, of a member.
 #[cycle(searching)]
 fn search_member(
-    found: &mut Search,
+    found: &mut Found,
     old: &Described,
     new: &Described,
     number: usize,
@@ -325,26 +339,26 @@ fn search_member(
 /// So, of a field, and whether it has another name.
 #[cycle(searching)]
 fn search_field(
-    found: &mut Search,
+    found: &mut Found,
     (name, content): (&str, &Described),
     new: &Described,
     place: &str,
 ) -> Result<(), AllocError> {
     let field = format!(in found.alloc; "{place}.{name}")?;
-    if let Described::Field(other, renamed) = new
-        && name != other.as_str()
-        && likeness(content, renamed) != Likeness::Unlike
-    {
+    let Described::Field(other, inner) = new else {
+        return search(found, content, new, field.as_str());
+    };
+    if name != other.as_str() && likeness_of(content, inner) != Likeness::Unlike {
         let why = format!(in found.alloc; "renamed: {name} -> {other}")?;
         found.tell(ChangeKind::Renamed, place, why)?;
     }
-    search(found, content, new, field.as_str())
+    search(found, content, inner, field.as_str())
 }
 
 /// So, of an option's value.
 #[cycle(searching)]
 fn search_option(
-    found: &mut Search,
+    found: &mut Found,
     old: &Described,
     new: &Described,
     place: &str,
@@ -359,7 +373,7 @@ fn search_option(
 /// So, of a side of a result.
 #[cycle(searching)]
 fn search_side(
-    found: &mut Search,
+    found: &mut Found,
     tag: usize,
     old: &Described,
     new: &Described,
@@ -376,7 +390,7 @@ fn search_side(
 /// So, of the items of a list.
 #[cycle(searching)]
 fn search_list(
-    found: &mut Search,
+    found: &mut Found,
     scheme: LengthScheme,
     old: &Described,
     new: &Described,
@@ -408,7 +422,7 @@ fn search_list(
 /// So, of the items of an array.
 #[cycle(searching)]
 fn search_array(
-    found: &mut Search,
+    found: &mut Found,
     n: usize,
     old: &Described,
     new: &Described,
@@ -425,7 +439,7 @@ fn search_array(
 /// So, of what stands behind the tags of an enum.
 #[cycle(searching)]
 fn search_cases(
-    found: &mut Search,
+    found: &mut Found,
     size: TagSize,
     cases: &Cases,
     others: &Cases,
@@ -443,7 +457,7 @@ fn search_cases(
 /// So, of what stands behind one tag.
 #[cycle(searching)]
 fn search_case(
-    found: &mut Search,
+    found: &mut Found,
     (size, tag): (TagSize, usize),
     content: &Described,
     others: &Cases,
@@ -469,7 +483,7 @@ fn search_case(
 
 /// The cases that are new.
 fn tell_cases(
-    found: &mut Search,
+    found: &mut Found,
     cases: &Cases,
     old: &Cases,
     place: &str,
@@ -494,7 +508,7 @@ pub(crate) fn changes_of(
     old: &Described,
     new: &Described,
 ) -> Result<Vec<Change>, AllocError> {
-    let mut found = Search {
+    let mut found = Found {
         alloc,
         before: Vec::new(alloc),
         changes: Vec::new(alloc),

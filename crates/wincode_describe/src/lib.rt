@@ -30,7 +30,7 @@ pub mod streaming;
 mod tokens;
 mod windows;
 
-pub use comparing::{Answer, Comparison, compare, compared_lines};
+pub use comparing::{Answer, Comparison, are_same_parts, compare, compared_lines};
 pub use described::Described;
 pub use differing::{Change, ChangeKind};
 pub use error::{DescribeError, DescribeResult};

@@ -149,20 +149,20 @@ fn leaf_likeness(old: &Described, new: &Described) -> Likeness
 /// What the encodings of the old type are to those of the new one. `Same`: they are the same, with the same parts;
 /// `Reads`: each is one of the new type, with the same parts. Names say nothing. It looks at the forms alone.
 #[cycle(likening)]
-pub fn likeness(old: &Described, new: &Described) -> Likeness
+pub fn likeness_of(old: &Described, new: &Described) -> Likeness
     ensures { IsLike result (described_read old.now) (described_read new.now) }
 {
     match old {
         Described::Boxed(content)
         | Described::Tuple(content)
         | Described::Struct(content)
-        | Described::Field(_, content) => likeness(content, new),
+        | Described::Field(_, content) => likeness_of(content, new),
         Described::Option(content) => match opened(new) {
-            Described::Option(other) => likeness(content, other),
+            Described::Option(other) => likeness_of(content, other),
             _ => Likeness::Unlike,
         },
         Described::Result(one, other) => match opened(new) {
-            Described::Result(first, second) => likeness(one, first).and(likeness(other, second)),
+            Described::Result(first, second) => likeness_of(one, first).and(likeness_of(other, second)),
             _ => Likeness::Unlike,
         },
         Described::List(scheme, item) => list_likeness(*scheme, item, opened(new)),
@@ -170,11 +170,11 @@ pub fn likeness(old: &Described, new: &Described) -> Likeness
             list_likeness(LengthScheme::Eight, item, opened(new))
         }
         Described::Array(n, item) => match opened(new) {
-            Described::Array(other, content) if *n == *other => likeness(item, content),
+            Described::Array(other, content) if *n == *other => likeness_of(item, content),
             _ => Likeness::Unlike,
         },
         Described::Joined(first, second) => match opened(new) {
-            Described::Joined(one, other) => likeness(first, one).and(likeness(second, other)),
+            Described::Joined(one, other) => likeness_of(first, one).and(likeness_of(second, other)),
             _ => Likeness::Unlike,
         },
         Described::Enum(size, cases) => enum_likeness(*size, cases, opened(new)),
@@ -194,7 +194,7 @@ fn list_likeness(scheme: LengthScheme, item: &Described, new: &Described) -> Lik
         return Likeness::Unlike;
     }
     let wider = wider(scheme, prealloc_size(item), prealloc_size(content));
-    wider.and(likeness(item, content))
+    wider.and(likeness_of(item, content))
 }
 
 /// So, of an enum of such cases.
@@ -223,11 +223,11 @@ fn cases_likeness(cases: &Cases, others: &Cases) -> Likeness
 {
     match cases {
         Cases::Last(tag, content) => match case_of(others, *tag) {
-            Some(other) => likeness(content, other),
+            Some(other) => likeness_of(content, other),
             None => Likeness::Unlike,
         },
         Cases::Case(tag, content, more) => match case_of(others, *tag) {
-            Some(other) => likeness(content, other).and(cases_likeness(more, others)),
+            Some(other) => likeness_of(content, other).and(cases_likeness(more, others)),
             None => Likeness::Unlike,
         },
     }
