@@ -2,17 +2,16 @@
 //! answer, and then each change: `~` of a new name, `+` of more that is read, `-` of a difference, its place, and where a
 //! witness shows it `=` and that in hexadecimal.
 //!
-//! With the words `random N SEED` it compares N pairs of types, of which the second is the first changed at one place or a
-//! type of its own, and reads 50 inputs by both: it prints how often each answer came, and fails where an input contradicts it.
+//! A line `random N => SEED` compares N pairs of types, of which the second is the first changed at one place, and reads 50
+//! inputs of each by both types: it is answered by the answers that came, and fails where an input contradicts one. The last
+//! line may be given alone with another N, as 20000.
 #![tactic(auto)]
 
 mod random;
 
 use random::answer_pairs;
 use std::alloc::Global;
-use std::env;
 use std::io;
-use std::rt::Env;
 use std::test::Fail;
 use wincode_describe::{Answer, ChangeKind, Described, compare};
 
@@ -59,48 +58,38 @@ fn answer(alloc: Global, old: &str, new: &str) -> Result<String, Fail> {
     Ok(line)
 }
 
-/// The answers to all rows.
-fn answer_rows(rt: &(impl Input + Print + AllocGlobal)) -> Result<(), Fail> {
-    let input = io::read_to_string(rt.alloc(), rt.reader())?;
-    for row in input.lines() {
-        let Some((old, new)) = row.split_once(" => ") else {
-            return Err(Fail::from("a row without ` => `"));
-        };
-        let said = answer(rt.alloc(), old, new)?;
-        println!(rt; "{said}")?;
-    }
-    Ok(())
-}
-
-/// The words behind the program's name.
-fn words_of(rt: &(impl Env + AllocGlobal)) -> Result<Vec<String>, Fail> {
-    let mut words = Vec::new(rt.alloc());
-    for word in env::args(rt)?.skip(1) {
-        words.push(word)?;
-    }
-    Ok(words)
-}
-
-/// Pairs at random, and how often each answer came.
-fn run_random(rt: &(impl Print + AllocGlobal), pairs: &str, seed: &str) -> Result<(), Fail> {
+/// What is answered of so many pairs of types at random.
+fn answer_random(alloc: Global, pairs: &str, seed: &str) -> Result<String, Fail> {
     let (Ok(pairs), Ok(seed)) = (pairs.parse::<usize>(), seed.parse::<u64>()) else {
-        return Err(Fail::from("random N SEED"));
+        return Err(Fail::from("no number"));
     };
-    let counts = answer_pairs(rt.alloc(), pairs, seed)?;
-    println!(rt; "{counts:?}")?;
-    Ok(())
+    let came = answer_pairs(alloc, pairs, seed)?;
+    let mut line = format!(in alloc; "no input contradicts {pairs} answers:")?;
+    for answer in [Answer::Same, Answer::Reads, Answer::Differs] {
+        if came.contains(&answer) {
+            line.push_str(" ")?;
+            line.push_str(word_of(answer))?;
+        }
+    }
+    Ok(line)
 }
 
-/// Does what the words say.
-fn run(rt: &(impl Env + Input + Print + AllocGlobal)) -> Result<(), Fail> {
-    let words = words_of(rt)?;
-    match words.as_slice() {
-        [] => answer_rows(rt),
-        [_, pairs, seed] => run_random(rt, pairs.as_str(), seed.as_str()),
-        _ => Err(Fail::from("random N SEED")),
+/// The answer to a row.
+fn answer_row(alloc: Global, row: &str) -> Result<String, Fail> {
+    let Some((old, new)) = row.split_once(" => ") else {
+        return Err(Fail::from("a row without ` => `"));
+    };
+    match old.strip_prefix("random ") {
+        Some(pairs) => answer_random(alloc, pairs, new),
+        None => answer(alloc, old, new),
     }
 }
 
 fn main(rt: HostRuntime) -> Result<(), Fail> {
-    run(&rt)
+    let input = io::read_to_string(rt.alloc(), rt.reader())?;
+    for row in input.lines() {
+        let said = answer_row(rt.alloc(), row)?;
+        println!(rt; "{said}")?;
+    }
+    Ok(())
 }

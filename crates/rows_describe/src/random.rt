@@ -381,15 +381,6 @@ fn holds(
     Ok(true)
 }
 
-/// How often each answer came.
-#[derive(Debug, Drop, Clone, Copy)]
-pub struct Counts {
-    pub same: usize,
-    pub reads: usize,
-    pub differs: usize,
-    pub may_differ: usize,
-}
-
 /// A pair of types of this seed, and what is answered of it; refused where an input contradicts it.
 fn answer_pair(alloc: Global, seed: u64) -> Result<Answer, Fail> {
     let mut choice = Draws::new(seed.wrapping_add(77), u64::MAX);
@@ -408,22 +399,11 @@ fn answer_pair(alloc: Global, seed: u64) -> Result<Answer, Fail> {
     }
 }
 
-/// So many pairs from this seed on.
-pub fn answer_pairs(alloc: Global, pairs: usize, seed: u64) -> Result<Counts, Fail> {
-    let mut counts = Counts {
-        same: 0,
-        reads: 0,
-        differs: 0,
-        may_differ: 0,
-    };
+/// The answers to so many pairs from this seed on.
+pub fn answer_pairs(alloc: Global, pairs: usize, seed: u64) -> Result<Vec<Answer>, Fail> {
+    let mut answers = Vec::new(alloc);
     for i in 0..pairs {
-        let count = match answer_pair(alloc, seed.wrapping_add(i as u64))? {
-            Answer::Same => &mut counts.same,
-            Answer::Reads => &mut counts.reads,
-            Answer::Differs => &mut counts.differs,
-            Answer::MayDiffer => &mut counts.may_differ,
-        };
-        *count = (*count).saturating_add(1);
+        answers.push(answer_pair(alloc, seed.wrapping_add(i as u64))?)?;
     }
-    Ok(counts)
+    Ok(answers)
 }

@@ -10,3 +10,4 @@ mod LineParts
 mod Placed
 mod Likes
 mod Witnesses
+mod Rows

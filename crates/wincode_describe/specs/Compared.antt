@@ -1,19 +1,23 @@
 -- What the encodings of two types are to each other.
-use Rattle.std.specs.Prelude.{◌≡◌, ℕ, List, true}
+use Rattle.std.specs.Prelude.{◌≡◌, ℕ, List, [], ◌∷◌, ◌++◌, length, drop, true}
 use Rattle.wincode_base.specs.Grammar.{ReadGrammar}
+use Rattle.wincode_base.specs.Leaves.{unit_read}
 use Rattle.wincode_base.specs.Lengths.{Scheme}
 use Rattle.wincode_base.specs.Outcomes.{Found}
+use Rattle.wincode_base.specs.Pairs.{pair_read}
 use Rattle.wincode_base.specs.declared.error.ReadError.{ReadError}
 use Rattle.wincode_base.specs.declared.error.ReadError.TheVariants as reading
 use Rattle.wincode_io.specs.declared.error.ReadError.TheVariants as reader
 use Rattle.wincode_describe.specs.Forms.{seen_cases}
 use Rattle.wincode_describe.specs.Parts.{Part}
 use Rattle.wincode_describe.specs.Readers.{has_tag}
-use Rattle.wincode_describe.specs.Types.{described_read, cases_read}
+use Rattle.wincode_describe.specs.ShownGrammars.{shown_read}
+use Rattle.wincode_describe.specs.Types.{described_read, cases_read, both_shown}
 use Rattle.wincode_describe.specs.declared.comparing.Answer.{Answer}
 use Rattle.wincode_describe.specs.declared.comparing.Answer.TheVariants as answer
 use Rattle.wincode_describe.specs.declared.described.Cases.{Cases}
 use Rattle.wincode_describe.specs.declared.described.Described.{Described}
+use Rattle.wincode_describe.specs.declared.described.Described.TheVariants as type
 use Rattle.wincode_describe.specs.declared.likeness.Likeness.{Likeness}
 use Rattle.wincode_describe.specs.declared.likeness.Likeness.TheVariants.{Same, Reads, Unlike}
 
@@ -73,3 +77,26 @@ AreLike a cs ds = (t : ℕ) → has_tag (seen_cases cs) t ≡ true → IsLike a 
 -- each tag of the first cases is one of the others
 abbrev pub AreNamed : Cases → Cases → Type 0
 AreNamed cs ds = (t : ℕ) → has_tag (seen_cases cs) t ≡ true → has_tag (seen_cases ds) t ≡ true
+
+-- the types whose values stand in a row in one of this type, without what adds no bytes around them
+abbrev pub heads : Described → List Described
+heads (type.Boxed' p d) = heads d
+heads (type.Tuple' p d) = heads d
+heads (type.Struct' p d) = heads d
+heads (type.Field' s p d) = heads d
+heads (type.Joined' p d q e) = heads d ++ heads e
+heads d = d ∷ []
+
+-- values of these types, one after another
+abbrev pub row_read : List Described → ReadGrammar (List Part)
+row_read [] = shown_read (λ v. []) unit_read
+row_read (d ∷ ds) = shown_read both_shown (pair_read (described_read d) (row_read ds))
+
+-- A type stands at this place of a list.
+abbrev pub StandsAt : ℕ → List Described → Described → Type 0
+StandsAt i ds d = (before behind : List Described) × (ds ≡ before ++ (d ∷ behind)) × (length before ≡ i)
+
+-- So of a grammar, and of those of these types that stand from one place up to another.
+abbrev pub Takes : Likeness → ReadGrammar (List Part) → List Described → ℕ → ℕ → Type 0
+Takes Unlike g ds at end = Unit {0}
+Takes a g ds at end = (mine : List Described) × (drop at ds ≡ mine ++ drop end ds) × IsLike a g (row_read mine)

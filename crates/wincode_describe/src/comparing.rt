@@ -171,8 +171,9 @@ pub fn compare(
         Likeness::Unlike if is_shown(alloc, old, new, changes.as_mut_slice()) => Answer::Differs,
         Likeness::Unlike => Answer::MayDiffer,
     };
-    if answer == Answer::Same || answer == Answer::Reads {
-        changes.retain(|change| change.kind != ChangeKind::Differs);
+    let is_read = answer == Answer::Same || answer == Answer::Reads;
+    if is_read && changes.iter().any(|change| change.kind == ChangeKind::Differs) {
+        changes.retain(|change| change.kind == ChangeKind::Extended);
     }
     Ok(Comparison { answer, changes })
 }

@@ -1,11 +1,14 @@
 //! What the encodings of one type are to those of another, as far as their forms tell.
-ghost use Rattle.std.specs.Prelude.{◌≡◌, true, IfSome};
+ghost use Rattle.std.specs.Prelude.{◌≡◌, ◌+◌, true, length, IfSome, MatchResult};
 ghost use Rattle.wincode_describe.specs.Compared.{
   IsLike,
   IsWider,
   AreLike,
   AreNamed,
+  StandsAt,
+  Takes,
   both,
+  heads,
 };
 ghost use Rattle.wincode_describe.specs.ShownGrammars.{chosen_read};
 ghost use Rattle.wincode_describe.specs.Types.{described_read, cases_read, list_of, scheme_of, tag_bytes};
@@ -146,39 +149,90 @@ fn leaf_likeness(old: &Described, new: &Described) -> Likeness
     }
 }
 
+/// The type at this place of those that stand in a row in a value of the type, or how far the place is behind them.
+fn head_at(described: &Described, i: usize) -> Result<&Described, usize>
+    ensures { MatchResult result (λ d. StandsAt i (heads described.now) d.now) (λ left. i ≡ length (heads described.now) + left) }
+{
+    match described {
+        Described::Boxed(content)
+        | Described::Tuple(content)
+        | Described::Struct(content)
+        | Described::Field(_, content) => head_at(content, i),
+        Described::Joined(first, second) => match head_at(first, i) {
+            Ok(head) => Ok(head),
+            Err(left) => head_at(second, left),
+        },
+        _ => match i.checked_sub(1) {
+            None => Ok(described),
+            Some(left) => Err(left),
+        },
+    }
+}
+
 /// What the encodings of the old type are to those of the new one. `Same`: they are the same, with the same parts;
-/// `Reads`: each is one of the new type, with the same parts. Names say nothing. It looks at the forms alone.
+/// `Reads`: each is one of the new type, with the same parts. Names say nothing, nor does it matter how members stand in
+/// tuples and structs. It looks at the forms alone.
 #[cycle(likening)]
 pub fn likeness_of(old: &Described, new: &Described) -> Likeness
     ensures { IsLike result (described_read old.now) (described_read new.now) }
+{
+    let (answer, end) = row_likeness(old, new, 0);
+    match head_at(new, end) {
+        Ok(_) => Likeness::Unlike,
+        Err(_) => answer,
+    }
+}
+
+/// What they are to those that stand in the new type from one place on, and where these end.
+#[cycle(likening)]
+fn row_likeness(old: &Described, new: &Described, at: usize) -> (Likeness, usize)
+    ensures { Takes result.0 (described_read old.now) (heads new.now) at result.1 }
 {
     match old {
         Described::Boxed(content)
         | Described::Tuple(content)
         | Described::Struct(content)
-        | Described::Field(_, content) => likeness_of(content, new),
-        Described::Option(content) => match opened(new) {
+        | Described::Field(_, content) => row_likeness(content, new, at),
+        Described::Joined(first, second) => {
+            let (one, middle) = row_likeness(first, new, at);
+            let (other, end) = row_likeness(second, new, middle);
+            (one.and(other), end)
+        }
+        _ => {
+            let (Ok(head), Some(next)) = (head_at(new, at), at.checked_add(1)) else {
+                return (Likeness::Unlike, at);
+            };
+            (head_likeness(old, head), next)
+        }
+    }
+}
+
+/// What they are to those of one of them.
+#[cycle(likening)]
+fn head_likeness(old: &Described, new: &Described) -> Likeness
+    ensures { IsLike result (described_read old.now) (described_read new.now) }
+{
+    match old {
+        Described::Option(content) => match new {
             Described::Option(other) => likeness_of(content, other),
             _ => Likeness::Unlike,
         },
-        Described::Result(one, other) => match opened(new) {
-            Described::Result(first, second) => likeness_of(one, first).and(likeness_of(other, second)),
+        Described::Result(one, other) => match new {
+            Described::Result(first, second) => {
+                likeness_of(one, first).and(likeness_of(other, second))
+            }
             _ => Likeness::Unlike,
         },
-        Described::List(scheme, item) => list_likeness(*scheme, item, opened(new)),
+        Described::List(scheme, item) => list_likeness(*scheme, item, new),
         Described::Set(item) | Described::Map(item) => {
-            list_likeness(LengthScheme::Eight, item, opened(new))
+            list_likeness(LengthScheme::Eight, item, new)
         }
-        Described::Array(n, item) => match opened(new) {
+        Described::Array(n, item) => match new {
             Described::Array(other, content) if *n == *other => likeness_of(item, content),
             _ => Likeness::Unlike,
         },
-        Described::Joined(first, second) => match opened(new) {
-            Described::Joined(one, other) => likeness_of(first, one).and(likeness_of(second, other)),
-            _ => Likeness::Unlike,
-        },
-        Described::Enum(size, cases) => enum_likeness(*size, cases, opened(new)),
-        _ => leaf_likeness(old, opened(new)),
+        Described::Enum(size, cases) => enum_likeness(*size, cases, new),
+        _ => leaf_likeness(old, new),
     }
 }
 
