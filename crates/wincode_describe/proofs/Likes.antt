@@ -102,7 +102,7 @@ pair_like = two_like (λ g j. shown_read both_shown (pair_read g j)) pair_within
 
 -- ---- lists
 
-Wider : LengthScheme → Grammar → Grammar → Type 0
+abbrev Wider : LengthScheme → Grammar → Grammar → Type 0
 Wider s g h = (n : ℕ) → (scheme_of s).admits n g.prealloc → (scheme_of s).admits n h.prealloc
 
 list_within : (s : LengthScheme) (g h : Grammar) → Wider s g h → Within g h → Within (list_of s g) (list_of s h)
@@ -202,9 +202,9 @@ last_likes n p d ds a k s r = λ t e. tag_likes n t (described_read d) (nameless
 pub case_likes : (n : ℕ) (p : _) (d : Described) (q : _) (cs ds : Cases) (a b : Likeness) (k : Grammar) → IsLike Same k ((cases_read ds).case n)
     → IsLike a (described_read d) k → AreLike b cs ds → AreLike (both a b) (Case' n p d q cs) ds
 case_likes n p d q cs ds a b k s r m = λ t e. by_test (nat_eq n t)
-    (λ f. first_of a b _ _ (tag_likes n t (described_read d) ((cases_read cs).case t) ds a k f s r))
-    (λ f. second_of a b _ _ (like_from b (read_if (nat_eq n t) (described_read d) ((cases_read cs).case t)) ((cases_read cs).case t) ((cases_read ds).case t)
-    (if_not (nat_eq n t) _ _ f) (m t (second_true (nat_eq n t) _ e f))))
+    (λ f. first_of a b (read_if (nat_eq n t) (described_read d) ((cases_read cs).case t)) ((cases_read ds).case t) (tag_likes n t (described_read d) ((cases_read cs).case t) ds a k f s r))
+    (λ f. second_of a b (read_if (nat_eq n t) (described_read d) ((cases_read cs).case t)) ((cases_read ds).case t) (like_from b (read_if (nat_eq n t) (described_read d) ((cases_read cs).case t)) ((cases_read cs).case t) ((cases_read ds).case t)
+    (if_not (nat_eq n t) (described_read d) ((cases_read cs).case t) f) (m t (second_true (nat_eq n t) (has_tag (seen_cases cs) t) e f))))
 
 -- a tag without a case reads nothing
 unnamed : (cs : Cases) (t : ℕ) → has_tag (seen_cases cs) t ≡ false → (b : List ℕ) (w : List Part) → ((cases_read cs).case t).reads b w → ⊥
@@ -222,12 +222,12 @@ back_within cs ds m n t = by_test (has_tag (seen_cases ds) t) (λ e. (m t (n t e
 -- an enum of cases of which all is known, also of those of the other
 pub choice_like : (k : ℕ) (a : Likeness) (cs ds : Cases) → AreLike a cs ds → AreNamed ds cs
     → IsLike a (chosen_read k (cases_read cs)) (chosen_read k (cases_read ds))
-choice_like k Same cs ds m n = (chosen_within k _ _ (all_within cs ds (λ t e. (m t e).0)), chosen_within k _ _ (back_within cs ds m n))
-choice_like k Reads cs ds m n = chosen_within k _ _ (all_within cs ds m)
+choice_like k Same cs ds m n = (chosen_within k (cases_read cs) (cases_read ds) (all_within cs ds (λ t e. (m t e).0)), chosen_within k (cases_read ds) (cases_read cs) (back_within cs ds m n))
+choice_like k Reads cs ds m n = chosen_within k (cases_read cs) (cases_read ds) (all_within cs ds m)
 choice_like k Unlike cs ds m n = tt
 
 -- an enum of which another has more cases
 pub choice_more : (k : ℕ) (a : Likeness) (cs ds : Cases) → AreLike a cs ds → IsLike (both a Reads) (chosen_read k (cases_read cs)) (chosen_read k (cases_read ds))
-choice_more k Same cs ds m = chosen_within k _ _ (all_within cs ds (λ t e. (m t e).0))
-choice_more k Reads cs ds m = chosen_within k _ _ (all_within cs ds m)
+choice_more k Same cs ds m = chosen_within k (cases_read cs) (cases_read ds) (all_within cs ds (λ t e. (m t e).0))
+choice_more k Reads cs ds m = chosen_within k (cases_read cs) (cases_read ds) (all_within cs ds m)
 choice_more k Unlike cs ds m = tt

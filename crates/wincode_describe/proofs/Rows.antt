@@ -1,6 +1,7 @@
 -- Values of types that stand in a row.
 use Rattle.std.proofs.Common.{◌≡◌, ◌∙◌, sym, ap, subst, ℕ, suc, ◌+◌, ◌≤◌, List, [], ◌∷◌, ◌++◌, length, drop, refl, arith, append_assoc, append-nil, length-append}
-use Rattle.std.proofs.Common.{drop_of_length-le}
+use Rattle.std.proofs.Common.{drop_of_length-le, Ok, Err, zero}
+use Rattle.std.specs.Prelude.{Result, MatchResult}
 use Rattle.std.proofs.Math.Seq.{drop-append_seam}
 use Rattle.wincode_base.specs.Pairs.{pair_read}
 use Rattle.wincode_describe.proofs.Likes.{Grammar, same_like, turned, like_to, like_from, pair_like}
@@ -148,3 +149,14 @@ pub takes_all : (a : Likeness) (g : Grammar) (d : Described) (end : ℕ) → len
 takes_all Same g d end l t = all_mine Same g d end l t.0 t.1 t.2
 takes_all Reads g d end l t = all_mine Reads g d end l t.0 t.1 t.2
 takes_all Unlike g d end l t = tt
+
+-- so of what was found behind the first part, or how far the place is behind both
+pub behind_first : {X : Type 0} (now : X → Described) (i left : ℕ) (ds es : List Described) (r : Result X ℕ) → i ≡ length ds + left
+    → MatchResult r (λ d. StandsAt left es (now d)) (λ more. left ≡ length es + more)
+    → MatchResult r (λ d. StandsAt i (ds ++ es) (now d)) (λ more. i ≡ length (ds ++ es) + more)
+behind_first now i left ds es (Ok d) e m = stands_second i left ds es (now d) e m
+behind_first now i left ds es (Err more) e m = past_both i left more ds es e m
+
+pub first_alone : (i : ℕ) (d : Described) → heads d ≡ d ∷ [] → (1 ≤ i → ⊥) → StandsAt i (heads d) d
+first_alone zero d e n = ([], [], e, refl)
+first_alone (suc i) d e n = absurd (n (omega arith))
