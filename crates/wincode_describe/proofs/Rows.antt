@@ -29,35 +29,53 @@ moved g b c w v e f r =
 left_none : (g : Grammar) → IsLike Same (Two (row_read []) g) g
 left_none g = (
   λ b w r.
-    let x = r.1 in
-    moved g b x.1 w (r.0).1 (x.4 ∙ ap (λ t. t ++ x.1) x.2.1) (r.2 ∙ ap (λ t. t ++ (r.0).1) x.2.2) x.3,
+      let x = r.1 in
+      moved g b x.1 w (r.0).1 (x.4 ∙ ap (λ t. t ++ x.1) x.2.1) (r.2 ∙ ap (λ t. t ++ (r.0).1) x.2.2) x.3,
   λ b w r. (([], w), ([], b, (tt, refl, refl), r, refl), refl),
 )
 
 right_none : (g : Grammar) → IsLike Same (Two g (row_read [])) g
 right_none g = (
   λ b w r.
-    let x = r.1 in
-    moved g b x.0 w (r.0).0 (x.4 ∙ ap (λ t. x.0 ++ t) x.3.1 ∙ append-nil x.0) (r.2 ∙ ap (λ t. (r.0).0 ++ t) x.3.2 ∙ append-nil (r.0).0) x.2,
+      let x = r.1 in
+      moved g b x.0 w (r.0).0 (x.4 ∙ ap (λ t. x.0 ++ t) x.3.1 ∙ append-nil x.0) (r.2 ∙ ap (λ t. (r.0).0 ++ t) x.3.2 ∙ append-nil (r.0).0) x.2,
   λ b w r. ((w, []), (b, [], r, (tt, refl, refl), sym (append-nil b)), sym (append-nil w)),
 )
 
 regrouped : (g h k : Grammar) → IsLike Same (Two (Two g h) k) (Two g (Two h k))
 regrouped g h k = (
   λ b w r.
-    let x = r.1 in
-    let y = x.2 in
-    let z = y.1 in
-    let v = (r.0).1 in
-    (((y.0).0, (y.0).1 ++ v), (z.0, z.1 ++ x.1, z.2, (((y.0).1, v), (z.1, x.1, z.3, x.3, refl), refl), x.4 ∙ ap (λ t. t ++ x.1) z.4
-    ∙ append_assoc z.0 z.1 x.1), r.2 ∙ ap (λ t. t ++ v) y.2 ∙ append_assoc (y.0).0 (y.0).1 v),
+      let x = r.1 in
+      let y = x.2 in
+      let z = y.1 in
+      let v = (r.0).1 in (
+        ((y.0).0, (y.0).1 ++ v),
+        (
+          z.0,
+          z.1 ++ x.1,
+          z.2,
+          (((y.0).1, v), (z.1, x.1, z.3, x.3, refl), refl),
+          x.4 ∙ ap (λ t. t ++ x.1) z.4
+              ∙ append_assoc z.0 z.1 x.1,
+        ),
+        r.2 ∙ ap (λ t. t ++ v) y.2 ∙ append_assoc (y.0).0 (y.0).1 v,
+      ),
   λ b w r.
-    let x = r.1 in
-    let y = x.3 in
-    let z = y.1 in
-    let p = (r.0).0 in
-    ((p ++ (y.0).0, (y.0).1), (x.0 ++ z.0, z.1, ((p, (y.0).0), (x.0, z.0, x.2, z.2, refl), refl), z.3, x.4 ∙ ap (λ t. x.0 ++ t) z.4
-    ∙ sym (append_assoc x.0 z.0 z.1)), r.2 ∙ ap (λ t. p ++ t) y.2 ∙ sym (append_assoc p (y.0).0 (y.0).1)),
+      let x = r.1 in
+      let y = x.3 in
+      let z = y.1 in
+      let p = (r.0).0 in (
+        (p ++ (y.0).0, (y.0).1),
+        (
+          x.0 ++ z.0,
+          z.1,
+          ((p, (y.0).0), (x.0, z.0, x.2, z.2, refl), refl),
+          z.3,
+          x.4 ∙ ap (λ t. x.0 ++ t) z.4
+              ∙ sym (append_assoc x.0 z.0 z.1),
+        ),
+        r.2 ∙ ap (λ t. p ++ t) y.2 ∙ sym (append_assoc p (y.0).0 (y.0).1),
+      ),
 )
 
 row_append : (ds es : List Described) → IsLike Same (Two (row_read ds) (row_read es)) (row_read (ds ++ es))
@@ -107,8 +125,8 @@ takes_one a g ds at d s r =
     let here : drop at ds ≡ d ∷ s.1 = ap (drop at) s.2 ∙ ap (λ n. drop n (s.0 ++ (d ∷ s.1))) (sym s.3) ∙ drop-append_seam s.0 (d ∷ s.1) in
     let one : length (s.0 ++ (d ∷ [])) ≡ suc at = length-append s.0 (d ∷ []) ∙ omega (arith, s.3) in
     let there : drop (suc at) ds ≡ s.1 =
-        ap (drop (suc at)) (s.2 ∙ sym (append_assoc s.0 (d ∷ []) s.1)) ∙ ap (λ n. drop n ((s.0 ++ (d ∷ [])) ++ s.1)) (sym one)
-        ∙ drop-append_seam (s.0 ++ (d ∷ [])) s.1 in
+    ap (drop (suc at)) (s.2 ∙ sym (append_assoc s.0 (d ∷ []) s.1)) ∙ ap (λ n. drop n ((s.0 ++ (d ∷ [])) ++ s.1)) (sym one)
+    ∙ drop-append_seam (s.0 ++ (d ∷ [])) s.1 in
     taken a g ds at (suc at) (d ∷ []) (here ∙ ap (λ t. d ∷ t) (sym there)) (like_to a g (described_read d) (row_read (d ∷ [])) r (row_one d))
 
 record Taken (a : Likeness) (g : Grammar) (ds : List Described) (at end : ℕ) : Type 0 where

@@ -1,5 +1,5 @@
 //! Whether what was written of one type is read of another, and as the same.
-ghost use Rattle.std.specs.Prelude.{◌≡◌, ℕ, List, true, map, IfOk, IfSome};
+ghost use Rattle.std.specs.Prelude.{◌≡◌, ◌<◌, ℕ, List, true, length, map, IfOk, IfSome};
 ghost use Rattle.wincode_describe.specs.Compared.{Answers, IsUnaccepted, IsWitness};
 ghost use Rattle.wincode_describe.specs.Parts.{seen};
 
@@ -40,11 +40,17 @@ fn is_same_part(one: &Shown, other: &Shown) -> bool
 {
     match one {
         Shown::Natural { integer, value } => match other {
-            Shown::Natural { integer: i, value: v } => *integer == *i && *value == *v,
+            Shown::Natural {
+                integer: i,
+                value: v,
+            } => *integer == *i && *value == *v,
             _ => false,
         },
         Shown::Signed { integer, value } => match other {
-            Shown::Signed { integer: i, value: v } => *integer == *i && *value == *v,
+            Shown::Signed {
+                integer: i,
+                value: v,
+            } => *integer == *i && *value == *v,
             _ => false,
         },
         Shown::Flag(flag) => match other {
@@ -64,7 +70,10 @@ fn is_same_part(one: &Shown, other: &Shown) -> bool
             _ => false,
         },
         Shown::Length { scheme, count } => match other {
-            Shown::Length { scheme: s, count: c } => *scheme == *s && *count == *c,
+            Shown::Length {
+                scheme: s,
+                count: c,
+            } => *scheme == *s && *count == *c,
             _ => false,
         },
         Shown::Tag { size, tag } => match other {
@@ -78,6 +87,19 @@ fn is_same_part(one: &Shown, other: &Shown) -> bool
     }
 }
 
+/// Whether the parts at this place are the same.
+fn is_same_at(parts: &[Shown], others: &[Shown], i: usize) -> bool
+    ensures { i < length parts.now → map seen parts.now ≡ map seen others.now → result ≡ true }
+{
+    match parts.get(i) {
+        Some(part) => match others.get(i) {
+            Some(other) => is_same_part(part, other),
+            None => false,
+        },
+        None => false,
+    }
+}
+
 /// Whether all parts are the same, in order.
 pub fn are_same_parts(parts: &[Shown], others: &[Shown]) -> bool
     ensures { map seen parts.now ≡ map seen others.now → result ≡ true }
@@ -85,8 +107,8 @@ pub fn are_same_parts(parts: &[Shown], others: &[Shown]) -> bool
     if parts.len() != others.len() {
         return false;
     }
-    for (part, other) in parts.iter().zip(others.iter()) {
-        if !is_same_part(part, other) {
+    for i in 0..parts.len() {
+        if !is_same_at(parts, others, i) {
             return false;
         }
     }
@@ -157,11 +179,7 @@ fn is_shown(alloc: Global, old: &Described, new: &Described, changes: &mut [Chan
 /// length, with the same parts at the same offsets; `Reads`, where what the old type accepts the new one accepts so; `Differs`,
 /// where a witness was read by both and shows it; else `MayDiffer`. Names change no answer. Its time grows with the types, and
 /// with the bytes of the witnesses, of which each has some 64 KiB at the most.
-pub fn compare(
-    alloc: Global,
-    old: &Described,
-    new: &Described,
-) -> Result<Comparison, AllocError>
+pub fn compare(alloc: Global, old: &Described, new: &Described) -> Result<Comparison, AllocError>
     ensures { IfOk result (λ c. Answers c.answer old.now new.now) }
 {
     let mut changes = changes_of(alloc, old, new)?;
@@ -172,7 +190,11 @@ pub fn compare(
         Likeness::Unlike => Answer::MayDiffer,
     };
     let is_read = answer == Answer::Same || answer == Answer::Reads;
-    if is_read && changes.iter().any(|change| change.kind == ChangeKind::Differs) {
+    if is_read
+        && changes
+            .iter()
+            .any(|change| change.kind == ChangeKind::Differs)
+    {
         changes.retain(|change| change.kind == ChangeKind::Extended);
     }
     Ok(Comparison { answer, changes })

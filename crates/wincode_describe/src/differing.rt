@@ -156,6 +156,46 @@ impl Found {
         self.differ(place, why, behind)
     }
 
+    /// The last member, behind which these came.
+    fn gain(
+        &mut self,
+        last: &Described,
+        more: &Described,
+        number: usize,
+        place: &str,
+    ) -> Result<(), AllocError> {
+        let why = format!(in self.alloc; "`{more}` came behind it")?;
+        let mut behind = Vec::new(self.alloc);
+        push_smallest(&mut behind, last)?;
+        let place = member_at(self.alloc, last, number, place)?;
+        self.differ(place.as_str(), why, behind)
+    }
+
+    /// These members, which are gone.
+    fn lose(&mut self, members: &Described, number: usize, place: &str) -> Result<(), AllocError> {
+        let why = format!(in self.alloc; "`{members}` is gone")?;
+        let mut behind = Vec::new(self.alloc);
+        push_smallest(&mut behind, members)?;
+        let place = member_at(self.alloc, members, number, place)?;
+        self.differ(place.as_str(), why, behind)
+    }
+
+    /// Goes on behind a member to the others, which stand behind what was told of it, from this change on; how many bytes
+    /// stood before it.
+    fn pass(
+        &mut self,
+        start: usize,
+        member: &Described,
+        others: &Described,
+    ) -> Result<usize, AllocError> {
+        let mut tail = Vec::new(self.alloc);
+        push_smallest(&mut tail, others)?;
+        self.end_with(start, tail.as_slice())?;
+        let size = self.before.len();
+        push_smallest(&mut self.before, member)?;
+        Ok(size)
+    }
+
     /// These bytes stand behind what was told from this change on.
     fn end_with(&mut self, start: usize, tail: &[u8]) -> Result<(), AllocError> {
         for change in self.changes.iter_mut().skip(start) {
@@ -204,15 +244,7 @@ fn search(
         Described::Tuple(members) | Described::Struct(members) => {
             search_members(found, members, members_in(new), 0, place)
         }
-        Described::Joined(first, others) => {
-            search_pair(found, (first, others), members_in(new), 0, place)
-        }
-        Described::Field(name, content) => search_field(
-            found,
-            (name.as_str(), content),
-            members_in(new),
-            place,
-        ),
+        Described::Field(_, content) => search(found, content, opened(new), place),
         Described::Option(content) => match opened(new) {
             Described::Option(other) => search_option(found, content, other, place),
             _ => found.replace(old, new, place),
@@ -265,55 +297,41 @@ fn search_members(
     number: usize,
     place: &str,
 ) -> Result<(), AllocError> {
-    match old {
-        Described::Joined(first, others) => {
-            search_pair(found, (first, others), new, number, place)
-        }
-        _ => match new {
-            Described::Joined(one, more) => {
-                search_member(found, old, one, number, place)?;
-                let why = format!(in found.alloc; "`{more}` came behind it")?;
-                let mut behind = Vec::new(found.alloc);
-                push_smallest(&mut behind, old)?;
-                let last = member_at(found.alloc, old, number, place)?;
-                found.differ(last.as_str(), why, behind)
-            }
-            _ => search_member(found, old, new, number, place),
-        },
-    }
-}
-
-/// So, of a member and those behind it.
-#[cycle(searching)]
-fn search_pair(
-    found: &mut Found,
-    (first, others): (&Described, &Described),
-    new: &Described,
-    number: usize,
-    place: &str,
-) -> Result<(), AllocError> {
+    let Described::Joined(first, others) = old else {
+        return search_last(found, old, new, number, place);
+    };
     let (one, more) = match new {
         Described::Joined(one, more) => (&**one, Some(&**more)),
         _ => (new, None),
     };
     let start = found.changes.len();
     search_member(found, first, one, number, place)?;
-    let mut tail = Vec::new(found.alloc);
-    push_smallest(&mut tail, others)?;
-    found.end_with(start, tail.as_slice())?;
-    let size = found.before.len();
-    push_smallest(&mut found.before, first)?;
+    let size = found.pass(start, first, others)?;
     let next = number.saturating_add(1);
     match more {
         Some(more) => search_members(found, others, more, next, place)?,
-        None => {
-            let why = format!(in found.alloc; "`{others}` is gone")?;
-            let last = member_at(found.alloc, others, next, place)?;
-            found.differ(last.as_str(), why, tail)?;
-        }
+        None => found.lose(others, next, place)?,
     }
     found.before.truncate(size);
     Ok(())
+}
+
+/// So, of the last member.
+#[cycle(searching)]
+fn search_last(
+    found: &mut Found,
+    old: &Described,
+    new: &Described,
+    number: usize,
+    place: &str,
+) -> Result<(), AllocError> {
+    match new {
+        Described::Joined(one, more) => {
+            search_member(found, old, one, number, place)?;
+            found.gain(old, more, number, place)
+        }
+        _ => search_member(found, old, new, number, place),
+    }
 }
 
 /// So, of a member.
@@ -327,7 +345,7 @@ fn search_member(
 ) -> Result<(), AllocError> {
     match old {
         Described::Field(name, content) => {
-            search_field(found, (name.as_str(), content), new, place)
+            search_field(found, name.as_str(), content, new, place)
         }
         _ => {
             let member = format!(in found.alloc; "{place}.{number}")?;
@@ -340,7 +358,8 @@ fn search_member(
 #[cycle(searching)]
 fn search_field(
     found: &mut Found,
-    (name, content): (&str, &Described),
+    name: &str,
+    content: &Described,
     new: &Described,
     place: &str,
 ) -> Result<(), AllocError> {
@@ -399,19 +418,29 @@ fn search_list(
     let size = found.before.len();
     push_count(&mut found.before, scheme, 1)?;
     let item = format!(in found.alloc; "{place}[]")?;
-    search(found, old, new, item.as_str())?;
+    match old {
+        Described::Joined(..) => search_members(found, old, members_in(new), 0, item.as_str())?,
+        _ => search(found, old, new, item.as_str())?,
+    }
     found.before.truncate(size);
     let (counted, counts) = (prealloc_size(old), prealloc_size(new));
     match wider(scheme, counted, counts) {
         Likeness::Same => Ok(()),
         Likeness::Reads => {
-            let why = format!(in found.alloc; "an item counts {counts} in place of {counted}, so a list may be longer")?;
+            let why = format!(in found.alloc;
+                "an item counts {counts} in place of {counted}, so a list may be longer"
+            )?;
             found.tell(ChangeKind::Extended, place, why)
         }
         Likeness::Unlike => {
-            let why = format!(in found.alloc; "an item counts {counts} in place of {counted}, so a long list is refused")?;
+            let why = format!(in found.alloc;
+                "an item counts {counts} in place of {counted}, so a long list is refused"
+            )?;
             let mut behind = Vec::new(found.alloc);
-            let n = PREALLOCATION_LIMIT.checked_div(counts).unwrap_or(0).saturating_add(1);
+            let n = PREALLOCATION_LIMIT
+                .checked_div(counts)
+                .unwrap_or(0)
+                .saturating_add(1);
             push_count(&mut behind, scheme, n)?;
             push_items(&mut behind, old, n)?;
             found.differ(place, why, behind)

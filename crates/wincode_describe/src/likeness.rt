@@ -62,13 +62,7 @@ pub(crate) fn case_of(cases: &Cases, tag: usize) -> Option<&Described>
     ensures { IfSome result (λ d. IsLike Likeness.Same (described_read d.now) ((cases_read cases.now).case tag)) }
 {
     match cases {
-        Cases::Last(named, content) => {
-            if *named == tag {
-                Some(content)
-            } else {
-                None
-            }
-        }
+        Cases::Last(named, content) => { if *named == tag { Some(content) } else { None } }
         Cases::Case(named, content, others) => {
             if *named == tag {
                 Some(content)
