@@ -1,4 +1,5 @@
 pub mod CountLaws
+pub mod Counts
 pub mod Messages
 pub mod Pages
 pub mod Refusals

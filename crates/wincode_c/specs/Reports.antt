@@ -22,9 +22,9 @@ abbrev pub IsTextOf : List ℕ → Described → Type 0
 IsTextOf text d = (form : Form) → IsType 128 form → text ≡ written form → seen d ≡ form
 
 -- Nothing was refused, or this was: its number, and the numbers of its text.
-abbrev pub Refused : Option ReadError → Report → ℤ → Type 0
-Refused None r n = (n ≡ pos 0) × (r.first ≡ 0) × (r.second ≡ 0)
-Refused (Some e) r n = (n ≡ pos (number_of e)) × (r.first ≡ first_of e) × (r.second ≡ second_of e)
+abbrev pub IsTold : Option ReadError → ℤ → ℕ → ℕ → Type 0
+IsTold None n first second = (n ≡ pos 0) × (first ≡ 0) × (second ≡ 0)
+IsTold (Some e) n first second = (n ≡ pos (number_of e)) × (first ≡ first_of e) × (second ≡ second_of e)
 
 -- Some parts explain the bytes by the type: the report counts them and their bytes, and those behind, and says how many
 -- bytes the reader took.
@@ -32,7 +32,7 @@ abbrev pub Reports : Described → List ℕ → Report → ℤ → Type 0
 Reports d bytes r n = (parts : List Part) × (new : ReaderState) × (refused : Option ReadError)
     × ExplainsRead d (memory nothing bytes) new parts refused
     × (r.length ≡ length (parts_bytes parts)) × (r.parts ≡ length parts) × (r.behind ≡ length bytes - r.length)
-    × (r.place ≡ length bytes - length new.rest) × Refused refused r n
+    × (r.place ≡ length bytes - length new.rest) × IsTold refused n r.first r.second
 
 -- The number of a fault of a type's text, below 0.
 abbrev pub fault_number : Untyped → ℤ

@@ -1,7 +1,8 @@
 //! Bytes that are read by a type, of which the parts are counted and not kept.
 ghost use Rattle.std.specs.Prelude.{◌≡◌, ◌+◌, length};
 ghost use Rattle.wincode_c.specs.CountLaws.{none_counted, more_counted};
-ghost use Rattle.wincode_c.specs.Reports.{Reports};
+ghost use Rattle.wincode_c.specs.Counts.{Counts};
+ghost use Rattle.wincode_c.specs.Reports.{IsTold, Reports};
 ghost use Rattle.wincode_describe.specs.SinkLaws.{parts_size};
 
 use crate::refusals::{number_of, numbers_of};
@@ -9,7 +10,7 @@ use crate::report::Report;
 use std::alloc::Global;
 use wincode_base::error::{ReadError, ReadResult};
 use wincode_describe::{Described, PartSink, Shown, part_size, show_parts};
-use wincode_io::{Lifetime, ReadWindow, Reader, TrustedSliceReader};
+use wincode_io::{Lending, Lifetime, Reader, TrustedSliceReader};
 
 /// How many parts were taken, and how many bytes they have.
 #[derive(Clone, Copy, Drop)]
@@ -40,6 +41,35 @@ impl PartSink for Counted {
     }
 }
 
+/// Reads a value of the type from the front of what the reader has, and counts its parts; or those that stand before what
+/// was refused, and why.
+fn count_read<L: Lending, R: Reader<L>>(
+    alloc: Global,
+    described: &Described,
+    reader: &mut R,
+) -> (Counted, Option<ReadError>)
+    ensures { Counts described.now (R.state reader.old) (R.state reader.new) result.0 result.1 }
+{
+    let mut counted = Counted { parts: 0, bytes: 0 };
+    match show_parts::<L, R, Counted>(alloc, described, reader, &mut counted) {
+        Ok(()) => (counted, None),
+        Err(error) => (counted, Some(error)),
+    }
+}
+
+/// The number of the refusal, and the numbers of its text; 0 where nothing was refused.
+fn told_of(refused: &Option<ReadError>) -> (i32, usize, usize)
+    ensures { IsTold refused.now result.0 result.1 result.2 }
+{
+    match refused {
+        None => (0, 0, 0),
+        Some(error) => {
+            let (first, second) = numbers_of(error);
+            (number_of(error), first, second)
+        }
+    }
+}
+
 /// Reads the bytes by the type, reports what was found, and gives the number of the refusal, or 0.
 pub(crate) fn check_by(
     alloc: Global,
@@ -49,29 +79,18 @@ pub(crate) fn check_by(
 ) -> i32
     ensures { Reports described.now bytes.now report.new result }
 {
-    let mut counted = Counted { parts: 0, bytes: 0 };
-    let mut window = ReadWindow::<Lifetime>::Plain(TrustedSliceReader::new(bytes));
-    let read = show_parts::<Lifetime, ReadWindow<Lifetime>, Counted>(
+    let mut reader = TrustedSliceReader::<Lifetime>::new(bytes);
+    let (counted, refused) = count_read::<Lifetime, TrustedSliceReader<Lifetime>>(
         alloc,
         described,
-        &mut window,
-        &mut counted,
+        &mut reader,
     );
+    let (number, first, second) = told_of(&refused);
     report.length = counted.bytes;
     report.parts = counted.parts;
     report.behind = bytes.len().saturating_sub(counted.bytes);
-    report.place = bytes.len().saturating_sub(window.at_hand().len());
-    match read {
-        Ok(()) => {
-            report.first = 0;
-            report.second = 0;
-            0
-        }
-        Err(error) => {
-            let (first, second) = numbers_of(&error);
-            report.first = first;
-            report.second = second;
-            number_of(&error)
-        }
-    }
+    report.place = bytes.len().saturating_sub(reader.at_hand().len());
+    report.first = first;
+    report.second = second;
+    number
 }

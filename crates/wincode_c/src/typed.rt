@@ -56,14 +56,20 @@ pub(crate) fn described_by(alloc: Global, text: &[u8]) -> Result<Described, Unty
     ensures err { IfErr result (Untypes text.now) }
 {
     let words = words_of(text)?;
-    Ok(Described::parse(alloc, words)?)
+    match Described::parse(alloc, words) {
+        Ok(described) => Ok(described),
+        Err(error) => Err(fault_of(&error)),
+    }
 }
 
 /// The type that the text describes, where what the source declares has its name.
 pub(crate) fn declared_by(alloc: Global, source: &[u8], text: &[u8]) -> Result<Described, Untyped> {
     let declarations = words_of(source)?;
     let words = words_of(text)?;
-    Ok(Described::parse_with(alloc, declarations, words)?)
+    match Described::parse_with(alloc, declarations, words) {
+        Ok(described) => Ok(described),
+        Err(error) => Err(fault_of(&error)),
+    }
 }
 
 /// The bytes as a text.
@@ -77,15 +83,14 @@ fn words_of(text: &[u8]) -> Result<&str, Untyped>
     }
 }
 
-impl From<DescribeError> for Untyped {
-    ghost from_gives = { λ error fault. error ≡ NoMemory → fault ≡ OutOfMemory };
-
-    fn from(error: DescribeError) -> Untyped {
-        match error {
-            DescribeError::Wanted { at, .. } => Untyped::Wanted(at),
-            DescribeError::TooDeep { at } => Untyped::TooDeep(at),
-            DescribeError::Undescribed(_) | DescribeError::Declaration(_) => Untyped::Wanted(0),
-            DescribeError::OutOfMemory => Untyped::OutOfMemory,
-        }
+/// Why the text describes no type.
+fn fault_of(error: &DescribeError) -> Untyped
+    ensures { error.now ≡ NoMemory → result ≡ OutOfMemory }
+{
+    match error {
+        DescribeError::Wanted { at, .. } => Untyped::Wanted(*at),
+        DescribeError::TooDeep { at } => Untyped::TooDeep(*at),
+        DescribeError::OutOfMemory => Untyped::OutOfMemory,
+        _ => Untyped::Wanted(0),
     }
 }
