@@ -4,6 +4,8 @@
 #[cfg(test)]
 mod checked;
 #[cfg(test)]
+mod compared;
+#[cfg(test)]
 mod explained;
 #[cfg(test)]
 mod types;

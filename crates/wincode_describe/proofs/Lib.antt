@@ -8,3 +8,6 @@ mod ReadsBack
 mod WrittenSplits
 mod LineParts
 mod Placed
+mod Likes
+mod Witnesses
+mod Rows

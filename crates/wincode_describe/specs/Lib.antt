@@ -15,3 +15,4 @@ pub mod Readers
 pub mod Written
 pub mod Spelled
 pub mod Lines
+pub mod Compared

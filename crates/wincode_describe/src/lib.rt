@@ -9,10 +9,13 @@
 //! The grammar of a described type is made of those of the schemas: `specs/Types.antt`.
 #![tactic(auto)]
 
+pub mod comparing;
 pub mod described;
+pub mod differing;
 pub mod error;
 pub mod explaining;
 mod leaves;
+pub mod likeness;
 pub mod lines;
 pub mod parsing;
 pub mod parts;
@@ -27,7 +30,9 @@ pub mod streaming;
 mod tokens;
 mod windows;
 
+pub use comparing::{Answer, Comparison, are_same_parts, compare, compared_lines};
 pub use described::Described;
+pub use differing::{Change, ChangeKind};
 pub use error::{DescribeError, DescribeResult};
 pub use explaining::{Checked, Explained, check, check_read, explain, explain_read};
 pub use lines::{

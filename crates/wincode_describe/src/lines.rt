@@ -283,7 +283,7 @@ pub fn checked_line(
 }
 
 /// Adds the first so many of these bytes.
-fn push_front(bytes: &mut Vec<u8>, front: &[u8], size: usize) -> Result<(), AllocError> {
+pub(crate) fn push_front(bytes: &mut Vec<u8>, front: &[u8], size: usize) -> Result<(), AllocError> {
     for byte in front.iter().take(size) {
         bytes.push(*byte)?;
     }

@@ -261,7 +261,7 @@ fn one_case(alloc: Global, tag: usize, content: Described, others: Cases) -> Des
 
 /// Whether a case has the tag.
 #[cycle(naming)]
-fn has_case(cases: &Cases, tag: usize) -> bool
+pub(crate) fn has_case(cases: &Cases, tag: usize) -> bool
     ensures { result ≡ has_tag (seen_cases cases.now) tag }
 {
     match cases {

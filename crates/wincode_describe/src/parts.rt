@@ -7,7 +7,7 @@ use crate::described::{Integer, LengthScheme};
 use crate::shown::Shown;
 
 /// How many bytes an integer has.
-fn integer_size(integer: Integer) -> usize
+pub(crate) fn integer_size(integer: Integer) -> usize
     ensures { result ≡ byte_len (width_of integer) }
 {
     match integer {

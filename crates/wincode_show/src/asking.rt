@@ -18,13 +18,15 @@ wincode_show SHAPE                          reads a value from standard input an
 wincode_show relay --stream SHAPE           so, as the input comes: nested list by list, any other as one value in memory
 wincode_show explain [OPTIONS] TYPE [FILE]  the parts of the value at the front, a line each
 wincode_show check [OPTIONS] TYPE [FILE]    one line: ok, N bytes, M left; or the refusal with its offset
+wincode_show compare OLD NEW                whether NEW reads what was written of OLD: same, reads, differs or may differ
+wincode_show layout SOURCE                  the types that this Rust source declares, a line each, as OLD or NEW may be given
 wincode_show types                          what can be written in a type, with an example each
-Without a file the bytes are read from standard input. The options are:
+Without a file the bytes are read from standard input. OLD and NEW are types. The options, which stand before a type, are:
   --stream                                  the bytes are read as they come
   --types SOURCE                            structs and enums have the names that this Rust source gives them
 A shape stands for a type: nested for Vec<Vec<u64>>, text for String, short for short Vec<u8>, record for
 (u64, bool, [u8; 32]) and pairs for BTreeMap<u8, u8>. Status 0: a value was read; 1: none was, or a fault of memory, input
-or output; 2: no such command, shape, type or file.
+or output; 2: no such command, shape, type or file. Of compare 0: same; 1: reads, or such a fault; 2: else.
 ";
 
 /// Why nothing was printed.
@@ -98,6 +100,10 @@ pub enum Command<'a> {
     Explain(&'a [String]),
     /// Whether there is a value, as the words behind it say.
     Check(&'a [String]),
+    /// Two types, as the words behind it say.
+    Compare(&'a [String]),
+    /// The types that this source file declares.
+    Layout(&'a str),
     Types,
     Help,
     /// A value of this shape, from the input to the output.
@@ -115,6 +121,8 @@ impl<'a> Command<'a> {
         match (command.as_str(), others) {
             ("explain", _) => Ok(Command::Explain(others)),
             ("check", _) => Ok(Command::Check(others)),
+            ("compare", _) => Ok(Command::Compare(others)),
+            ("layout", [path]) => Ok(Command::Layout(path.as_str())),
             ("types", []) => Ok(Command::Types),
             ("--help", []) => Ok(Command::Help),
             (shape, []) => Ok(Command::Recode(shape)),
@@ -191,7 +199,7 @@ fn type_of(text: &str) -> &str {
 }
 
 /// Why a type can't be read, told with the file of its declarations where these are wrong.
-fn untyped(alloc: Global, (file, source): (&str, &str), error: DescribeError) -> Fault {
+pub fn untyped(alloc: Global, (file, source): (&str, &str), error: DescribeError) -> Fault {
     let DescribeError::Declaration(error) = error else {
         return Fault::Type(error);
     };
@@ -204,6 +212,19 @@ fn untyped(alloc: Global, (file, source): (&str, &str), error: DescribeError) ->
     }
 }
 
+/// The type of this text, where the declarations of this source, of a file if there is one, name types.
+pub fn described_by(
+    alloc: Global,
+    file: Option<&str>,
+    source: &str,
+    text: &str,
+) -> Result<Described, Fault> {
+    match Described::parse_with(alloc, source, type_of(text)) {
+        Ok(described) => Ok(described),
+        Err(error) => Err(untyped(alloc, (file.unwrap_or(""), source), error)),
+    }
+}
+
 impl Question {
     /// What is asked, where these declarations name types.
     pub fn of(
@@ -212,13 +233,7 @@ impl Question {
         asked: &Asked,
         source: &str,
     ) -> Result<Question, Fault> {
-        let described = match Described::parse_with(alloc, source, type_of(asked.text)) {
-            Ok(described) => described,
-            Err(error) => {
-                let file = asked.types.unwrap_or("");
-                return Err(untyped(alloc, (file, source), error));
-            }
-        };
+        let described = described_by(alloc, asked.types, source, asked.text)?;
         Ok(Question {
             is_check,
             is_stream: asked.is_stream,

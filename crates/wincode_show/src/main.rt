@@ -1,10 +1,12 @@
 //! `wincode_show SHAPE`: reads a value from standard input and writes it again to standard output; `wincode_show relay
 //! --stream SHAPE`: so, as the input comes, and of lists in lists list by list; `wincode_show explain TYPE [FILE]` and
 //! `wincode_show check TYPE [FILE]`: shows bytes by their type, and says whether they begin with a value of it;
+//! `wincode_show compare OLD NEW` says whether a type reads what was written of another;
 //! `wincode_show --help` says all.
 #![tactic(auto)]
 
 mod asking;
+mod comparing;
 mod passing;
 mod recoding;
 mod relaying;
@@ -13,6 +15,7 @@ mod streaming;
 mod tests;
 
 use asking::{Asked, Command, Fault, HELP, Question, print};
+use comparing::{Named, compared, layout_lines};
 use recoding::RelayError;
 use relaying::relay;
 use std::fs::File;
@@ -32,6 +35,14 @@ fn unread(error: io::Error) -> RelayError {
     }
 }
 
+/// The text of a source file, if there is one.
+fn source_of(rt: &(impl Files + AllocGlobal), path: Option<&str>) -> Result<String, Fault> {
+    match path {
+        None => Ok(String::new(rt.alloc())),
+        Some(path) => fs::read_to_string(rt, path).map_err(Fault::Unread),
+    }
+}
+
 /// Explains or checks the bytes of a file, or of standard input; whether a value was read.
 fn look(
     rt: &(impl Files + Input + Print + AllocGlobal),
@@ -40,10 +51,7 @@ fn look(
 ) -> Result<bool, Fault> {
     let alloc = rt.alloc();
     let asked = Asked::of(words)?;
-    let source = match asked.types {
-        None => String::new(alloc),
-        Some(path) => fs::read_to_string(rt, path).map_err(Fault::Unread)?,
-    };
+    let source = source_of(rt, asked.types)?;
     let question = Question::of(alloc, is_check, &asked, source.as_str())?;
     let mut output = io::writer(rt);
     match asked.file {
@@ -53,6 +61,24 @@ fn look(
             Err(error) => Err(Fault::Unread(error)),
         },
     }
+}
+
+/// Compares two types, and prints what changed; the status.
+fn weigh(rt: &(impl Files + Print + AllocGlobal), words: &[String]) -> Result<u8, Fault> {
+    let (old, new) = Named::both(words)?;
+    let was = source_of(rt, old.types)?;
+    let is = source_of(rt, new.types)?;
+    let (status, text) = compared(rt.alloc(), (&old, was.as_str()), (&new, is.as_str()))?;
+    print(&mut io::writer(rt), text.as_str())?;
+    Ok(status)
+}
+
+/// Prints the types that a source file declares.
+fn lay_out(rt: &(impl Files + Print + AllocGlobal), path: &str) -> Result<bool, Fault> {
+    let source = source_of(rt, Some(path))?;
+    let lines = layout_lines(rt.alloc(), path, source.as_str())?;
+    print(&mut io::writer(rt), lines.as_str())?;
+    Ok(true)
 }
 
 /// The words behind the program's name.
@@ -88,24 +114,31 @@ fn recode_stream(rt: &(impl Input + Print + AllocGlobal), shape: &str) -> Result
     Ok(true)
 }
 
-/// Does what the arguments say; whether a value was read.
-fn run(rt: &(impl Env + Files + Input + Print + AllocGlobal)) -> Result<bool, Fault> {
+/// The status where a value was read, or none was.
+fn status_of(is_read: bool) -> u8 {
+    if is_read { 0 } else { 1 }
+}
+
+/// Does what the arguments say; the status.
+fn run(rt: &(impl Env + Files + Input + Print + AllocGlobal)) -> Result<u8, Fault> {
     let words = words_of(rt)?;
-    match Command::of(words.as_slice())? {
-        Command::Explain(words) => look(rt, false, words),
-        Command::Check(words) => look(rt, true, words),
-        Command::Types => tell(rt, TYPES),
-        Command::Help => tell(rt, HELP),
-        Command::Recode(shape) => recode(rt, shape),
-        Command::RecodeStream(shape) => recode_stream(rt, shape),
-    }
+    let is_read = match Command::of(words.as_slice())? {
+        Command::Explain(words) => look(rt, false, words)?,
+        Command::Check(words) => look(rt, true, words)?,
+        Command::Compare(words) => return weigh(rt, words),
+        Command::Layout(path) => lay_out(rt, path)?,
+        Command::Types => tell(rt, TYPES)?,
+        Command::Help => tell(rt, HELP)?,
+        Command::Recode(shape) => recode(rt, shape)?,
+        Command::RecodeStream(shape) => recode_stream(rt, shape)?,
+    };
+    Ok(status_of(is_read))
 }
 
 /// Runs, prints why it failed, and gives the status.
 fn status(rt: &(impl Env + Files + Input + Print + Eprint + AllocGlobal)) -> u8 {
     match run(rt) {
-        Ok(true) => 0,
-        Ok(false) => 1,
+        Ok(status) => status,
         Err(fault) => {
             let _ = eprintln!(rt; "{fault}");
             fault.status()

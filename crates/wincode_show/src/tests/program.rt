@@ -166,12 +166,41 @@ const ACCOUNTS_LINES: &[u8] = b"\
 41: 05060708 [1].key bytes 4
 ";
 
+/// An account as it was and as it is, and what is printed of the two.
+const ACCOUNT: &str = "struct { id: u32, tags: Vec<u16> }";
+
+const ACCOUNT_NOW: &str = "struct { id: u32, tags: Vec<i16>, paid: bool }";
+
+const ACCOUNT_CHANGES: &[u8] = b"\
+differs
+.tags[]: `u16` became `i16`
+  witness: 00 00 00 00 01 00 00 00 00 00 00 00 00 00
+  old:
+0: 00000000 .id u32 0
+4: 0100000000000000 .tags length 1
+12: 0000 .tags[0] u16 0
+  new:
+0: 00000000 .id u32 0
+4: 0100000000000000 .tags length 1
+12: 0000 .tags[0] i16 0
+14: .paid refused: Attempting to read 1 bytes
+.tags: `paid: bool` came behind it
+  witness: 00 00 00 00 00 00 00 00 00 00 00 00
+  old:
+0: 00000000 .id u32 0
+4: 0000000000000000 .tags length 0
+  new:
+0: 00000000 .id u32 0
+4: 0000000000000000 .tags length 0
+12: .paid refused: Attempting to read 1 bytes
+";
+
 #[test]
 fn the_program(rt: HostRuntime) -> Result<(), Fail> {
     let alloc = rt.alloc();
     let mut record = [0u8; 41];
     record[8] = 2;
-    let rows: [(&[&'static str], &[u8], u8, &[u8], &str); 22] = [
+    let rows: [(&[&'static str], &[u8], u8, &[u8], &str); 29] = [
         (&["show", "nested"], &NESTED, 0, &NESTED, ""),
         (
             &["show", "nested"],
@@ -279,6 +308,65 @@ fn the_program(rt: HostRuntime) -> Result<(), Fail> {
             2,
             &[],
             "a type is wanted at byte 4\n",
+        ),
+        (
+            &[
+                "show",
+                "compare",
+                "struct { owner: u8 }",
+                "struct { holder: Box<u8> }",
+            ],
+            &[],
+            0,
+            b"same\nrenamed: owner -> holder\n",
+            "",
+        ),
+        (
+            &[
+                "show",
+                "compare",
+                "enum u8 { 0: u8 }",
+                "enum u8 { 0: u8, 1: bool }",
+            ],
+            &[],
+            1,
+            b"reads\nthe case 1 is new\n",
+            "",
+        ),
+        (
+            &["show", "compare", ACCOUNT, ACCOUNT_NOW],
+            &[],
+            2,
+            ACCOUNT_CHANGES,
+            "",
+        ),
+        (
+            &["show", "compare", "Vec<u32>", "Vec<Box<u32>>"],
+            &[],
+            2,
+            b"may differ\nan item counts 8 in place of 4, so a long list is refused\n",
+            "",
+        ),
+        (
+            &["show", "compare", "u8"],
+            &[],
+            2,
+            &[],
+            "no such command: wincode_show --help says which there are\n",
+        ),
+        (
+            &["show", "compare", "u8", "u8", "u8"],
+            &[],
+            2,
+            &[],
+            "no such command: wincode_show --help says which there are\n",
+        ),
+        (
+            &["show", "compare", "--types", "accounts.rs", "u8", "u8"],
+            &[],
+            2,
+            &[],
+            "the input can't be read: entity not found\n",
         ),
         (&["show", "types"], &[], 0, TYPES.as_bytes(), ""),
         (&["show", "--help"], &[], 0, HELP.as_bytes(), ""),

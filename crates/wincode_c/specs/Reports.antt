@@ -1,0 +1,93 @@
+-- What a call reports of bytes.
+use Rattle.std.specs.Prelude.{◌≡◌, ◌⊎◌, ℕ, zero, suc, ℤ, pos, neg_ℤ, ◌-◌, ◌<◌, List, length, Option, Some, None, Bool, IsUtf8}
+use Rattle.wincode_io.specs.Readers.{ReaderState, memory, nothing}
+use Rattle.wincode_base.specs.declared.error.ReadError.{ReadError}
+use Rattle.wincode_describe.specs.Explained.{ExplainsRead}
+use Rattle.wincode_describe.specs.Forms.{Form, seen}
+use Rattle.wincode_describe.specs.Lines.{Tells}
+use Rattle.wincode_describe.specs.Parts.{Part, parts_bytes}
+use Rattle.wincode_describe.specs.Spelled.{IsType}
+use Rattle.wincode_describe.specs.Written.{written}
+use Rattle.wincode_describe.specs.declared.described.Described.{Described}
+use Rattle.wincode_c.specs.Refusals.{number_of, first_of, second_of}
+use Rattle.wincode_c.specs.Messages.{PutsText}
+use Rattle.wincode_c.specs.Pages.{IsPage}
+use Rattle.wincode_c.specs.declared.report.Page.{Page}
+use Rattle.wincode_c.specs.declared.report.Report.{Report}
+use Rattle.wincode_c.specs.declared.typed.Untyped.{Untyped}
+use Rattle.wincode_c.specs.declared.typed.Untyped.TheVariants.{NoText, Wanted, TooDeep, OutOfMemory}
+
+-- The text is that of the type: where it is written as types are, it is that one.
+abbrev pub IsTextOf : List ℕ → Described → Type 0
+IsTextOf text d = (form : Form) → IsType 128 form → text ≡ written form → seen d ≡ form
+
+-- Nothing was refused, or this was: its number, and the numbers of its text.
+abbrev pub IsTold : Option ReadError → ℤ → ℕ → ℕ → Type 0
+IsTold None n first second = (n ≡ pos 0) × (first ≡ 0) × (second ≡ 0)
+IsTold (Some e) n first second = (n ≡ pos (number_of e)) × (first ≡ first_of e) × (second ≡ second_of e)
+
+-- Some parts explain the bytes by the type: the report counts them and their bytes, and those behind, and says how many
+-- bytes the reader took.
+abbrev pub Reports : Described → List ℕ → Report → ℤ → Type 0
+Reports d bytes r n = (parts : List Part) × (new : ReaderState) × (refused : Option ReadError)
+    × ExplainsRead d (memory nothing bytes) new parts refused
+    × (r.length ≡ length (parts_bytes parts)) × (r.parts ≡ length parts) × (r.behind ≡ length bytes - r.length)
+    × (r.place ≡ length bytes - length new.rest) × IsTold refused n r.first r.second
+
+-- The number of a fault of a type's text, below 0.
+abbrev pub fault_number : Untyped → ℤ
+fault_number (NoText at) = neg_ℤ (pos 1)
+fault_number (Wanted at) = neg_ℤ (pos 2)
+fault_number (TooDeep at) = neg_ℤ (pos 3)
+fault_number OutOfMemory = neg_ℤ (pos 4)
+
+-- The byte of the text where it is.
+abbrev pub fault_place : Untyped → ℕ
+fault_place (NoText at) = at
+fault_place (Wanted at) = at
+fault_place (TooDeep at) = at
+fault_place OutOfMemory = 0
+
+-- The fault is reported, and nothing else is.
+abbrev pub FaultReported : Untyped → Report → ℤ → Type 0
+FaultReported f r n = (n ≡ fault_number f) × (r.place ≡ fault_place f) × (r.length ≡ 0) × (r.parts ≡ 0) × (r.behind ≡ 0) × (r.first ≡ 0) × (r.second ≡ 0)
+
+-- A text that is written as types are has no fault, but that memory was refused.
+abbrev pub Untypes : List ℕ → Untyped → Type 0
+Untypes text f = IsUtf8 text → (form : Form) → IsType 128 form → text ≡ written form → f ≡ OutOfMemory
+
+-- The text is that of a type, by which the bytes are reported; or it has a fault, which is.
+abbrev pub Answers : List ℕ → List ℕ → Report → ℤ → Type 0
+Answers text bytes r n = ((d : Described) × IsTextOf text d × Reports d bytes r n) ⊎ ((f : Untyped) × Untypes text f × FaultReported f r n)
+
+-- a value is all of the bytes, or they have none, as was reported; or bytes are behind one, which is a refusal of its own
+abbrev pub IsExact : Report → ℤ → Report → ℤ → Type 0
+IsExact r (pos zero) s n = ((r.behind ≡ 0) × (s ≡ r) × (n ≡ pos 0)) ⊎ ((0 < r.behind) × (s ≡ record r { first = r.behind }) × (n ≡ pos 15))
+IsExact r m s n = (s ≡ r) × (n ≡ m)
+
+-- So, where bytes behind the value are a refusal.
+abbrev pub AnswersExact : List ℕ → List ℕ → Report → ℤ → Type 0
+AnswersExact text bytes s n = (r : Report) × (m : ℤ) × Answers text bytes r m × IsExact r m s n
+
+-- nothing was put there
+abbrev pub no_page : Page
+no_page = record { length = 0; lines = 0; behind = 0 }
+
+-- The bytes are reported, and a page of the lines that explain them is put over the front of the room; or memory for these
+-- was refused, and nothing is.
+abbrev pub ReportsPage : Described → List ℕ → ℕ → List ℕ → List ℕ → Report → Page → Page → ℤ → Type 0
+ReportsPage d bytes from old new r before p n = (m : ℤ) × Reports d bytes r m
+    × (((n ≡ m) × ((whole : Bool) × (lines : List ℕ) × Tells d bytes whole lines × IsPage lines from old new p.length p.lines p.behind))
+    ⊎ ((n ≡ neg_ℤ (pos 5)) × (new ≡ old) × (p ≡ before)))
+
+-- So, by the type that the text describes; or it has a fault, which is reported, and nothing is put there.
+abbrev pub AnswersPage : List ℕ → List ℕ → ℕ → List ℕ → List ℕ → Report → Page → ℤ → Type 0
+AnswersPage text bytes from old new r p n = ((d : Described) × IsTextOf text d × ReportsPage d bytes from old new r no_page p n)
+    ⊎ ((f : Untyped) × Untypes text f × FaultReported f r n × (new ≡ old) × (p ≡ no_page))
+
+-- The text of some type stands over the front of the room; or memory for the text was refused, or there is a fault, and
+-- nothing is put there.
+abbrev pub PutsLayout : List ℕ → List ℕ → ℕ → ℤ → Type 0
+PutsLayout old new count n = ((d : Described) × PutsText (written (seen d)) old new count n)
+    ⊎ ((n ≡ neg_ℤ (pos 5)) × (new ≡ old) × (count ≡ 0))
+    ⊎ ((f : Untyped) × (n ≡ fault_number f) × (new ≡ old) × (count ≡ fault_place f))
