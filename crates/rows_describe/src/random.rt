@@ -55,9 +55,10 @@ impl Draws {
 
     /// The next number, below this one.
     fn below(&mut self, n: u64) -> u64 {
-        self.state = self.state.wrapping_mul(6364136223846793005).wrapping_add(
-            1442695040888963407,
-        );
+        self.state = self
+            .state
+            .wrapping_mul(6364136223846793005)
+            .wrapping_add(1442695040888963407);
         let mut drawn = self.state >> 33;
         if self.drawn == self.changed {
             drawn = drawn.wrapping_mul(7).wrapping_add(3);
@@ -336,7 +337,11 @@ fn push_case(
 }
 
 /// An input: a value of the type, of which one time in four one byte is another.
-fn input_of(alloc: Global, draws: &mut Draws, described: &Described) -> Result<Vec<u8>, AllocError> {
+fn input_of(
+    alloc: Global,
+    draws: &mut Draws,
+    described: &Described,
+) -> Result<Vec<u8>, AllocError> {
     let mut bytes = Vec::new(alloc);
     push_value(draws, described, &mut bytes)?;
     if draws.below(4) == 0 {
@@ -370,7 +375,8 @@ fn holds(
         let bytes = input_of(alloc, draws, if i < 25 { old } else { new })?;
         let input = bytes.as_slice();
         let is_read = match answer {
-            Answer::Same => is_read_so(alloc, old, new, input) && is_read_so(alloc, new, old, input),
+            Answer::Same => is_read_so(alloc, old, new, input)
+                && is_read_so(alloc, new, old, input),
             Answer::Reads => is_read_so(alloc, old, new, input),
             Answer::Differs | Answer::MayDiffer => true,
         };
