@@ -68,6 +68,11 @@ impl Draws {
     }
 }
 
+/// The next byte, below this number.
+fn byte_below(draws: &mut Draws, n: u64) -> u8 {
+    draws.below(n).to_le_bytes()[0]
+}
+
 /// A type without parts.
 fn push_leaf(draws: &mut Draws, text: &mut String) -> Result<(), AllocError> {
     let i = draws.below(20) as usize;
@@ -202,9 +207,9 @@ fn push_bytes(draws: &mut Draws, n: usize, bytes: &mut Vec<u8>) -> Result<(), Al
         let byte = if draws.below(3) == 0 {
             0
         } else {
-            draws.below(256)
+            byte_below(draws, 256)
         };
-        bytes.push(byte as u8)?;
+        bytes.push(byte)?;
     }
     Ok(())
 }
@@ -237,8 +242,7 @@ fn push_length(
 /// So many letters.
 fn push_letters(draws: &mut Draws, n: u64, bytes: &mut Vec<u8>) -> Result<(), AllocError> {
     for _ in 0..n {
-        let letter = draws.below(128);
-        bytes.push(letter as u8)?;
+        bytes.push(byte_below(draws, 128))?;
     }
     Ok(())
 }
@@ -346,7 +350,7 @@ fn input_of(
     push_value(draws, described, &mut bytes)?;
     if draws.below(4) == 0 {
         let at = draws.below(bytes.len() as u64) as usize;
-        let byte = draws.below(256) as u8;
+        let byte = byte_below(draws, 256);
         if let Some(there) = bytes.get_mut(at) {
             *there = byte;
         }
