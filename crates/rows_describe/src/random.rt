@@ -55,9 +55,10 @@ impl Draws {
 
     /// The next number, below this one.
     fn below(&mut self, n: u64) -> u64 {
-        self.state = self.state.wrapping_mul(6364136223846793005).wrapping_add(
-            1442695040888963407,
-        );
+        self.state = self
+            .state
+            .wrapping_mul(6364136223846793005)
+            .wrapping_add(1442695040888963407);
         let mut drawn = self.state >> 33;
         if self.drawn == self.changed {
             drawn = drawn.wrapping_mul(7).wrapping_add(3);
@@ -65,6 +66,11 @@ impl Draws {
         self.drawn = self.drawn.saturating_add(1);
         drawn.checked_rem(n).unwrap_or(0)
     }
+}
+
+/// The next byte, below this number.
+fn byte_below(draws: &mut Draws, n: u64) -> u8 {
+    draws.below(n).to_le_bytes()[0]
 }
 
 /// A type without parts.
@@ -201,9 +207,9 @@ fn push_bytes(draws: &mut Draws, n: usize, bytes: &mut Vec<u8>) -> Result<(), Al
         let byte = if draws.below(3) == 0 {
             0
         } else {
-            draws.below(256)
+            byte_below(draws, 256)
         };
-        bytes.push(byte as u8)?;
+        bytes.push(byte)?;
     }
     Ok(())
 }
@@ -236,8 +242,7 @@ fn push_length(
 /// So many letters.
 fn push_letters(draws: &mut Draws, n: u64, bytes: &mut Vec<u8>) -> Result<(), AllocError> {
     for _ in 0..n {
-        let letter = draws.below(128);
-        bytes.push(letter as u8)?;
+        bytes.push(byte_below(draws, 128))?;
     }
     Ok(())
 }
@@ -336,12 +341,16 @@ fn push_case(
 }
 
 /// An input: a value of the type, of which one time in four one byte is another.
-fn input_of(alloc: Global, draws: &mut Draws, described: &Described) -> Result<Vec<u8>, AllocError> {
+fn input_of(
+    alloc: Global,
+    draws: &mut Draws,
+    described: &Described,
+) -> Result<Vec<u8>, AllocError> {
     let mut bytes = Vec::new(alloc);
     push_value(draws, described, &mut bytes)?;
     if draws.below(4) == 0 {
         let at = draws.below(bytes.len() as u64) as usize;
-        let byte = draws.below(256) as u8;
+        let byte = byte_below(draws, 256);
         if let Some(there) = bytes.get_mut(at) {
             *there = byte;
         }
@@ -370,7 +379,8 @@ fn holds(
         let bytes = input_of(alloc, draws, if i < 25 { old } else { new })?;
         let input = bytes.as_slice();
         let is_read = match answer {
-            Answer::Same => is_read_so(alloc, old, new, input) && is_read_so(alloc, new, old, input),
+            Answer::Same => is_read_so(alloc, old, new, input)
+                && is_read_so(alloc, new, old, input),
             Answer::Reads => is_read_so(alloc, old, new, input),
             Answer::Differs | Answer::MayDiffer => true,
         };

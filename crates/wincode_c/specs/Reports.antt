@@ -1,5 +1,5 @@
 -- What a call reports of bytes.
-use Rattle.std.specs.Prelude.{◌≡◌, ◌⊎◌, ℕ, zero, suc, ℤ, pos, neg_ℤ, ◌-◌, ◌<◌, List, length, Option, Some, None, Bool, IsUtf8}
+use Rattle.std.specs.Prelude.{◌≡◌, ◌⊎◌, ℕ, zero, suc, ℤ, pos, neg_ℤ, ◌-◌, ◌<◌, List, length, Option, Some, None, Bool, true, false, IsUtf8}
 use Rattle.wincode_io.specs.Readers.{ReaderState, memory, nothing}
 use Rattle.wincode_base.specs.declared.error.ReadError.{ReadError}
 use Rattle.wincode_describe.specs.Explained.{ExplainsRead}
@@ -73,11 +73,16 @@ AnswersExact text bytes s n = (r : Report) × (m : ℤ) × Answers text bytes r 
 abbrev pub no_page : Page
 no_page = record { length = 0; lines = 0; behind = 0 }
 
+-- lines tell of a value where nothing was refused, and else of a refusal
+abbrev pub AreOf : ℤ → Bool → Type 0
+AreOf n true = n ≡ pos 0
+AreOf n false = n ≡ pos 0 → ⊥
+
 -- The bytes are reported, and a page of the lines that explain them is put over the front of the room; or memory for these
 -- was refused, and nothing is.
 abbrev pub ReportsPage : Described → List ℕ → ℕ → List ℕ → List ℕ → Report → Page → Page → ℤ → Type 0
 ReportsPage d bytes from old new r before p n = (m : ℤ) × Reports d bytes r m
-    × (((n ≡ m) × ((whole : Bool) × (lines : List ℕ) × Tells d bytes whole lines × IsPage lines from old new p.length p.lines p.behind))
+    × (((n ≡ m) × ((whole : Bool) × (lines : List ℕ) × Tells d bytes whole lines × AreOf m whole × IsPage lines from old new p.length p.lines p.behind))
     ⊎ ((n ≡ neg_ℤ (pos 5)) × (new ≡ old) × (p ≡ before)))
 
 -- So, by the type that the text describes; or it has a fault, which is reported, and nothing is put there.

@@ -1,5 +1,5 @@
 -- What is known of two types, made of what is known of their parts.
-use Rattle.std.proofs.Common.{◌≡◌, ◌∙◌, sym, ap, subst, ℕ, ◌*◌, ◌≤◌, ◌<◌, Bool, true, false, List, [], ◌∷◌, length, refl, arith, nat_eq, Ok, Err, Some, None, inl, inr}
+use Rattle.std.proofs.Common.{◌≡◌, subst, ℕ, ◌≤◌, Bool, true, false, List, [], ◌∷◌, length, refl, arith, nat_eq, Ok, Err, Some, None}
 use Rattle.std.proofs.Math.Nat.{mul-le-mul_left}
 use Rattle.std.proofs.lemmas.Bool.{eqb-true}
 use Rattle.std.specs.Prelude.{Result, Option, ◌||◌}
@@ -7,7 +7,6 @@ use Rattle.wincode_io.specs.Joins.{Joined}
 use Rattle.wincode_base.specs.Arrays.{array_read}
 use Rattle.wincode_base.specs.Grammar.{ReadGrammar}
 use Rattle.wincode_base.specs.InWindow.{windowed_read}
-use Rattle.wincode_base.specs.Outcomes.{Found}
 use Rattle.wincode_base.specs.Pairs.{pair_read}
 use Rattle.wincode_base.specs.Tags.{option_read, result_read}
 use Rattle.wincode_describe.specs.Compared.{Within, IsLike, IsWider, AreLike, AreNamed, both}
@@ -20,7 +19,7 @@ use Rattle.wincode_describe.specs.declared.described.Described.{Described}
 use Rattle.wincode_describe.specs.declared.described.Cases.{Cases}
 use Rattle.wincode_describe.specs.declared.described.Cases.TheVariants.{Last', Case'}
 use Rattle.wincode_describe.specs.declared.described.LengthScheme.{LengthScheme}
-use Rattle.wincode_describe.specs.declared.described.LengthScheme.TheVariants.{Eight, Short}
+use Rattle.wincode_describe.specs.declared.described.LengthScheme.TheVariants.{Eight}
 use Rattle.wincode_describe.specs.declared.likeness.Likeness.{Likeness}
 use Rattle.wincode_describe.specs.declared.likeness.Likeness.TheVariants.{Same, Reads, Unlike}
 

@@ -4,7 +4,7 @@ use Rattle.std.proofs.Common.{drop_of_length-le, Ok, Err, zero}
 use Rattle.std.specs.Prelude.{Result, MatchResult}
 use Rattle.std.proofs.Math.Seq.{drop-append_seam}
 use Rattle.wincode_base.specs.Pairs.{pair_read}
-use Rattle.wincode_describe.proofs.Likes.{Grammar, same_like, turned, like_to, like_from, pair_like}
+use Rattle.wincode_describe.proofs.Likes.{Grammar, same_like, turned, like_to, pair_like}
 use Rattle.wincode_describe.specs.Compared.{IsLike, StandsAt, Takes, both, heads, row_read}
 use Rattle.wincode_describe.specs.Parts.{Part}
 use Rattle.wincode_describe.specs.ShownGrammars.{shown_read}

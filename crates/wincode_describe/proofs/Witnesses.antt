@@ -5,7 +5,7 @@ use Rattle.std.proofs.lemmas.Option.{slice_get-map}
 use Rattle.std.specs.Prelude.{slice_get, option_map}
 use Rattle.wincode_io.specs.Readers.{ReaderState, memory, nothing}
 use Rattle.wincode_io.specs.declared.error.ReadError.TheVariants as reader
-use Rattle.wincode_base.specs.Outcomes.{Found, Accepts, ReadDue}
+use Rattle.wincode_base.specs.Outcomes.{Accepts, ReadDue}
 use Rattle.wincode_base.specs.declared.error.ReadError.{ReadError}
 use Rattle.wincode_base.specs.declared.error.ReadError.TheVariants as reading
 use Rattle.wincode_describe.specs.Compared.{Within, ReadsAs, IsWitness, IsUnaccepted}

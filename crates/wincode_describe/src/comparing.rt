@@ -30,7 +30,7 @@ pub enum Answer {
 #[derive(Debug, Drop)]
 pub struct Comparison {
     pub answer: Answer,
-    /// All that is written in two ways, in the order of the old type's parts.
+    /// What changed, in the order of the old type's parts. Of members that are nested in another way no name is told.
     pub changes: Vec<Change>,
 }
 

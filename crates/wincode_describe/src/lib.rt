@@ -5,6 +5,7 @@
 //! - `shown`, `sink`, `parts`, `spans`: the parts, where they go, their bytes, and where each stands.
 //! - `explaining`, `streaming`: the parts of bytes in memory, or of bytes as they come.
 //! - `lines`, `places`: what is printed of them.
+//! - `comparing`, `likeness`, `differing`: two types compared; what is known of them, and where they differ.
 //!
 //! The grammar of a described type is made of those of the schemas: `specs/Types.antt`.
 #![tactic(auto)]

@@ -64,11 +64,7 @@ pub fn compared(
 }
 
 /// The line of a declared type: its name, and its layout as a type's text; or why it has none.
-fn layout_line(
-    alloc: Global,
-    source: &str,
-    declaration: &Declaration,
-) -> Result<String, Fault> {
+fn layout_line(alloc: Global, source: &str, declaration: &Declaration) -> Result<String, Fault> {
     let name = declaration.name.as_str();
     match Described::parse_with(alloc, source, name) {
         Ok(described) => Ok(format!(in alloc; "{name}: {described}\n")?),

@@ -1,4 +1,4 @@
-use Rattle.std.proofs.Common.{rules, ◌≡◌, ℕ, subst, [], ◌∷◌, ◌+◌, length}
+use Rattle.std.proofs.Common.{rules, ◌≡◌, subst, [], ◌∷◌, ◌+◌, length}
 use Rattle.std.specs.Prelude.{MatchResult}
 use Rattle.wincode_describe.specs.Compared.{StandsAt, heads}
 use Rattle.wincode_describe.specs.declared.described.Described.{Described}

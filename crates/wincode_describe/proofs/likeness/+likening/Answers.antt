@@ -1,6 +1,6 @@
-use Rattle.std.proofs.Common.{rules, ◌≡◌, ◌∙◌, sym, ap, refl, arith, ℕ, suc, length, subst}
+use Rattle.std.proofs.Common.{rules, ◌≡◌, arith, ℕ, suc, subst}
 use Rattle.wincode_describe.specs.Compared.{IsLike, IsWider, AreLike, AreNamed, Takes, both, heads}
-use Rattle.wincode_describe.specs.Types.{described_read, cases_read, tag_bytes, list_of, scheme_of}
+use Rattle.wincode_describe.specs.Types.{described_read, tag_bytes, list_of, scheme_of}
 use Rattle.wincode_describe.specs.declared.described.Cases.{Cases}
 use Rattle.wincode_describe.specs.declared.described.Described.{Described}
 use Rattle.wincode_describe.specs.declared.described.LengthScheme.{LengthScheme}
