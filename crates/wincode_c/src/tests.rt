@@ -142,8 +142,8 @@ fn pages_of_lines(rt: HostRuntime) -> Result<(), Fail> {
             let (lines, left) = bytes.as_slice().split_at(page.length.min(room));
             seen.extend_from_slice(lines)?;
             assert!(rt; left.iter().all(|byte| *byte == 255));
-            assert_eq!(rt; seen.len() + page.behind, LINES.len());
-            from += page.lines;
+            assert_eq!(rt; seen.len().checked_add(page.behind), Some(LINES.len()));
+            from = from.saturating_add(page.lines);
         }
         let whole = match room {
             0..=13 => 0,
