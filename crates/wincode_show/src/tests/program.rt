@@ -200,7 +200,7 @@ fn the_program(rt: HostRuntime) -> Result<(), Fail> {
     let alloc = rt.alloc();
     let mut record = [0u8; 41];
     record[8] = 2;
-    let rows: [(&[&'static str], &[u8], u8, &[u8], &str); 29] = [
+    let rows: [(&[&'static str], &[u8], u8, &[u8], &str); 22] = [
         (&["show", "nested"], &NESTED, 0, &NESTED, ""),
         (
             &["show", "nested"],
@@ -309,6 +309,46 @@ fn the_program(rt: HostRuntime) -> Result<(), Fail> {
             &[],
             "a type is wanted at byte 4\n",
         ),
+        (&["show", "types"], &[], 0, TYPES.as_bytes(), ""),
+        (&["show", "--help"], &[], 0, HELP.as_bytes(), ""),
+        (
+            &["show", "types", "u8"],
+            &[],
+            2,
+            &[],
+            "no such command: wincode_show --help says which there are\n",
+        ),
+        (
+            &["show", "check"],
+            &[],
+            2,
+            &[],
+            "no such command: wincode_show --help says which there are\n",
+        ),
+    ];
+    for (words, input, wanted, output, errors) in &rows {
+        let played = Played {
+            alloc,
+            words: *words,
+            input: *input,
+            output: Cell::new(Vec::new(alloc)),
+            errors: Cell::new(Vec::new(alloc)),
+        };
+        assert_eq!(rt; status(&played), *wanted);
+        assert_eq!(rt; played.output.replace(Vec::new(alloc)).as_slice(), *output);
+        assert_eq!(rt;
+            played.errors.replace(Vec::new(alloc)).as_slice(),
+            errors.as_bytes()
+        );
+    }
+    Ok(())
+}
+
+/// What is printed of two types, and of those that can't be read.
+#[test]
+fn types_are_compared(rt: HostRuntime) -> Result<(), Fail> {
+    let alloc = rt.alloc();
+    let rows: [(&[&'static str], &[u8], u8, &[u8], &str); 7] = [
         (
             &[
                 "show",
@@ -367,22 +407,6 @@ fn the_program(rt: HostRuntime) -> Result<(), Fail> {
             2,
             &[],
             "the input can't be read: entity not found\n",
-        ),
-        (&["show", "types"], &[], 0, TYPES.as_bytes(), ""),
-        (&["show", "--help"], &[], 0, HELP.as_bytes(), ""),
-        (
-            &["show", "types", "u8"],
-            &[],
-            2,
-            &[],
-            "no such command: wincode_show --help says which there are\n",
-        ),
-        (
-            &["show", "check"],
-            &[],
-            2,
-            &[],
-            "no such command: wincode_show --help says which there are\n",
         ),
     ];
     for (words, input, wanted, output, errors) in &rows {
