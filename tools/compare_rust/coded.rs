@@ -405,6 +405,24 @@ impl<T: Coded> Coded for VecDeque<T> {
     }
 }
 
+/// The length of a map, and then its pairs.
+#[inline]
+fn write_pairs<'a, K: Coded + 'a, V: Coded + 'a>(pairs: impl ExactSizeIterator<Item = (&'a K, &'a V)>, bytes: &mut Vec<u8>) {
+    put_length(pairs.len(), bytes);
+    for (key, value) in pairs {
+        key.write(bytes);
+        value.write(bytes);
+    }
+}
+
+#[inline]
+fn size_of_pairs<'a, K: Coded + 'a, V: Coded + 'a>(mut pairs: impl ExactSizeIterator<Item = (&'a K, &'a V)>) -> Option<usize> {
+    if K::SIZE > 0 && V::SIZE > 0 {
+        return pairs.len().checked_mul(K::SIZE + V::SIZE)?.checked_add(8);
+    }
+    pairs.try_fold(8usize, |sum, (key, value)| sum.checked_add(key.size()?)?.checked_add(value.size()?))
+}
+
 impl<K: Coded + Ord, V: Coded> Coded for BTreeMap<K, V> {
     #[inline]
     fn read<const MAX: usize>(bytes: &mut &[u8]) -> Result<BTreeMap<K, V>, Refused> {
@@ -414,19 +432,12 @@ impl<K: Coded + Ord, V: Coded> Coded for BTreeMap<K, V> {
 
     #[inline]
     fn write(&self, bytes: &mut Vec<u8>) {
-        put_length(self.len(), bytes);
-        for (key, value) in self {
-            key.write(bytes);
-            value.write(bytes);
-        }
+        write_pairs(self.iter(), bytes);
     }
 
     #[inline]
     fn size(&self) -> Option<usize> {
-        if K::SIZE > 0 && V::SIZE > 0 {
-            return self.len().checked_mul(K::SIZE + V::SIZE)?.checked_add(8);
-        }
-        self.iter().try_fold(8usize, |sum, (key, value)| sum.checked_add(key.size()?)?.checked_add(value.size()?))
+        size_of_pairs(self.iter())
     }
 }
 
@@ -444,19 +455,12 @@ impl<K: Coded + Eq + Hash, V: Coded> Coded for HashMap<K, V> {
 
     #[inline]
     fn write(&self, bytes: &mut Vec<u8>) {
-        put_length(self.len(), bytes);
-        for (key, value) in self {
-            key.write(bytes);
-            value.write(bytes);
-        }
+        write_pairs(self.iter(), bytes);
     }
 
     #[inline]
     fn size(&self) -> Option<usize> {
-        if K::SIZE > 0 && V::SIZE > 0 {
-            return self.len().checked_mul(K::SIZE + V::SIZE)?.checked_add(8);
-        }
-        self.iter().try_fold(8usize, |sum, (key, value)| sum.checked_add(key.size()?)?.checked_add(value.size()?))
+        size_of_pairs(self.iter())
     }
 }
 
