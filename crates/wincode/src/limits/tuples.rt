@@ -21,7 +21,7 @@ impl<A: Limited, B: Limited, C: Limited> Limited for (A, B, C) {
     }
 
     fn has_no_limits() -> bool {
-        A::has_no_limits() && B::has_no_limits() && C::has_no_limits()
+        A::has_no_limits() && <(B, C) as Limited>::has_no_limits()
     }
 
     fn is_within(src: &Self::Src) -> bool {
@@ -35,7 +35,7 @@ impl<A: Limited, B: Limited, C: Limited, D: Limited> Limited for (A, B, C, D) {
     }
 
     fn has_no_limits() -> bool {
-        A::has_no_limits() && B::has_no_limits() && C::has_no_limits() && D::has_no_limits()
+        A::has_no_limits() && <(B, C, D) as Limited>::has_no_limits()
     }
 
     fn is_within(src: &Self::Src) -> bool {
@@ -49,11 +49,7 @@ impl<A: Limited, B: Limited, C: Limited, D: Limited, E: Limited> Limited for (A,
     }
 
     fn has_no_limits() -> bool {
-        A::has_no_limits()
-            && B::has_no_limits()
-            && C::has_no_limits()
-            && D::has_no_limits()
-            && E::has_no_limits()
+        A::has_no_limits() && <(B, C, D, E) as Limited>::has_no_limits()
     }
 
     fn is_within(src: &Self::Src) -> bool {
@@ -72,12 +68,7 @@ impl<A: Limited, B: Limited, C: Limited, D: Limited, E: Limited, F: Limited> Lim
     }
 
     fn has_no_limits() -> bool {
-        A::has_no_limits()
-            && B::has_no_limits()
-            && C::has_no_limits()
-            && D::has_no_limits()
-            && E::has_no_limits()
-            && F::has_no_limits()
+        A::has_no_limits() && <(B, C, D, E, F) as Limited>::has_no_limits()
     }
 
     fn is_within(src: &Self::Src) -> bool {
@@ -97,13 +88,7 @@ impl<A: Limited, B: Limited, C: Limited, D: Limited, E: Limited, F: Limited, G: 
     }
 
     fn has_no_limits() -> bool {
-        A::has_no_limits()
-            && B::has_no_limits()
-            && C::has_no_limits()
-            && D::has_no_limits()
-            && E::has_no_limits()
-            && F::has_no_limits()
-            && G::has_no_limits()
+        A::has_no_limits() && <(B, C, D, E, F, G) as Limited>::has_no_limits()
     }
 
     fn is_within(src: &Self::Src) -> bool {
@@ -132,14 +117,7 @@ impl<
     }
 
     fn has_no_limits() -> bool {
-        A::has_no_limits()
-            && B::has_no_limits()
-            && C::has_no_limits()
-            && D::has_no_limits()
-            && E::has_no_limits()
-            && F::has_no_limits()
-            && G::has_no_limits()
-            && H::has_no_limits()
+        A::has_no_limits() && <(B, C, D, E, F, G, H) as Limited>::has_no_limits()
     }
 
     fn is_within(src: &Self::Src) -> bool {
@@ -170,15 +148,7 @@ impl<
     }
 
     fn has_no_limits() -> bool {
-        A::has_no_limits()
-            && B::has_no_limits()
-            && C::has_no_limits()
-            && D::has_no_limits()
-            && E::has_no_limits()
-            && F::has_no_limits()
-            && G::has_no_limits()
-            && H::has_no_limits()
-            && I::has_no_limits()
+        A::has_no_limits() && <(B, C, D, E, F, G, H, I) as Limited>::has_no_limits()
     }
 
     fn is_within(src: &Self::Src) -> bool {
@@ -211,16 +181,7 @@ impl<
     }
 
     fn has_no_limits() -> bool {
-        A::has_no_limits()
-            && B::has_no_limits()
-            && C::has_no_limits()
-            && D::has_no_limits()
-            && E::has_no_limits()
-            && F::has_no_limits()
-            && G::has_no_limits()
-            && H::has_no_limits()
-            && I::has_no_limits()
-            && J::has_no_limits()
+        A::has_no_limits() && <(B, C, D, E, F, G, H, I, J) as Limited>::has_no_limits()
     }
 
     fn is_within(src: &Self::Src) -> bool {
@@ -255,17 +216,7 @@ impl<
     }
 
     fn has_no_limits() -> bool {
-        A::has_no_limits()
-            && B::has_no_limits()
-            && C::has_no_limits()
-            && D::has_no_limits()
-            && E::has_no_limits()
-            && F::has_no_limits()
-            && G::has_no_limits()
-            && H::has_no_limits()
-            && I::has_no_limits()
-            && J::has_no_limits()
-            && K::has_no_limits()
+        A::has_no_limits() && <(B, C, D, E, F, G, H, I, J, K) as Limited>::has_no_limits()
     }
 
     fn is_within(src: &Self::Src) -> bool {
@@ -302,18 +253,7 @@ impl<
     }
 
     fn has_no_limits() -> bool {
-        A::has_no_limits()
-            && B::has_no_limits()
-            && C::has_no_limits()
-            && D::has_no_limits()
-            && E::has_no_limits()
-            && F::has_no_limits()
-            && G::has_no_limits()
-            && H::has_no_limits()
-            && I::has_no_limits()
-            && J::has_no_limits()
-            && K::has_no_limits()
-            && M::has_no_limits()
+        A::has_no_limits() && <(B, C, D, E, F, G, H, I, J, K, M) as Limited>::has_no_limits()
     }
 
     fn is_within(src: &Self::Src) -> bool {
