@@ -21,7 +21,7 @@ use Rattle.wincode_derive_support.specs.SumLaws.{enum_write_laws}
 
 -- ---- reading
 
-wider : {V : Type 0} (R : List ℕ → V → Type 0) (borrow borrow' : ℕ) (takes_no_memory takes_no_memory' : Bool) (old new : ReaderState) (e : ReadError) → borrow
+pub wider : {V : Type 0} (R : List ℕ → V → Type 0) (borrow borrow' : ℕ) (takes_no_memory takes_no_memory' : Bool) (old new : ReaderState) (e : ReadError) → borrow
     ≤ borrow' → (takes_no_memory ≡ false → takes_no_memory' ≡ false) → ReadRefused R borrow takes_no_memory old new e
     → ReadRefused R borrow' takes_no_memory' old new e
 wider R borrow borrow' takes_no_memory takes_no_memory' old new e a s r =

@@ -2,6 +2,7 @@
 //! hand.
 //!
 //! - `sums`: one of several cases behind its tag.
+//! - `splits`: cases in two parts, for enums of many.
 //! - `enums`: an enum as one of its cases, sized and written by reference.
 //! - `laws`, `keys`: the laws of reading, and of keys of maps, where another schema can name them.
 //! - `lent`: structs with borrowed fields.
@@ -11,4 +12,5 @@ pub mod enums;
 pub mod keys;
 pub mod laws;
 pub mod lent;
+pub mod splits;
 pub mod sums;

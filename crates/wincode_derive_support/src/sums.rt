@@ -228,7 +228,7 @@ impl<L: Lending, const TAG: usize, A: SchemaReadOwned<L>> CasesReadOwned<L> for 
 }
 
 /// The size that both have, if they have one.
-fn same_meta(first: TypeMeta, second: TypeMeta) -> TypeMeta
+pub fn same_meta(first: TypeMeta, second: TypeMeta) -> TypeMeta
     ensures { result ≡ sides_meta first second }
 {
     match (first, second) {
