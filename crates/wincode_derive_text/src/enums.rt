@@ -4,6 +4,7 @@ use crate::error::DeriveResult;
 use crate::inside::looked_into;
 use crate::laws::{law_of, seen_by};
 use crate::lent::{own_no_memory, put_lent_enum};
+use crate::parts::Layout;
 use crate::printing::{Words, fill, joined, owned, put, put_call};
 use crate::structs::{
     OF, applied, are_plain_keys, bindings, bound_of, evidence_of, held_as, made_of, members,
@@ -203,7 +204,7 @@ const NO_ARRAYS: [&str; 20] = [
 ];
 
 /// The case of a result that stands at this place of so many, around what the case holds, in a term: `Err (Ok a)`.
-fn sided(alloc: Global, (place, count): (usize, usize), inside: &str) -> DeriveResult<String> {
+pub fn sided(alloc: Global, (place, count): (usize, usize), inside: &str) -> DeriveResult<String> {
     let is_last = place.saturating_add(1) >= count;
     let errors = if is_last {
         place.saturating_sub(1)
@@ -225,7 +226,7 @@ fn sided(alloc: Global, (place, count): (usize, usize), inside: &str) -> DeriveR
 }
 
 /// The types, from the last to the first: each but the last as `Result<A, ..>`.
-fn parts_of(alloc: Global, variants: &[Variant]) -> DeriveResult<String> {
+pub fn sides_of(alloc: Global, variants: &[Variant]) -> DeriveResult<String> {
     let mut out = String::new(alloc);
     let count = variants.len();
     for (i, variant) in variants.iter().enumerate() {
@@ -245,7 +246,7 @@ fn parts_of(alloc: Global, variants: &[Variant]) -> DeriveResult<String> {
 }
 
 /// Closes what was opened for each of so many but the last.
-fn close(out: &mut String, count: usize) -> DeriveResult<()> {
+pub fn close(out: &mut String, count: usize) -> DeriveResult<()> {
     for _ in 1..count {
         out.push('>')?;
     }
@@ -265,41 +266,53 @@ fn case_of(alloc: Global, variant: &Variant, is_last: bool) -> DeriveResult<Stri
     Ok(format!(in alloc; "{name}<{tag}, {schema}{end}")?)
 }
 
-/// The cases with their tags.
-pub fn cases_of(alloc: Global, cases: &Cases) -> DeriveResult<String> {
-    let variants = cases.variants.as_slice();
-    let mut out = match cases.counts {
-        Some(counts) => format!(in alloc; "Counted<{counts}, ")?,
-        None => String::new(alloc),
-    };
+/// Some cases with their tags.
+pub fn case_sides_of(alloc: Global, variants: &[Variant]) -> DeriveResult<String> {
+    let mut out = String::new(alloc);
     for (i, variant) in variants.iter().enumerate() {
         let is_last = i.saturating_add(1) == variants.len();
         out.push_str(case_of(alloc, variant, is_last)?.as_str())?;
     }
     close(&mut out, variants.len())?;
-    out.push_str(if cases.counts.is_some() { ">" } else { "" })?;
     Ok(out)
 }
 
-/// What contracts see of a case, at this place of so many.
+/// The cases of an enum with their tags.
+pub fn cases_of(alloc: Global, declaration: &Declaration, cases: &Cases) -> DeriveResult<String> {
+    let variants = cases.variants.as_slice();
+    let layout = Layout::of(declaration, variants.len());
+    let all = layout.cases(alloc, declaration.name.as_str(), variants)?;
+    let all = all.as_str();
+    match cases.counts {
+        Some(counts) => Ok(format!(in alloc; "Counted<{counts}, {all}>")?),
+        None => owned(alloc, all),
+    }
+}
+
+/// What contracts see of a case, at this place.
 fn arm_seen(
     alloc: Global,
     name: &str,
     variant: &Variant,
-    of: (usize, usize),
+    (layout, place): (Layout, usize),
 ) -> DeriveResult<String> {
     let names = letters_of(alloc, variant)?;
     let value = value_of(alloc, &variant.fields, names.as_slice())?;
-    let side = sided(alloc, of, value.as_str())?;
+    let side = layout.sided(alloc, place, value.as_str())?;
     let pattern = pattern_of(alloc, name, variant, "")?;
     Ok(format!(in alloc; "{pattern} ↦ {side}")?)
 }
 
 /// What contracts see of each case.
-fn arms_of(alloc: Global, name: &str, variants: &[Variant]) -> DeriveResult<String> {
+fn arms_of(
+    alloc: Global,
+    name: &str,
+    variants: &[Variant],
+    layout: Layout,
+) -> DeriveResult<String> {
     let mut arms = Vec::new(alloc);
     for (i, variant) in variants.iter().enumerate() {
-        arms.push(arm_seen(alloc, name, variant, (i, variants.len()))?)?;
+        arms.push(arm_seen(alloc, name, variant, (layout, i))?)?;
     }
     joined(alloc, arms.as_slice(), " | ")
 }
@@ -317,7 +330,7 @@ fn value_of(alloc: Global, fields: &Fields, names: &[String]) -> DeriveResult<St
 }
 
 /// A letter for each field of a case.
-fn letters_of(alloc: Global, variant: &Variant) -> DeriveResult<Vec<String>> {
+pub fn letters_of(alloc: Global, variant: &Variant) -> DeriveResult<Vec<String>> {
     let mut names = Vec::new(alloc);
     for (i, _) in variant.fields.fields.iter().enumerate() {
         names.push(numbered(alloc, i)?)?;
@@ -379,7 +392,7 @@ fn arm_of(
 }
 
 /// The arms by which a value is made of its parts, a `match` for each side behind the first.
-fn make_of(alloc: Global, name: &str, variants: &[Variant]) -> DeriveResult<String> {
+pub fn made_by_sides(alloc: Global, name: &str, variants: &[Variant]) -> DeriveResult<String> {
     let mut out = String::new(alloc);
     for (i, variant) in variants.iter().enumerate() {
         let is_last = i.saturating_add(1) == variants.len();
@@ -523,43 +536,71 @@ fn same_of(alloc: Global, variant: &Variant, is_last: bool, same: &str) -> Deriv
     Ok(format!(in alloc; "⟦<{schema} as LawfulKey<L>>⟧.alike {both} {before}{same}{after}")?)
 }
 
-/// That the same is seen of what stands behind so many others.
-fn behind(alloc: Global, depth: usize) -> DeriveResult<String> {
+/// That the same is seen of what stands behind so many others, from that it is seen of all.
+fn behind(alloc: Global, depth: usize, all: &str) -> DeriveResult<String> {
     let mut out = String::new(alloc);
     for _ in 0..depth {
         out.push_str("(err_same ")?;
     }
-    out.push('e')?;
+    out.push_str(all)?;
     for _ in 0..depth {
         out.push(')')?;
     }
     Ok(out)
 }
 
-/// Why values of two cases, at these places of so many, are equal where the same is seen of them, or that it isn't.
+/// That the same is seen of the parts in which two cases stand, this of so many.
+fn behind_part(alloc: Global, (part, parts): (usize, usize)) -> DeriveResult<String> {
+    let same = behind(alloc, part, "e")?;
+    let same = same.as_str();
+    if part.saturating_add(1) < parts {
+        Ok(format!(in alloc; "(ok_same {same})")?)
+    } else {
+        owned(alloc, same)
+    }
+}
+
+/// That the same isn't seen of what stands at two places, from that it is seen of all.
+fn apart_of(alloc: Global, (i, j): (usize, usize), all: &str) -> DeriveResult<String> {
+    let same = behind(alloc, i.min(j), all)?;
+    let apart = if i < j { "ok_not_err" } else { "err_not_ok" };
+    let same = same.as_str();
+    Ok(format!(in alloc; "{apart} {same}")?)
+}
+
+/// Why values of two cases, at these places, are equal where the same is seen of them, or that it isn't.
 fn why_of(
     alloc: Global,
     ((i, one), j): ((usize, &Variant), usize),
-    count: usize,
+    layout: Layout,
 ) -> DeriveResult<String> {
-    let same = behind(alloc, i.min(j))?;
-    if i == j {
-        return same_of(alloc, one, i.saturating_add(1) == count, same.as_str());
+    let (part, other) = (layout.part(i), layout.part(j).0);
+    if part.0 != other {
+        return apart_of(alloc, (part.0, other), "e");
     }
-    let apart = if i < j { "ok_not_err" } else { "err_not_ok" };
-    Ok(format!(in alloc; "{apart} {same}")?)
+    let all = if layout.is_whole() {
+        owned(alloc, "e")?
+    } else {
+        behind_part(alloc, part)?
+    };
+    let ((i, count), (j, _)) = (layout.inside(i), layout.inside(j));
+    if i != j {
+        return apart_of(alloc, (i, j), all.as_str());
+    }
+    let same = behind(alloc, i, all.as_str())?;
+    same_of(alloc, one, i.saturating_add(1) == count, same.as_str())
 }
 
 /// Why two values of which the same is seen are equal: of a case and of each other one.
 fn alike_of(
     alloc: Global,
     name: &str,
-    variants: &[Variant],
+    (variants, layout): (&[Variant], Layout),
     (i, one): (usize, &Variant),
 ) -> DeriveResult<String> {
     let mut arms = Vec::new(alloc);
     for (j, other) in variants.iter().enumerate() {
-        let why = why_of(alloc, ((i, one), j), variants.len())?;
+        let why = why_of(alloc, ((i, one), j), layout)?;
         let pattern = pattern_of(alloc, name, other, "'")?;
         arms.push(format!(in alloc; "{pattern} ↦ λ e. {why}")?)?;
     }
@@ -583,10 +624,15 @@ pub fn is_enum_key(declaration: &Declaration, cases: &Cases) -> bool {
 }
 
 /// Appends that an enum is a key of maps.
-fn put_key(alloc: Global, out: &mut String, name: &str, variants: &[Variant]) -> DeriveResult<()> {
+fn put_key(
+    alloc: Global,
+    out: &mut String,
+    name: &str,
+    (variants, layout): (&[Variant], Layout),
+) -> DeriveResult<()> {
     let mut alike = String::new(alloc);
     for (i, variant) in variants.iter().enumerate() {
-        let arm = alike_of(alloc, name, variants, (i, variant))?;
+        let arm = alike_of(alloc, name, (variants, layout), (i, variant))?;
         put(&mut alike, &["\n      | ", arm.as_str()])?;
     }
     let mut words = Words::new(alloc);
@@ -600,13 +646,14 @@ fn set_cases(alloc: Global, words: &mut Words, (declaration, cases): (&Declarati
     let name = declaration.name.as_str();
     let src = declaration.src();
     let variants = cases.variants.as_slice();
+    let layout = Layout::of(declaration, variants.len());
     let size = ("size_of", "");
     let write = ("write", "W");
-    words.set("parts", parts_of(alloc, variants));
-    words.set("arms", arms_of(alloc, name, variants));
-    words.set("make", make_of(alloc, src, variants));
+    words.set("parts", layout.types(alloc, variants));
+    words.set("arms", arms_of(alloc, name, variants, layout));
+    words.set("make", layout.make(alloc, (name, src), variants));
     words.set("tag", owned(alloc, cases.tag.as_str()));
-    words.set("cases", cases_of(alloc, cases));
+    words.set("cases", cases_of(alloc, declaration, cases));
     words.set("tags", tags_of(alloc, src, variants));
     let arms = calls_of(alloc, src, variants, size, &[]);
     words.set("size_arms", arms);
@@ -623,8 +670,9 @@ fn set_enum(
     let generics = &declaration.generics;
     let me = applied(alloc, declaration.name.as_str(), generics, "")?;
     let me = me.as_str();
-    let sides = cases_of(alloc, cases)?;
-    let parts = parts_of(alloc, cases.variants.as_slice())?;
+    let sides = cases_of(alloc, declaration, cases)?;
+    let variants = cases.variants.as_slice();
+    let parts = Layout::of(declaration, variants.len()).types(alloc, variants)?;
     words.set("evidence", evidence_of(alloc, generics, sides.as_str(), 2));
     words.set("bound", bound_of(alloc, generics, parts.as_str()));
     let parameters = generics.parameters.as_slice();
@@ -722,14 +770,16 @@ pub fn put_enum(
 ) -> DeriveResult<()> {
     let generics = &declaration.generics;
     let variants = cases.variants.as_slice();
-    let sides = cases_of(alloc, cases)?;
+    let layout = Layout::of(declaration, variants.len());
+    let sides = cases_of(alloc, declaration, cases)?;
     let of = ("Cases", sides.as_str());
     let mut words = name_words(alloc, declaration, of, true)?;
     set_cases(alloc, &mut words, (declaration, cases));
     set_enum(alloc, &mut words, (all, declaration, cases))?;
+    layout.put(alloc, out, (declaration, variants))?;
     put_shape(alloc, out, &mut words, generics)?;
     if let Some(lifetime) = &generics.lifetime {
-        let parts = parts_of(alloc, variants)?;
+        let parts = layout.types(alloc, variants)?;
         let is_plain = is_plain(alloc, variants)?;
         let kind = (lifetime.as_str(), is_plain);
         return put_lent_enum(alloc, out, (declaration, parts), kind, &mut words);
@@ -740,7 +790,7 @@ pub fn put_enum(
     fill(out, READING, &mut words)?;
     fill(out, MARKERS, &mut words)?;
     if is_enum_key(declaration, cases) {
-        put_key(alloc, out, declaration.name.as_str(), variants)?;
+        put_key(alloc, out, declaration.name.as_str(), (variants, layout))?;
     }
     Ok(())
 }

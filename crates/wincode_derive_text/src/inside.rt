@@ -52,7 +52,7 @@ fn schemas_in(alloc: Global, declaration: &Declaration) -> DeriveResult<String> 
             tuple_of(alloc, schemas.as_slice())
         }
         DeclaredShape::Enum(cases) => {
-            let all = cases_of(alloc, cases)?;
+            let all = cases_of(alloc, declaration, cases)?;
             let (tag, all) = (cases.tag.as_str(), all.as_str());
             Ok(format!(in alloc; "OneOf<{tag}, {all}>")?)
         }

@@ -3,7 +3,7 @@
 //! - `tokens`, `notes`, `groups`: a source file as tokens, its comment lines and its brackets.
 //! - `parsing`, `heads`, `types`, `imports`, `needs`, `declarations`: what it declares.
 //! - `error`, `report`, `showing`: what is refused, where it stands, and how it is said.
-//! - `structs`, `enums`, `lent`: the templates.
+//! - `structs`, `enums`, `parts`, `lent`: the templates.
 //! - `names`: what the module calls the file's own names that are the same as its own.
 //! - `laws`, `inside`: the law of a generic type, put together of those of its parts.
 //! - `module`, `answers`: the whole module `schemas`, and the lines of proofs that it leaves.
@@ -27,6 +27,7 @@ mod names;
 mod needs;
 mod notes;
 mod parsing;
+mod parts;
 mod printing;
 mod report;
 mod showing;

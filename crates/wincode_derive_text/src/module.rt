@@ -175,7 +175,7 @@ fn needed_of(alloc: Global, named: &[(&str, bool)]) -> DeriveResult<Vec<String>>
 }
 
 /// Where the checker has what a type is, that stands in this module or, by its path, elsewhere.
-fn declared_at(alloc: Global, (krate, path): (&str, &str), src: &str) -> DeriveResult<String> {
+pub fn declared_at(alloc: Global, (krate, path): (&str, &str), src: &str) -> DeriveResult<String> {
     let mut out = String::from_str(alloc, "Rattle.")?;
     match src.split_once("::") {
         None => put(&mut out, &[krate, ".specs.declared.", path, src])?,
@@ -272,7 +272,7 @@ fn put_ghosts(
 /// Appends the import of what results and keys are made of.
 fn put_prelude(alloc: Global, out: &mut String, needs: Needs, body: &str) -> DeriveResult<()> {
     let named = [
-        ("◌≡◌", needs.lent),
+        ("◌≡◌", needs.lent || body.contains("LawfulCases<L> for")),
         ("Ok", needs.sides),
         ("Err", needs.sides),
         ("refl", body.contains("λ e. refl")),
@@ -413,20 +413,45 @@ fn put_derived_uses(alloc: Global, out: &mut String, needs: Needs, body: &str) -
         ("FieldsOneText", reads),
         ("FieldsReadOwned", reads),
         ("Lawful", reads),
+        ("LawfulCases", body.contains("LawfulCases<L> for")),
     ];
     let names = needed_of(alloc, &named)?;
     put_use(alloc, out, "wincode_derive_support::laws", names.as_slice())?;
     if needs.lent {
         out.push_str("use wincode_derive_support::lent::Lends;\n")?;
     }
+    put_parts_uses(alloc, out, body)?;
+    let is_split = body.contains("LawfulCases<L> for");
     let named = [
         ("Case", needs.sides),
+        ("CasesOneText", is_split),
+        ("CasesRead", is_split),
+        ("CasesReadOwned", is_split),
+        ("CasesRoundTrip", is_split),
+        ("CasesWrite", is_split),
         ("Counted", body.contains("Counted<")),
         ("Last", needs.enums),
         ("OneOf", needs.enums),
     ];
     let names = needed_of(alloc, &named)?;
     put_use(alloc, out, "wincode_derive_support::sums", names.as_slice())
+}
+
+/// Appends what the parts of enums of many cases name.
+fn put_parts_uses(alloc: Global, out: &mut String, body: &str) -> DeriveResult<()> {
+    let is_split = body.contains("LawfulCases<L> for");
+    let named = [
+        ("PartOneText", is_split),
+        ("PartReadOwned", is_split),
+        ("Split", is_split),
+    ];
+    let names = needed_of(alloc, &named)?;
+    put_use(
+        alloc,
+        out,
+        "wincode_derive_support::splits",
+        names.as_slice(),
+    )
 }
 
 /// Appends the schema of one declaration.

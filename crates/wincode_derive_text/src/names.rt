@@ -4,13 +4,19 @@ use crate::declarations::{Declaration, DeclaredShape, Fields, Variant};
 use crate::error::DeriveResult;
 use crate::groups::type_text;
 use crate::imports::{Origin, imports_of};
+use crate::parts::order_by_tags;
 use crate::printing::{owned, put, put_use};
 use crate::tokens::{Kind, Token, tokens_of};
 use std::alloc::Global;
 
 /// What the module brings in, and the parameters of its own.
-const OURS: [&str; 31] = [
+const OURS: [&str; 40] = [
     "Case",
+    "CasesOneText",
+    "CasesRead",
+    "CasesReadOwned",
+    "CasesRoundTrip",
+    "CasesWrite",
     "Counted",
     "EnumParts",
     "EnumShape",
@@ -22,12 +28,15 @@ const OURS: [&str; 31] = [
     "L",
     "Last",
     "Lawful",
+    "LawfulCases",
     "LawfulKey",
     "Lending",
     "Lends",
     "Lifetime",
     "OneOf",
     "OneText",
+    "PartOneText",
+    "PartReadOwned",
     "R",
     "ReadResult",
     "Reader",
@@ -37,6 +46,7 @@ const OURS: [&str; 31] = [
     "SchemaReadOwned",
     "SchemaWrite",
     "SeqLen",
+    "Split",
     "TypeMeta",
     "W",
     "WriteResult",
@@ -223,6 +233,8 @@ impl Names {
                 self.see_cases(alloc, &mut cases.variants, parameters)?;
                 if declaration.generics.lifetime.is_some() {
                     gather_borrowed(&mut cases.variants);
+                } else if declaration.generics.parameters.is_empty() {
+                    order_by_tags(&mut cases.variants);
                 }
             }
         }

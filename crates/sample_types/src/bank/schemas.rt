@@ -1,5 +1,5 @@
 //! Written by `wincode_derive`: the schemas of what the module above declares.
-ghost use Rattle.std.specs.Prelude.{Ok, Err};
+ghost use Rattle.std.specs.Prelude.{◌≡◌, Ok, Err};
 ghost use Rattle.wincode_base.specs.PairLaws.{write_laws_by, reads_back_by};
 ghost use Rattle.sample_types.specs.declared.bank.Request.TheVariants.{
   Status as Request-Status,
@@ -31,40 +31,142 @@ use wincode::{
     OneText, ReadResult, RoundTrip, SchemaRead, SchemaReadOwned, SchemaWrite, TypeMeta, WriteResult,
 };
 use wincode_derive_support::enums::{EnumParts, EnumShape, read_enum, size_of_enum, write_enum};
-use wincode_derive_support::laws::{FieldsOneText, FieldsReadOwned, Lawful};
-use wincode_derive_support::sums::{Case, Last, OneOf};
+use wincode_derive_support::laws::{FieldsOneText, FieldsReadOwned, Lawful, LawfulCases};
+use wincode_derive_support::splits::{PartOneText, PartReadOwned, Split};
+use wincode_derive_support::sums::{
+    Case, CasesOneText, CasesRead, CasesReadOwned, CasesRoundTrip, CasesWrite, Last, OneOf,
+};
 
-type RequestCases = OneOf<<Request as EnumShape>::Tag, <Request as EnumShape>::Cases>;
+/// The cases from the 1st on, by their tags.
+pub struct RequestFrom1;
 
-impl EnumParts for Request {
-    type Src = Request;
+type RequestFrom1Cases = Case<
+    0,
+    (),
+    Case<1, (u64, u64, [u8; 32]), Case<2, ([u8; 32], u8), Last<3, String>>>,
+>;
 
-    type Parts = Result<
-        (),
-        Result<
-            (u64, u64, [u8; 32]),
-            Result<
-                ([u8; 32], u8),
-                Result<String, Result<Option<u64>, Result<(), Result<(u64, String), ()>>>>,
-            >,
-        >,
-    >;
+impl CasesWrite for RequestFrom1 {
+    type Src = Result<(), Result<(u64, u64, [u8; 32]), Result<([u8; 32], u8), String>>>;
 
-    ghost parts = { elim [
-      | Request-Status ↦ Ok tt
-      | Request-Open a b c ↦ Err (Ok (a, b, c))
-      | Request-Sealed a b ↦ Err (Err (Ok (a, b)))
-      | Request-Named a ↦ Err (Err (Err (Ok a)))
-      | Request-Limited a ↦ Err (Err (Err (Err (Ok a))))
-      | Request-Close ↦ Err (Err (Err (Err (Err (Ok tt)))))
-      | Request-Paid a b ↦ Err (Err (Err (Err (Err (Err (Ok (
-        a,
-        b,
-      )))))))
-      | Request-Ended ↦ Err (Err (Err (Err (Err (Err (Err tt))))))
-    ] };
+    ghost Value = { ⟦<RequestFrom1Cases as CasesWrite>⟧.Value };
 
-    fn make(made_of: Self::Parts) -> Request {
+    ghost model = { ⟦<RequestFrom1Cases as CasesWrite>⟧.model };
+
+    ghost is_valid = { ⟦<RequestFrom1Cases as CasesWrite>⟧.is_valid };
+
+    ghost tag = { ⟦<RequestFrom1Cases as CasesWrite>⟧.tag };
+
+    ghost own = { ⟦<RequestFrom1Cases as CasesWrite>⟧.own };
+
+    ghost part = { ⟦<RequestFrom1Cases as CasesWrite>⟧.part };
+
+    ghost part_laws = { ⟦<RequestFrom1Cases as CasesWrite>⟧.part_laws };
+
+    ghost answer = { ⟦<RequestFrom1Cases as CasesWrite>⟧.answer };
+
+    ghost answers = { ⟦<RequestFrom1Cases as CasesWrite>⟧.answers };
+
+    fn part_meta() -> TypeMeta {
+        <RequestFrom1Cases as CasesWrite>::part_meta()
+    }
+
+    fn tag_of(src: &Self::Src) -> WriteResult<usize> {
+        <RequestFrom1Cases as CasesWrite>::tag_of(src)
+    }
+
+    fn part_size(src: &Self::Src) -> WriteResult<usize> {
+        <RequestFrom1Cases as CasesWrite>::part_size(src)
+    }
+
+    fn write_part<W: Writer>(writer: &mut W, src: &Self::Src) -> WriteResult<()> {
+        <RequestFrom1Cases as CasesWrite>::write_part::<W>(writer, src)
+    }
+}
+
+impl<L: Lending> CasesRead<L> for RequestFrom1 {
+    type Dst = Result<(), Result<(u64, u64, [u8; 32]), Result<([u8; 32], u8), String>>>;
+
+    ghost Value = { ⟦<RequestFrom1Cases as CasesRead<L>>⟧.Value };
+
+    ghost model = { ⟦<RequestFrom1Cases as CasesRead<L>>⟧.model };
+
+    ghost is_valid = { ⟦<RequestFrom1Cases as CasesRead<L>>⟧.is_valid };
+
+    ghost tag = { ⟦<RequestFrom1Cases as CasesRead<L>>⟧.tag };
+
+    ghost own = { ⟦<RequestFrom1Cases as CasesRead<L>>⟧.own };
+
+    ghost part = { ⟦<RequestFrom1Cases as CasesRead<L>>⟧.part };
+
+    ghost refused = { ⟦<RequestFrom1Cases as CasesRead<L>>⟧.refused };
+
+    fn part_meta() -> TypeMeta {
+        <RequestFrom1Cases as CasesRead<L>>::part_meta()
+    }
+
+    fn prealloc_size() -> usize {
+        <RequestFrom1Cases as CasesRead<L>>::prealloc_size()
+    }
+
+    fn get_case<R: Reader<L>>(
+        alloc: Global,
+        reader: &mut R,
+        given: usize,
+    ) -> ReadResult<Self::Dst> {
+        <RequestFrom1Cases as CasesRead<L>>::get_case::<R>(alloc, reader, given)
+    }
+
+    ghost case_laws = { ⟦<RequestFrom1Cases as LawfulCases<L>>⟧.case_laws };
+}
+
+impl<L: Lending> LawfulCases<L> for RequestFrom1 {
+    type Dst = Result<(), Result<(u64, u64, [u8; 32]), Result<([u8; 32], u8), String>>>;
+
+    ghost Value = { ⟦<RequestFrom1Cases as LawfulCases<L>>⟧.Value };
+
+    ghost model = { ⟦<RequestFrom1Cases as LawfulCases<L>>⟧.model };
+
+    ghost is_valid = { ⟦<RequestFrom1Cases as LawfulCases<L>>⟧.is_valid };
+
+    ghost tag = { ⟦<RequestFrom1Cases as LawfulCases<L>>⟧.tag };
+
+    ghost own = { ⟦<RequestFrom1Cases as LawfulCases<L>>⟧.own };
+
+    ghost part = { ⟦<RequestFrom1Cases as LawfulCases<L>>⟧.part };
+
+    ghost refused = { ⟦<RequestFrom1Cases as LawfulCases<L>>⟧.refused };
+
+    ghost case_laws = { ⟦<RequestFrom1Cases as LawfulCases<L>>⟧.case_laws };
+}
+
+impl<L: Lending> CasesRoundTrip<L> for RequestFrom1
+where
+    RequestFrom1Cases: CasesRoundTrip<L>,
+{
+    ghost back = { bound-5.back };
+}
+
+impl<L: Lending> CasesOneText<L> for RequestFrom1
+where
+    RequestFrom1Cases: PartOneText<L>,
+{
+    ghost cases_one_text = { bound-5.part_one_text };
+}
+
+impl<L: Lending> CasesReadOwned<L> for RequestFrom1
+where
+    RequestFrom1Cases: PartReadOwned<L>,
+{
+    ghost cases_owned = { bound-5.part_owned };
+}
+
+impl RequestFrom1 {
+    fn make(
+        made_of: Result<(), Result<(u64, u64, [u8; 32]), Result<([u8; 32], u8), String>>>,
+    ) -> Request
+        ensures { ⟦<Request as EnumParts>⟧.parts result ≡ Ok made_of }
+    {
         match made_of {
             Ok(()) => Request::Status,
             Err(rest) => match rest {
@@ -81,21 +183,181 @@ impl EnumParts for Request {
                         let (a, b) = parts;
                         Request::Sealed(a, b)
                     }
-                    Err(rest) => match rest {
-                        Ok(a) => Request::Named(a),
-                        Err(rest) => match rest {
-                            Ok(a) => Request::Limited(a),
-                            Err(rest) => match rest {
-                                Ok(()) => Request::Close,
-                                Err(rest) => match rest {
-                                    Ok((a, b)) => Request::Paid(a, b),
-                                    Err(()) => Request::Ended,
-                                },
-                            },
-                        },
-                    },
+                    Err(a) => Request::Named(a),
                 },
             },
+        }
+    }
+}
+
+/// The cases from the 5th on, by their tags.
+pub struct RequestFrom5;
+
+type RequestFrom5Cases = Case<4, Option<u64>, Case<5, (), Case<6, (u64, String), Last<7, ()>>>>;
+
+impl CasesWrite for RequestFrom5 {
+    type Src = Result<Option<u64>, Result<(), Result<(u64, String), ()>>>;
+
+    ghost Value = { ⟦<RequestFrom5Cases as CasesWrite>⟧.Value };
+
+    ghost model = { ⟦<RequestFrom5Cases as CasesWrite>⟧.model };
+
+    ghost is_valid = { ⟦<RequestFrom5Cases as CasesWrite>⟧.is_valid };
+
+    ghost tag = { ⟦<RequestFrom5Cases as CasesWrite>⟧.tag };
+
+    ghost own = { ⟦<RequestFrom5Cases as CasesWrite>⟧.own };
+
+    ghost part = { ⟦<RequestFrom5Cases as CasesWrite>⟧.part };
+
+    ghost part_laws = { ⟦<RequestFrom5Cases as CasesWrite>⟧.part_laws };
+
+    ghost answer = { ⟦<RequestFrom5Cases as CasesWrite>⟧.answer };
+
+    ghost answers = { ⟦<RequestFrom5Cases as CasesWrite>⟧.answers };
+
+    fn part_meta() -> TypeMeta {
+        <RequestFrom5Cases as CasesWrite>::part_meta()
+    }
+
+    fn tag_of(src: &Self::Src) -> WriteResult<usize> {
+        <RequestFrom5Cases as CasesWrite>::tag_of(src)
+    }
+
+    fn part_size(src: &Self::Src) -> WriteResult<usize> {
+        <RequestFrom5Cases as CasesWrite>::part_size(src)
+    }
+
+    fn write_part<W: Writer>(writer: &mut W, src: &Self::Src) -> WriteResult<()> {
+        <RequestFrom5Cases as CasesWrite>::write_part::<W>(writer, src)
+    }
+}
+
+impl<L: Lending> CasesRead<L> for RequestFrom5 {
+    type Dst = Result<Option<u64>, Result<(), Result<(u64, String), ()>>>;
+
+    ghost Value = { ⟦<RequestFrom5Cases as CasesRead<L>>⟧.Value };
+
+    ghost model = { ⟦<RequestFrom5Cases as CasesRead<L>>⟧.model };
+
+    ghost is_valid = { ⟦<RequestFrom5Cases as CasesRead<L>>⟧.is_valid };
+
+    ghost tag = { ⟦<RequestFrom5Cases as CasesRead<L>>⟧.tag };
+
+    ghost own = { ⟦<RequestFrom5Cases as CasesRead<L>>⟧.own };
+
+    ghost part = { ⟦<RequestFrom5Cases as CasesRead<L>>⟧.part };
+
+    ghost refused = { ⟦<RequestFrom5Cases as CasesRead<L>>⟧.refused };
+
+    fn part_meta() -> TypeMeta {
+        <RequestFrom5Cases as CasesRead<L>>::part_meta()
+    }
+
+    fn prealloc_size() -> usize {
+        <RequestFrom5Cases as CasesRead<L>>::prealloc_size()
+    }
+
+    fn get_case<R: Reader<L>>(
+        alloc: Global,
+        reader: &mut R,
+        given: usize,
+    ) -> ReadResult<Self::Dst> {
+        <RequestFrom5Cases as CasesRead<L>>::get_case::<R>(alloc, reader, given)
+    }
+
+    ghost case_laws = { ⟦<RequestFrom5Cases as LawfulCases<L>>⟧.case_laws };
+}
+
+impl<L: Lending> LawfulCases<L> for RequestFrom5 {
+    type Dst = Result<Option<u64>, Result<(), Result<(u64, String), ()>>>;
+
+    ghost Value = { ⟦<RequestFrom5Cases as LawfulCases<L>>⟧.Value };
+
+    ghost model = { ⟦<RequestFrom5Cases as LawfulCases<L>>⟧.model };
+
+    ghost is_valid = { ⟦<RequestFrom5Cases as LawfulCases<L>>⟧.is_valid };
+
+    ghost tag = { ⟦<RequestFrom5Cases as LawfulCases<L>>⟧.tag };
+
+    ghost own = { ⟦<RequestFrom5Cases as LawfulCases<L>>⟧.own };
+
+    ghost part = { ⟦<RequestFrom5Cases as LawfulCases<L>>⟧.part };
+
+    ghost refused = { ⟦<RequestFrom5Cases as LawfulCases<L>>⟧.refused };
+
+    ghost case_laws = { ⟦<RequestFrom5Cases as LawfulCases<L>>⟧.case_laws };
+}
+
+impl<L: Lending> CasesRoundTrip<L> for RequestFrom5
+where
+    RequestFrom5Cases: CasesRoundTrip<L>,
+{
+    ghost back = { bound-5.back };
+}
+
+impl<L: Lending> CasesOneText<L> for RequestFrom5
+where
+    RequestFrom5Cases: PartOneText<L>,
+{
+    ghost cases_one_text = { bound-5.part_one_text };
+}
+
+impl<L: Lending> CasesReadOwned<L> for RequestFrom5
+where
+    RequestFrom5Cases: PartReadOwned<L>,
+{
+    ghost cases_owned = { bound-5.part_owned };
+}
+
+impl RequestFrom5 {
+    fn make(made_of: Result<Option<u64>, Result<(), Result<(u64, String), ()>>>) -> Request
+        ensures { ⟦<Request as EnumParts>⟧.parts result ≡ Err made_of }
+    {
+        match made_of {
+            Ok(a) => Request::Limited(a),
+            Err(rest) => match rest {
+                Ok(()) => Request::Close,
+                Err(rest) => match rest {
+                    Ok((a, b)) => Request::Paid(a, b),
+                    Err(()) => Request::Ended,
+                },
+            },
+        }
+    }
+}
+
+type RequestCases = OneOf<<Request as EnumShape>::Tag, <Request as EnumShape>::Cases>;
+
+impl EnumParts for Request {
+    type Src = Request;
+
+    type Parts = Result<
+        Result<(), Result<(u64, u64, [u8; 32]), Result<([u8; 32], u8), String>>>,
+        Result<Option<u64>, Result<(), Result<(u64, String), ()>>>,
+    >;
+
+    ghost parts = { elim [
+      | Request-Status ↦ Ok (Ok tt)
+      | Request-Open a b c ↦ Ok (Err (Ok (a, b, c)))
+      | Request-Sealed a b ↦ Ok (Err (Err (Ok (
+        a,
+        b,
+      ))))
+      | Request-Named a ↦ Ok (Err (Err (Err a)))
+      | Request-Limited a ↦ Err (Ok a)
+      | Request-Close ↦ Err (Err (Ok tt))
+      | Request-Paid a b ↦ Err (Err (Err (Ok (
+        a,
+        b,
+      ))))
+      | Request-Ended ↦ Err (Err (Err (Err tt)))
+    ] };
+
+    fn make(made_of: Self::Parts) -> Request {
+        match made_of {
+            Ok(parts) => RequestFrom1::make(parts),
+            Err(parts) => RequestFrom5::make(parts),
         }
     }
 }
@@ -103,23 +365,7 @@ impl EnumParts for Request {
 impl EnumShape for Request {
     type Tag = u32;
 
-    type Cases = Case<
-        0,
-        (),
-        Case<
-            1,
-            (u64, u64, [u8; 32]),
-            Case<
-                2,
-                ([u8; 32], u8),
-                Case<
-                    3,
-                    String,
-                    Case<4, Option<u64>, Case<5, (), Case<6, (u64, String), Last<7, ()>>>>,
-                >,
-            >,
-        >,
-    >;
+    type Cases = Split<4, RequestFrom1, RequestFrom5>;
 
     fn tag(src: &Request) -> usize {
         match src {
@@ -260,42 +506,298 @@ where
     ghost owned = { bound-5.fields_owned };
 }
 
-type RefusalCases = OneOf<<Refusal as EnumShape>::Tag, <Refusal as EnumShape>::Cases>;
+/// The cases from the 1st on, by their tags.
+pub struct RefusalFrom1;
 
-impl EnumParts for Refusal {
-    type Src = Refusal;
+type RefusalFrom1Cases = Case<0, (), Case<1, (), Case<2, (), Last<3, ()>>>>;
 
-    type Parts = Result<(), Result<(), Result<(), Result<(), Result<(), Result<u32, String>>>>>>;
+impl CasesWrite for RefusalFrom1 {
+    type Src = Result<(), Result<(), Result<(), ()>>>;
 
-    ghost parts = { elim [
-      | Refusal-NotFound ↦ Ok tt
-      | Refusal-Denied ↦ Err (Ok tt)
-      | Refusal-Busy ↦ Err (Err (Ok tt))
-      | Refusal-Timeout ↦ Err (Err (Err (Ok tt)))
-      | Refusal-Closed ↦ Err (Err (Err (Err (Ok tt))))
-      | Refusal-Invalid a ↦ Err (Err (Err (Err (Err (Ok a)))))
-      | Refusal-Other a ↦ Err (Err (Err (Err (Err (Err a)))))
-    ] };
+    ghost Value = { ⟦<RefusalFrom1Cases as CasesWrite>⟧.Value };
 
-    fn make(made_of: Self::Parts) -> Refusal {
+    ghost model = { ⟦<RefusalFrom1Cases as CasesWrite>⟧.model };
+
+    ghost is_valid = { ⟦<RefusalFrom1Cases as CasesWrite>⟧.is_valid };
+
+    ghost tag = { ⟦<RefusalFrom1Cases as CasesWrite>⟧.tag };
+
+    ghost own = { ⟦<RefusalFrom1Cases as CasesWrite>⟧.own };
+
+    ghost part = { ⟦<RefusalFrom1Cases as CasesWrite>⟧.part };
+
+    ghost part_laws = { ⟦<RefusalFrom1Cases as CasesWrite>⟧.part_laws };
+
+    ghost answer = { ⟦<RefusalFrom1Cases as CasesWrite>⟧.answer };
+
+    ghost answers = { ⟦<RefusalFrom1Cases as CasesWrite>⟧.answers };
+
+    fn part_meta() -> TypeMeta {
+        <RefusalFrom1Cases as CasesWrite>::part_meta()
+    }
+
+    fn tag_of(src: &Self::Src) -> WriteResult<usize> {
+        <RefusalFrom1Cases as CasesWrite>::tag_of(src)
+    }
+
+    fn part_size(src: &Self::Src) -> WriteResult<usize> {
+        <RefusalFrom1Cases as CasesWrite>::part_size(src)
+    }
+
+    fn write_part<W: Writer>(writer: &mut W, src: &Self::Src) -> WriteResult<()> {
+        <RefusalFrom1Cases as CasesWrite>::write_part::<W>(writer, src)
+    }
+}
+
+impl<L: Lending> CasesRead<L> for RefusalFrom1 {
+    type Dst = Result<(), Result<(), Result<(), ()>>>;
+
+    ghost Value = { ⟦<RefusalFrom1Cases as CasesRead<L>>⟧.Value };
+
+    ghost model = { ⟦<RefusalFrom1Cases as CasesRead<L>>⟧.model };
+
+    ghost is_valid = { ⟦<RefusalFrom1Cases as CasesRead<L>>⟧.is_valid };
+
+    ghost tag = { ⟦<RefusalFrom1Cases as CasesRead<L>>⟧.tag };
+
+    ghost own = { ⟦<RefusalFrom1Cases as CasesRead<L>>⟧.own };
+
+    ghost part = { ⟦<RefusalFrom1Cases as CasesRead<L>>⟧.part };
+
+    ghost refused = { ⟦<RefusalFrom1Cases as CasesRead<L>>⟧.refused };
+
+    fn part_meta() -> TypeMeta {
+        <RefusalFrom1Cases as CasesRead<L>>::part_meta()
+    }
+
+    fn prealloc_size() -> usize {
+        <RefusalFrom1Cases as CasesRead<L>>::prealloc_size()
+    }
+
+    fn get_case<R: Reader<L>>(
+        alloc: Global,
+        reader: &mut R,
+        given: usize,
+    ) -> ReadResult<Self::Dst> {
+        <RefusalFrom1Cases as CasesRead<L>>::get_case::<R>(alloc, reader, given)
+    }
+
+    ghost case_laws = { ⟦<RefusalFrom1Cases as LawfulCases<L>>⟧.case_laws };
+}
+
+impl<L: Lending> LawfulCases<L> for RefusalFrom1 {
+    type Dst = Result<(), Result<(), Result<(), ()>>>;
+
+    ghost Value = { ⟦<RefusalFrom1Cases as LawfulCases<L>>⟧.Value };
+
+    ghost model = { ⟦<RefusalFrom1Cases as LawfulCases<L>>⟧.model };
+
+    ghost is_valid = { ⟦<RefusalFrom1Cases as LawfulCases<L>>⟧.is_valid };
+
+    ghost tag = { ⟦<RefusalFrom1Cases as LawfulCases<L>>⟧.tag };
+
+    ghost own = { ⟦<RefusalFrom1Cases as LawfulCases<L>>⟧.own };
+
+    ghost part = { ⟦<RefusalFrom1Cases as LawfulCases<L>>⟧.part };
+
+    ghost refused = { ⟦<RefusalFrom1Cases as LawfulCases<L>>⟧.refused };
+
+    ghost case_laws = { ⟦<RefusalFrom1Cases as LawfulCases<L>>⟧.case_laws };
+}
+
+impl<L: Lending> CasesRoundTrip<L> for RefusalFrom1
+where
+    RefusalFrom1Cases: CasesRoundTrip<L>,
+{
+    ghost back = { bound-5.back };
+}
+
+impl<L: Lending> CasesOneText<L> for RefusalFrom1
+where
+    RefusalFrom1Cases: PartOneText<L>,
+{
+    ghost cases_one_text = { bound-5.part_one_text };
+}
+
+impl<L: Lending> CasesReadOwned<L> for RefusalFrom1
+where
+    RefusalFrom1Cases: PartReadOwned<L>,
+{
+    ghost cases_owned = { bound-5.part_owned };
+}
+
+impl RefusalFrom1 {
+    fn make(made_of: Result<(), Result<(), Result<(), ()>>>) -> Refusal
+        ensures { ⟦<Refusal as EnumParts>⟧.parts result ≡ Ok made_of }
+    {
         match made_of {
             Ok(()) => Refusal::NotFound,
             Err(rest) => match rest {
                 Ok(()) => Refusal::Denied,
                 Err(rest) => match rest {
                     Ok(()) => Refusal::Busy,
-                    Err(rest) => match rest {
-                        Ok(()) => Refusal::Timeout,
-                        Err(rest) => match rest {
-                            Ok(()) => Refusal::Closed,
-                            Err(rest) => match rest {
-                                Ok(a) => Refusal::Invalid(a),
-                                Err(a) => Refusal::Other(a),
-                            },
-                        },
-                    },
+                    Err(()) => Refusal::Timeout,
                 },
             },
+        }
+    }
+}
+
+/// The cases from the 5th on, by their tags.
+pub struct RefusalFrom5;
+
+type RefusalFrom5Cases = Case<4, (), Case<5, u32, Last<6, String>>>;
+
+impl CasesWrite for RefusalFrom5 {
+    type Src = Result<(), Result<u32, String>>;
+
+    ghost Value = { ⟦<RefusalFrom5Cases as CasesWrite>⟧.Value };
+
+    ghost model = { ⟦<RefusalFrom5Cases as CasesWrite>⟧.model };
+
+    ghost is_valid = { ⟦<RefusalFrom5Cases as CasesWrite>⟧.is_valid };
+
+    ghost tag = { ⟦<RefusalFrom5Cases as CasesWrite>⟧.tag };
+
+    ghost own = { ⟦<RefusalFrom5Cases as CasesWrite>⟧.own };
+
+    ghost part = { ⟦<RefusalFrom5Cases as CasesWrite>⟧.part };
+
+    ghost part_laws = { ⟦<RefusalFrom5Cases as CasesWrite>⟧.part_laws };
+
+    ghost answer = { ⟦<RefusalFrom5Cases as CasesWrite>⟧.answer };
+
+    ghost answers = { ⟦<RefusalFrom5Cases as CasesWrite>⟧.answers };
+
+    fn part_meta() -> TypeMeta {
+        <RefusalFrom5Cases as CasesWrite>::part_meta()
+    }
+
+    fn tag_of(src: &Self::Src) -> WriteResult<usize> {
+        <RefusalFrom5Cases as CasesWrite>::tag_of(src)
+    }
+
+    fn part_size(src: &Self::Src) -> WriteResult<usize> {
+        <RefusalFrom5Cases as CasesWrite>::part_size(src)
+    }
+
+    fn write_part<W: Writer>(writer: &mut W, src: &Self::Src) -> WriteResult<()> {
+        <RefusalFrom5Cases as CasesWrite>::write_part::<W>(writer, src)
+    }
+}
+
+impl<L: Lending> CasesRead<L> for RefusalFrom5 {
+    type Dst = Result<(), Result<u32, String>>;
+
+    ghost Value = { ⟦<RefusalFrom5Cases as CasesRead<L>>⟧.Value };
+
+    ghost model = { ⟦<RefusalFrom5Cases as CasesRead<L>>⟧.model };
+
+    ghost is_valid = { ⟦<RefusalFrom5Cases as CasesRead<L>>⟧.is_valid };
+
+    ghost tag = { ⟦<RefusalFrom5Cases as CasesRead<L>>⟧.tag };
+
+    ghost own = { ⟦<RefusalFrom5Cases as CasesRead<L>>⟧.own };
+
+    ghost part = { ⟦<RefusalFrom5Cases as CasesRead<L>>⟧.part };
+
+    ghost refused = { ⟦<RefusalFrom5Cases as CasesRead<L>>⟧.refused };
+
+    fn part_meta() -> TypeMeta {
+        <RefusalFrom5Cases as CasesRead<L>>::part_meta()
+    }
+
+    fn prealloc_size() -> usize {
+        <RefusalFrom5Cases as CasesRead<L>>::prealloc_size()
+    }
+
+    fn get_case<R: Reader<L>>(
+        alloc: Global,
+        reader: &mut R,
+        given: usize,
+    ) -> ReadResult<Self::Dst> {
+        <RefusalFrom5Cases as CasesRead<L>>::get_case::<R>(alloc, reader, given)
+    }
+
+    ghost case_laws = { ⟦<RefusalFrom5Cases as LawfulCases<L>>⟧.case_laws };
+}
+
+impl<L: Lending> LawfulCases<L> for RefusalFrom5 {
+    type Dst = Result<(), Result<u32, String>>;
+
+    ghost Value = { ⟦<RefusalFrom5Cases as LawfulCases<L>>⟧.Value };
+
+    ghost model = { ⟦<RefusalFrom5Cases as LawfulCases<L>>⟧.model };
+
+    ghost is_valid = { ⟦<RefusalFrom5Cases as LawfulCases<L>>⟧.is_valid };
+
+    ghost tag = { ⟦<RefusalFrom5Cases as LawfulCases<L>>⟧.tag };
+
+    ghost own = { ⟦<RefusalFrom5Cases as LawfulCases<L>>⟧.own };
+
+    ghost part = { ⟦<RefusalFrom5Cases as LawfulCases<L>>⟧.part };
+
+    ghost refused = { ⟦<RefusalFrom5Cases as LawfulCases<L>>⟧.refused };
+
+    ghost case_laws = { ⟦<RefusalFrom5Cases as LawfulCases<L>>⟧.case_laws };
+}
+
+impl<L: Lending> CasesRoundTrip<L> for RefusalFrom5
+where
+    RefusalFrom5Cases: CasesRoundTrip<L>,
+{
+    ghost back = { bound-5.back };
+}
+
+impl<L: Lending> CasesOneText<L> for RefusalFrom5
+where
+    RefusalFrom5Cases: PartOneText<L>,
+{
+    ghost cases_one_text = { bound-5.part_one_text };
+}
+
+impl<L: Lending> CasesReadOwned<L> for RefusalFrom5
+where
+    RefusalFrom5Cases: PartReadOwned<L>,
+{
+    ghost cases_owned = { bound-5.part_owned };
+}
+
+impl RefusalFrom5 {
+    fn make(made_of: Result<(), Result<u32, String>>) -> Refusal
+        ensures { ⟦<Refusal as EnumParts>⟧.parts result ≡ Err made_of }
+    {
+        match made_of {
+            Ok(()) => Refusal::Closed,
+            Err(rest) => match rest {
+                Ok(a) => Refusal::Invalid(a),
+                Err(a) => Refusal::Other(a),
+            },
+        }
+    }
+}
+
+type RefusalCases = OneOf<<Refusal as EnumShape>::Tag, <Refusal as EnumShape>::Cases>;
+
+impl EnumParts for Refusal {
+    type Src = Refusal;
+
+    type Parts = Result<Result<(), Result<(), Result<(), ()>>>, Result<(), Result<u32, String>>>;
+
+    ghost parts = { elim [
+      | Refusal-NotFound ↦ Ok (Ok tt)
+      | Refusal-Denied ↦ Ok (Err (Ok tt))
+      | Refusal-Busy ↦ Ok (Err (Err (Ok tt)))
+      | Refusal-Timeout ↦ Ok (Err (Err (Err tt)))
+      | Refusal-Closed ↦ Err (Ok tt)
+      | Refusal-Invalid a ↦ Err (Err (Ok a))
+      | Refusal-Other a ↦ Err (Err (Err a))
+    ] };
+
+    fn make(made_of: Self::Parts) -> Refusal {
+        match made_of {
+            Ok(parts) => RefusalFrom1::make(parts),
+            Err(parts) => RefusalFrom5::make(parts),
         }
     }
 }
@@ -303,11 +805,7 @@ impl EnumParts for Refusal {
 impl EnumShape for Refusal {
     type Tag = u32;
 
-    type Cases = Case<
-        0,
-        (),
-        Case<1, (), Case<2, (), Case<3, (), Case<4, (), Case<5, u32, Last<6, String>>>>>>,
-    >;
+    type Cases = Split<4, RefusalFrom1, RefusalFrom5>;
 
     fn tag(src: &Refusal) -> usize {
         match src {
