@@ -1,19 +1,22 @@
 -- What is known of two types, made of what is known of their parts.
-use Rattle.std.proofs.Common.{◌≡◌, subst, ℕ, ◌≤◌, Bool, true, false, List, [], ◌∷◌, length, refl, arith, nat_eq, Ok, Err, Some, None}
+use Rattle.std.proofs.Common.{◌≡◌, ◌∙◌, ap, subst, ℕ, zero, suc, ◌≤◌, Bool, true, false, List, [], ◌∷◌, ◌++◌, length, refl, arith, nat_eq, Ok, Err, Some, None}
 use Rattle.std.proofs.Math.Nat.{mul-le-mul_left}
 use Rattle.std.proofs.lemmas.Bool.{eqb-true}
 use Rattle.std.specs.Prelude.{Result, Option, ◌||◌}
 use Rattle.wincode_io.specs.Joins.{Joined}
+use Rattle.wincode_io.specs.Numbers.{le}
 use Rattle.wincode_base.specs.Arrays.{array_read}
 use Rattle.wincode_base.specs.Grammar.{ReadGrammar}
 use Rattle.wincode_base.specs.InWindow.{windowed_read}
 use Rattle.wincode_base.specs.Pairs.{pair_read}
+use Rattle.wincode_base.specs.Leaves.{number_read}
+use Rattle.wincode_base.specs.TagLaws.{small_tag}
 use Rattle.wincode_base.specs.Tags.{option_read, result_read}
-use Rattle.wincode_describe.specs.Compared.{Within, IsLike, IsWider, AreLike, AreNamed, both}
+use Rattle.wincode_describe.specs.Compared.{Within, IsLike, IsWider, AreLike, AreNamed, AreSides, both, side_at}
 use Rattle.wincode_describe.specs.Forms.{seen_cases}
 use Rattle.wincode_describe.specs.Parts.{Part}
 use Rattle.wincode_describe.specs.Readers.{has_tag}
-use Rattle.wincode_describe.specs.ShownGrammars.{shown_read, joined, chosen_read, CaseGrammars, nameless_read, read_if}
+use Rattle.wincode_describe.specs.ShownGrammars.{shown_read, joined, chosen_read, CaseGrammars, IsChosen, nameless_read, read_if}
 use Rattle.wincode_describe.specs.Types.{described_read, cases_read, list_of, scheme_of, option_shown, result_shown, both_shown}
 use Rattle.wincode_describe.specs.declared.described.Described.{Described}
 use Rattle.wincode_describe.specs.declared.described.Cases.{Cases}
@@ -133,7 +136,7 @@ chosen_within k cs ds m b w r = record {
   joins = r.joins;
 }
 
-by_test : {A : Type 0} (b : Bool) → (b ≡ true → A) → (b ≡ false → A) → A
+pub by_test : {A : Type 0} (b : Bool) → (b ≡ true → A) → (b ≡ false → A) → A
 by_test true f g = f refl
 by_test false f g = g refl
 
@@ -187,23 +190,22 @@ pub other_case : (b : Bool) (g h k : Grammar) → b ≡ false → IsLike Same k 
 other_case b g h k e r = like_to Same k h (read_if b g h) r (turned (read_if b g h) h (if_not b g h e))
 
 -- behind a tag that both have
-tag_likes : (n t : ℕ) (d g : Grammar) (ds : Cases) (a : Likeness) (k : Grammar) → nat_eq n t ≡ true → IsLike Same k ((cases_read ds).case n) → IsLike a d k
-    → IsLike a (read_if (nat_eq n t) d g) ((cases_read ds).case t)
-tag_likes n t d g ds a k e s r =
-    let P : ℕ → Type 0 = λ u. IsLike Same k ((cases_read ds).case u) in
-    like_from a (read_if (nat_eq n t) d g) d ((cases_read ds).case t) (if_is (nat_eq n t) d g e) (like_to a d k ((cases_read ds).case t) r
-    (subst P (eqb-true n t e) s))
+tag_likes : (n t : ℕ) (d g : Grammar) (f : ℕ → Grammar) (a : Likeness) (k : Grammar) → nat_eq n t ≡ true → IsLike Same k (f n) → IsLike a d k
+    → IsLike a (read_if (nat_eq n t) d g) (f t)
+tag_likes n t d g f a k e s r =
+    let P : ℕ → Type 0 = λ u. IsLike Same k (f u) in
+    like_from a (read_if (nat_eq n t) d g) d (f t) (if_is (nat_eq n t) d g e) (like_to a d k (f t) r (subst P (eqb-true n t e) s))
 
-pub last_likes : (n : ℕ) (p : _) (d : Described) (ds : Cases) (a : Likeness) (k : Grammar) → IsLike Same k ((cases_read ds).case n)
-    → IsLike a (described_read d) k → AreLike a (Last' n p d) ds
-last_likes n p d ds a k s r = λ t e. tag_likes n t (described_read d) (nameless_read t) ds a k e s r
+pub last_likes : (n : ℕ) (p : _) (d : Described) (f : ℕ → Grammar) (a : Likeness) (k : Grammar) → IsLike Same k (f n) → IsLike a (described_read d) k
+    → AreLike a (Last' n p d) f
+last_likes n p d f a k s r = λ t e. tag_likes n t (described_read d) (nameless_read t) f a k e s r
 
-pub case_likes : (n : ℕ) (p : _) (d : Described) (q : _) (cs ds : Cases) (a b : Likeness) (k : Grammar) → IsLike Same k ((cases_read ds).case n)
-    → IsLike a (described_read d) k → AreLike b cs ds → AreLike (both a b) (Case' n p d q cs) ds
-case_likes n p d q cs ds a b k s r m = λ t e. by_test (nat_eq n t)
-    (λ f. first_of a b (read_if (nat_eq n t) (described_read d) ((cases_read cs).case t)) ((cases_read ds).case t) (tag_likes n t (described_read d) ((cases_read cs).case t) ds a k f s r))
-    (λ f. second_of a b (read_if (nat_eq n t) (described_read d) ((cases_read cs).case t)) ((cases_read ds).case t) (like_from b (read_if (nat_eq n t) (described_read d) ((cases_read cs).case t)) ((cases_read cs).case t) ((cases_read ds).case t)
-    (if_not (nat_eq n t) (described_read d) ((cases_read cs).case t) f) (m t (second_true (nat_eq n t) (has_tag (seen_cases cs) t) e f))))
+pub case_likes : (n : ℕ) (p : _) (d : Described) (q : _) (cs : Cases) (f : ℕ → Grammar) (a b : Likeness) (k : Grammar) → IsLike Same k (f n)
+    → IsLike a (described_read d) k → AreLike b cs f → AreLike (both a b) (Case' n p d q cs) f
+case_likes n p d q cs f a b k s r m = λ t e. by_test (nat_eq n t)
+    (λ z. first_of a b (read_if (nat_eq n t) (described_read d) ((cases_read cs).case t)) (f t) (tag_likes n t (described_read d) ((cases_read cs).case t) f a k z s r))
+    (λ z. second_of a b (read_if (nat_eq n t) (described_read d) ((cases_read cs).case t)) (f t) (like_from b (read_if (nat_eq n t) (described_read d) ((cases_read cs).case t)) ((cases_read cs).case t) (f t)
+    (if_not (nat_eq n t) (described_read d) ((cases_read cs).case t) z) (m t (second_true (nat_eq n t) (has_tag (seen_cases cs) t) e z))))
 
 -- a tag without a case reads nothing
 unnamed : (cs : Cases) (t : ℕ) → has_tag (seen_cases cs) t ≡ false → (b : List ℕ) (w : List Part) → ((cases_read cs).case t).reads b w → ⊥
@@ -212,21 +214,116 @@ unnamed (Case' n p d q cs) t e b w r =
     let f = first_false (nat_eq n t) (has_tag (seen_cases cs) t) e in
     unnamed cs t (second_false (nat_eq n t) (has_tag (seen_cases cs) t) e) b w ((if_not (nat_eq n t) (described_read d) ((cases_read cs).case t) f).0 b w r)
 
-all_within : (cs ds : Cases) → AreLike Reads cs ds → (t : ℕ) → Within ((cases_read cs).case t) ((cases_read ds).case t)
-all_within cs ds m t = by_test (has_tag (seen_cases cs) t) (λ e. m t e) (λ e b w r. absurd (unnamed cs t e b w r))
+all_within : (cs : Cases) (f : ℕ → Grammar) → AreLike Reads cs f → (t : ℕ) → Within ((cases_read cs).case t) (f t)
+all_within cs f m t = by_test (has_tag (seen_cases cs) t) (λ e. m t e) (λ e b w r. absurd (unnamed cs t e b w r))
 
-back_within : (cs ds : Cases) → AreLike Same cs ds → AreNamed ds cs → (t : ℕ) → Within ((cases_read ds).case t) ((cases_read cs).case t)
+back_within : (cs ds : Cases) → AreLike Same cs (cases_read ds).case → AreNamed ds cs → (t : ℕ) → Within ((cases_read ds).case t) ((cases_read cs).case t)
 back_within cs ds m n t = by_test (has_tag (seen_cases ds) t) (λ e. (m t (n t e)).1) (λ e b w r. absurd (unnamed ds t e b w r))
 
 -- an enum of cases of which all is known, also of those of the other
-pub choice_like : (k : ℕ) (a : Likeness) (cs ds : Cases) → AreLike a cs ds → AreNamed ds cs
+pub choice_like : (k : ℕ) (a : Likeness) (cs ds : Cases) → AreLike a cs (cases_read ds).case → AreNamed ds cs
     → IsLike a (chosen_read k (cases_read cs)) (chosen_read k (cases_read ds))
-choice_like k Same cs ds m n = (chosen_within k (cases_read cs) (cases_read ds) (all_within cs ds (λ t e. (m t e).0)), chosen_within k (cases_read ds) (cases_read cs) (back_within cs ds m n))
-choice_like k Reads cs ds m n = chosen_within k (cases_read cs) (cases_read ds) (all_within cs ds m)
+choice_like k Same cs ds m n = (
+  chosen_within k (cases_read cs) (cases_read ds) (all_within cs (cases_read ds).case (λ t e. (m t e).0)),
+  chosen_within k (cases_read ds) (cases_read cs) (back_within cs ds m n),
+)
+choice_like k Reads cs ds m n = chosen_within k (cases_read cs) (cases_read ds) (all_within cs (cases_read ds).case m)
 choice_like k Unlike cs ds m n = tt
 
 -- an enum of which another has more cases
-pub choice_more : (k : ℕ) (a : Likeness) (cs ds : Cases) → AreLike a cs ds → IsLike (both a Reads) (chosen_read k (cases_read cs)) (chosen_read k (cases_read ds))
-choice_more k Same cs ds m = chosen_within k (cases_read cs) (cases_read ds) (all_within cs ds (λ t e. (m t e).0))
-choice_more k Reads cs ds m = chosen_within k (cases_read cs) (cases_read ds) (all_within cs ds m)
+pub choice_more : (k : ℕ) (a : Likeness) (cs ds : Cases) → AreLike a cs (cases_read ds).case
+    → IsLike (both a Reads) (chosen_read k (cases_read cs)) (chosen_read k (cases_read ds))
+choice_more k Same cs ds m = chosen_within k (cases_read cs) (cases_read ds) (all_within cs (cases_read ds).case (λ t e. (m t e).0))
+choice_more k Reads cs ds m = chosen_within k (cases_read cs) (cases_read ds) (all_within cs (cases_read ds).case m)
 choice_more k Unlike cs ds m = tt
+
+-- ---- results and enums
+
+abbrev pub Sides : Grammar → Grammar → Grammar
+Sides g h = shown_read result_shown (result_read 4 g h)
+
+-- nothing stands behind any tag but 0 and 1
+abbrev OnlySides : CaseGrammars → Type 0
+OnlySides cs = (t : ℕ) → 2 ≤ t → (b : List ℕ) (w : List Part) → (cs.case t).reads b w → ⊥
+
+side_chosen : (g h : Grammar) (cs : CaseGrammars) → Within g (cs.case 0) → Within h (cs.case 1) → (o : Result (List Part) (List Part)) (b : List ℕ) (w : List Part)
+    → (result_read 4 g h).reads b o → w ≡ result_shown o → (chosen_read 4 cs).reads b w
+side_chosen g h cs m n (Ok v) b w r e = record {
+  before = 0;
+  x = le 4 0;
+  y = r.0;
+  one = (small_tag 4 (omega arith) 0 (omega arith), refl);
+  two = (v, m r.0 v r.1, e);
+  joins = r.2;
+}
+side_chosen g h cs m n (Err v) b w r e = record {
+  before = 1;
+  x = le 4 1;
+  y = r.0;
+  one = (small_tag 4 (omega arith) 1 (omega arith), refl);
+  two = (v, n r.0 v r.1, e);
+  joins = r.2;
+}
+
+-- what each side reads its case reads
+sides_chosen : (g h : Grammar) (cs : CaseGrammars) → Within g (cs.case 0) → Within h (cs.case 1) → Within (Sides g h) (chosen_read 4 cs)
+sides_chosen g h cs m n b w r = side_chosen g h cs m n r.0 b w r.1 r.2
+
+chosen_side : (cs : CaseGrammars) (g h : Grammar) → ((t : ℕ) → Within (cs.case t) (side_at g h t)) → (t : ℕ) (b x y : List ℕ) (w : List Part) → x ≡ le 4 t
+    → IsChosen 4 cs.case t y w → b ≡ x ++ y → (Sides g h).reads b w
+chosen_side cs g h m zero b x y w e c j = (Ok c.0, (y, m 0 y c.0 c.1, j ∙ ap (λ z. z ++ y) e), c.2)
+chosen_side cs g h m (suc zero) b x y w e c j = (Err c.0, (y, m 1 y c.0 c.1, j ∙ ap (λ z. z ++ y) e), c.2)
+chosen_side cs g h m (suc (suc t)) b x y w e c j = absurd (m (suc (suc t)) y c.0 c.1)
+
+-- what each case reads the side with its tag reads
+chosen_sides : (cs : CaseGrammars) (g h : Grammar) → ((t : ℕ) → Within (cs.case t) (side_at g h t)) → Within (chosen_read 4 cs) (Sides g h)
+chosen_sides cs g h m b w r = chosen_side cs g h m r.before b r.x r.y w r.one.1 r.two r.joins
+
+only_sides : (cs : Cases) → AreSides cs → OnlySides (cases_read cs)
+only_sides cs m t l = by_test (has_tag (seen_cases cs) t) (λ e b w r. let h = m t e in omega (arith, h, l)) (λ e. unnamed cs t e)
+
+own_sides : (cs : CaseGrammars) → OnlySides cs → (t : ℕ) → Within (cs.case t) (side_at (cs.case 0) (cs.case 1) t)
+own_sides cs n zero b w r = r
+own_sides cs n (suc zero) b w r = r
+own_sides cs n (suc (suc t)) b w r = absurd (n (suc (suc t)) (omega arith) b w r)
+
+like_more : (a : Likeness) (g h k : Grammar) → IsLike a g h → Within h k → IsLike (both a Reads) g k
+like_more Same g h k r m = λ b w x. m b w (r.0 b w x)
+like_more Reads g h k r m = λ b w x. m b w (r b w x)
+like_more Unlike g h k r m = tt
+
+-- a result beside an enum of its two cases
+pub result_choice : (a b : Likeness) (g h : Grammar) (cs : Cases) → AreSides cs → IsLike a g ((cases_read cs).case 0) → IsLike b h ((cases_read cs).case 1)
+    → IsLike (both a b) (Sides g h) (chosen_read 4 (cases_read cs))
+result_choice a b g h cs m r s =
+    let c = (cases_read cs).case 0 in
+    let d = (cases_read cs).case 1 in
+    like_to (both a b) (Sides g h) (Sides c d) (chosen_read 4 (cases_read cs)) (result_like a b g c h d r s) (
+      sides_chosen c d (cases_read cs) (λ x w y. y) (λ x w y. y),
+      chosen_sides (cases_read cs) c d (own_sides (cases_read cs) (only_sides cs m)),
+    )
+
+-- beside one of more cases
+pub result_more : (a b : Likeness) (g h : Grammar) (cs : Cases) → IsLike a g ((cases_read cs).case 0) → IsLike b h ((cases_read cs).case 1)
+    → IsLike (both (both a b) Reads) (Sides g h) (chosen_read 4 (cases_read cs))
+result_more a b g h cs r s =
+    let c = (cases_read cs).case 0 in
+    let d = (cases_read cs).case 1 in
+    like_more (both a b) (Sides g h) (Sides c d) (chosen_read 4 (cases_read cs)) (result_like a b g c h d r s)
+    (sides_chosen c d (cases_read cs) (λ x w y. y) (λ x w y. y))
+
+-- an enum beside a result of which it has both sides
+pub choice_sides : (a : Likeness) (cs : Cases) (g h : Grammar) → AreLike a cs (side_at g h) → has_tag (seen_cases cs) 0 ≡ true → has_tag (seen_cases cs) 1 ≡ true
+    → IsLike a (chosen_read 4 (cases_read cs)) (Sides g h)
+choice_sides Same cs g h m p q = (
+  chosen_sides (cases_read cs) g h (all_within cs (side_at g h) (λ t e. (m t e).0)),
+  sides_chosen g h (cases_read cs) (m 0 p).1 (m 1 q).1,
+)
+choice_sides Reads cs g h m p q = chosen_sides (cases_read cs) g h (all_within cs (side_at g h) m)
+choice_sides Unlike cs g h m p q = tt
+
+-- beside one that has a side more
+pub choice_fewer : (a : Likeness) (cs : Cases) (g h : Grammar) → AreLike a cs (side_at g h) → IsLike (both a Reads) (chosen_read 4 (cases_read cs)) (Sides g h)
+choice_fewer Same cs g h m = chosen_sides (cases_read cs) g h (all_within cs (side_at g h) (λ t e. (m t e).0))
+choice_fewer Reads cs g h m = chosen_sides (cases_read cs) g h (all_within cs (side_at g h) m)
+choice_fewer Unlike cs g h m = tt

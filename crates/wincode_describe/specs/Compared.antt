@@ -1,5 +1,5 @@
 -- What the encodings of two types are to each other.
-use Rattle.std.specs.Prelude.{◌≡◌, ℕ, List, [], ◌∷◌, ◌++◌, length, drop, true}
+use Rattle.std.specs.Prelude.{◌≡◌, ◌<◌, ℕ, zero, suc, Bool, true, false, ◌&&◌, nat_lt, List, [], ◌∷◌, ◌++◌, length, drop}
 use Rattle.wincode_base.specs.Grammar.{ReadGrammar}
 use Rattle.wincode_base.specs.Leaves.{unit_read}
 use Rattle.wincode_base.specs.Lengths.{Scheme}
@@ -11,7 +11,7 @@ use Rattle.wincode_io.specs.declared.error.ReadError.TheVariants as reader
 use Rattle.wincode_describe.specs.Forms.{seen_cases}
 use Rattle.wincode_describe.specs.Parts.{Part}
 use Rattle.wincode_describe.specs.Readers.{has_tag}
-use Rattle.wincode_describe.specs.ShownGrammars.{shown_read}
+use Rattle.wincode_describe.specs.ShownGrammars.{shown_read, nameless_read}
 use Rattle.wincode_describe.specs.Types.{described_read, cases_read, both_shown}
 use Rattle.wincode_describe.specs.declared.comparing.Answer.{Answer}
 use Rattle.wincode_describe.specs.declared.comparing.Answer.TheVariants as answer
@@ -70,13 +70,37 @@ both Reads Reads = Reads
 both Reads Unlike = Unlike
 both Unlike b = Unlike
 
--- So, of what stands behind each tag of the first cases.
-abbrev pub AreLike : Likeness → Cases → Cases → Type 0
-AreLike a cs ds = (t : ℕ) → has_tag (seen_cases cs) t ≡ true → IsLike a ((cases_read cs).case t) ((cases_read ds).case t)
+-- So, of what stands behind each tag of the cases, and what stands there behind the same tag.
+abbrev pub AreLike : Likeness → Cases → (ℕ → ReadGrammar (List Part)) → Type 0
+AreLike a cs case = (t : ℕ) → has_tag (seen_cases cs) t ≡ true → IsLike a ((cases_read cs).case t) (case t)
+
+-- the side of a result that a tag names
+abbrev pub side_at : ReadGrammar (List Part) → ReadGrammar (List Part) → ℕ → ReadGrammar (List Part)
+side_at g h zero = g
+side_at g h (suc zero) = h
+side_at g h (suc (suc t)) = nameless_read (suc (suc t))
 
 -- each tag of the first cases is one of the others
 abbrev pub AreNamed : Cases → Cases → Type 0
 AreNamed cs ds = (t : ℕ) → has_tag (seen_cases cs) t ≡ true → has_tag (seen_cases ds) t ≡ true
+
+-- each tag is one of the two sides of a result
+abbrev pub AreSides : Cases → Type 0
+AreSides cs = (t : ℕ) → has_tag (seen_cases cs) t ≡ true → t < 2
+
+-- a list so many times, one after another
+abbrev pub repeated : {A : Type 0} → ℕ → List A → List A
+repeated zero xs = []
+repeated (suc n) xs = xs ++ repeated n xs
+
+-- an array of at most 64 items, in each of which at most 64 types stand in a row, is a row of them
+abbrev pub is_row : ℕ → ℕ → Bool
+is_row n width = nat_lt n 65 && nat_lt width 65
+
+-- so many times these types, or the one type
+abbrev pub row_or : Bool → ℕ → List Described → Described → List Described
+row_or true n ds d = repeated n ds
+row_or false n ds d = d ∷ []
 
 -- the types whose values stand in a row in one of this type, without what adds no bytes around them
 abbrev pub heads : Described → List Described
@@ -85,6 +109,7 @@ heads (type.Tuple' p d) = heads d
 heads (type.Struct' p d) = heads d
 heads (type.Field' s p d) = heads d
 heads (type.Joined' p d q e) = heads d ++ heads e
+heads (type.Array' n p d) = row_or (is_row n (length (heads d))) n (heads d) (type.Array' n p d)
 heads d = d ∷ []
 
 -- values of these types, one after another

@@ -1,5 +1,5 @@
 //! Whether what was written of one type is read of another, and as the same.
-ghost use Rattle.std.specs.Prelude.{◌≡◌, ◌<◌, ℕ, List, true, length, map, IfOk, IfSome};
+ghost use Rattle.std.specs.Prelude.{◌≡◌, ◌<◌, ℕ, List, true, length, map, slice_get, IfOk, IfSome};
 ghost use Rattle.wincode_describe.specs.Compared.{Answers, IsUnaccepted, IsWitness};
 ghost use Rattle.wincode_describe.specs.Parts.{seen};
 
@@ -36,7 +36,8 @@ pub struct Comparison {
 
 /// Whether two parts are the same.
 fn is_same_part(one: &Shown, other: &Shown) -> bool
-    ensures { seen one.now ≡ seen other.now → result ≡ true }
+    ensures same { seen one.now ≡ seen other.now → result ≡ true }
+    ensures other { result ≡ true → seen one.now ≡ seen other.now }
 {
     match one {
         Shown::Natural { integer, value } => match other {
@@ -89,7 +90,8 @@ fn is_same_part(one: &Shown, other: &Shown) -> bool
 
 /// Whether the parts at this place are the same.
 fn is_same_at(parts: &[Shown], others: &[Shown], i: usize) -> bool
-    ensures { i < length parts.now → map seen parts.now ≡ map seen others.now → result ≡ true }
+    ensures same { i < length parts.now → map seen parts.now ≡ map seen others.now → result ≡ true }
+    ensures other { result ≡ true → slice_get (map seen parts.now) i ≡ slice_get (map seen others.now) i }
 {
     match parts.get(i) {
         Some(part) => match others.get(i) {
@@ -102,7 +104,8 @@ fn is_same_at(parts: &[Shown], others: &[Shown], i: usize) -> bool
 
 /// Whether all parts are the same, in order.
 pub fn are_same_parts(parts: &[Shown], others: &[Shown]) -> bool
-    ensures { map seen parts.now ≡ map seen others.now → result ≡ true }
+    ensures same { map seen parts.now ≡ map seen others.now → result ≡ true }
+    ensures other { result ≡ true → map seen parts.now ≡ map seen others.now }
 {
     if parts.len() != others.len() {
         return false;
@@ -117,7 +120,8 @@ pub fn are_same_parts(parts: &[Shown], others: &[Shown]) -> bool
 
 /// Whether it says that the bytes are no value, whatever the memory.
 fn is_unaccepted(error: &ReadError) -> bool
-    ensures { result ≡ true → IsUnaccepted error.now }
+    ensures so { result ≡ true → IsUnaccepted error.now }
+    ensures other { IsUnaccepted error.now → result ≡ true }
 {
     match error {
         ReadError::OutOfMemory => false,
@@ -175,25 +179,48 @@ fn is_shown(alloc: Global, old: &Described, new: &Described, changes: &mut [Chan
     is_shown
 }
 
+/// What changed, where nothing is known of the types, and whether a witness shows it. Where none does of the members as they
+/// are nested, they are looked at as they stand in a row.
+fn shown_changes(
+    alloc: Global,
+    old: &Described,
+    new: &Described,
+    changes: Vec<Change>,
+) -> Result<Comparison, AllocError>
+    ensures { IfOk result (λ c. Answers c.answer old.now new.now) }
+{
+    let mut changes = changes;
+    if is_shown(alloc, old, new, changes.as_mut_slice()) {
+        let answer = Answer::Differs;
+        return Ok(Comparison { answer, changes });
+    }
+    let mut others = changes_of(alloc, old, new, true)?;
+    if is_shown(alloc, old, new, others.as_mut_slice()) {
+        let answer = Answer::Differs;
+        let changes = others;
+        return Ok(Comparison { answer, changes });
+    }
+    let answer = Answer::MayDiffer;
+    Ok(Comparison { answer, changes })
+}
+
 /// Compares a new type to an old one by their forms: `Same`, where every input is accepted by both or by neither, to the same
 /// length, with the same parts at the same offsets; `Reads`, where what the old type accepts the new one accepts so; `Differs`,
-/// where a witness was read by both and shows it; else `MayDiffer`. Names change no answer. Its time grows with the types, and
-/// with the bytes of the witnesses, of which each has some 64 KiB at the most.
+/// where a witness was read by both and shows it; else `MayDiffer`. Names change no answer, nor how members are nested; but
+/// `()` is a part, which stands in an enum's case and not in an option, and the bytes of `[u8; N]` are one. Its time grows
+/// with the types, and with the bytes of the witnesses, of which each has some 64 KiB at the most.
 pub fn compare(alloc: Global, old: &Described, new: &Described) -> Result<Comparison, AllocError>
     ensures { IfOk result (λ c. Answers c.answer old.now new.now) }
 {
-    let mut changes = changes_of(alloc, old, new)?;
+    let mut changes = changes_of(alloc, old, new, false)?;
     let answer = match likeness_of(old, new) {
         Likeness::Same => Answer::Same,
         Likeness::Reads => Answer::Reads,
-        Likeness::Unlike if is_shown(alloc, old, new, changes.as_mut_slice()) => Answer::Differs,
-        Likeness::Unlike => Answer::MayDiffer,
+        Likeness::Unlike => return shown_changes(alloc, old, new, changes),
     };
-    let is_read = answer == Answer::Same || answer == Answer::Reads;
-    if is_read
-        && changes
-            .iter()
-            .any(|change| change.kind == ChangeKind::Differs)
+    if changes
+        .iter()
+        .any(|change| change.kind == ChangeKind::Differs)
     {
         changes.retain(|change| change.kind == ChangeKind::Extended);
     }

@@ -1,6 +1,6 @@
 //! Where two types differ, and bytes that show it. What it finds is a guess, which whoever asks tries by reading.
 use crate::described::{Cases, Described, LengthScheme, TagSize};
-use crate::likeness::{Likeness, case_of, likeness_of, list_in, opened, wider};
+use crate::likeness::{Likeness, case_of, head_at, is_row, likeness_of, list_in, opened, wider};
 use crate::lines::push_front;
 use crate::parts::integer_size;
 use crate::sizes::{prealloc_size, tag_bytes};
@@ -38,6 +38,8 @@ pub struct Change {
 #[derive(Drop)]
 struct Found {
     alloc: Global,
+    /// Whether members are looked at as they stand in a row, however they are nested.
+    is_by_rows: bool,
     before: Vec<u8>,
     changes: Vec<Change>,
 }
@@ -180,6 +182,14 @@ impl Found {
         self.differ(place.as_str(), why, behind)
     }
 
+    /// This type, which is gone.
+    fn lose_at(&mut self, old: &Described, place: &str) -> Result<(), AllocError> {
+        let why = format!(in self.alloc; "`{old}` is gone")?;
+        let mut behind = Vec::new(self.alloc);
+        push_smallest(&mut behind, old)?;
+        self.differ(place, why, behind)
+    }
+
     /// Goes on behind a member to the others, which stand behind what was told of it, from this change on; how many bytes
     /// stood before it.
     fn pass(
@@ -231,6 +241,28 @@ fn member_at(
     }
 }
 
+/// How wide the tag of an enum or a result is.
+fn tag_size(described: &Described) -> Option<TagSize> {
+    match described {
+        Described::Enum(size, _) => Some(*size),
+        Described::Result(..) => Some(TagSize::U32),
+        _ => None,
+    }
+}
+
+/// What stands behind this tag in an enum or a result, if it names something.
+fn behind_tag(described: &Described, tag: usize) -> Option<&Described> {
+    match described {
+        Described::Enum(_, cases) => case_of(cases, tag),
+        Described::Result(one, other) => match tag {
+            0 => Some(one),
+            1 => Some(other),
+            _ => None,
+        },
+        _ => None,
+    }
+}
+
 /// What differs between two types that stand at one place.
 #[cycle(searching)]
 fn search(
@@ -241,6 +273,9 @@ fn search(
 ) -> Result<(), AllocError> {
     match old {
         Described::Boxed(content) => search(found, content, new, place),
+        Described::Tuple(_) | Described::Struct(_) if found.is_by_rows => {
+            search_row(found, old, new, place)
+        }
         Described::Tuple(members) | Described::Struct(members) => {
             search_members(found, members, members_in(new), 0, place)
         }
@@ -249,10 +284,10 @@ fn search(
             Described::Option(other) => search_option(found, content, other, place),
             _ => found.replace(old, new, place),
         },
-        Described::Result(one, other) => match opened(new) {
-            Described::Result(first, second) => {
-                search_side(found, 0, one, first, place)?;
-                search_side(found, 1, other, second, place)
+        Described::Result(one, other) => match tag_size(opened(new)) {
+            Some(TagSize::U32) => {
+                search_sides(found, one, other, opened(new), place)?;
+                tell_new(found, opened(new), old, place)
             }
             _ => found.replace(old, new, place),
         },
@@ -272,12 +307,13 @@ fn search(
             Described::Array(other, content) if *n == *other => {
                 search_array(found, *n, item, content, place)
             }
+            _ if found.is_by_rows && is_row(*n, item) => search_row(found, old, new, place),
             _ => found.replace(old, new, place),
         },
-        Described::Enum(size, cases) => match opened(new) {
-            Described::Enum(other, others) if *size == *other => {
-                search_cases(found, *size, cases, others, place)?;
-                tell_cases(found, others, cases, place)
+        Described::Enum(size, cases) => match tag_size(opened(new)) {
+            Some(other) if *size == other => {
+                search_cases(found, *size, cases, opened(new), place)?;
+                tell_new(found, opened(new), old, place)
             }
             _ => found.replace(old, new, place),
         },
@@ -389,21 +425,17 @@ fn search_option(
     Ok(())
 }
 
-/// So, of a side of a result.
+/// So, of the sides of a result.
 #[cycle(searching)]
-fn search_side(
+fn search_sides(
     found: &mut Found,
-    tag: usize,
-    old: &Described,
+    one: &Described,
+    other: &Described,
     new: &Described,
     place: &str,
 ) -> Result<(), AllocError> {
-    let size = found.before.len();
-    push_tag(&mut found.before, TagSize::U32, tag)?;
-    let side = format!(in found.alloc; "{place}{{{tag}}}")?;
-    search(found, old, new, side.as_str())?;
-    found.before.truncate(size);
-    Ok(())
+    search_case(found, (TagSize::U32, 0), one, new, place)?;
+    search_case(found, (TagSize::U32, 1), other, new, place)
 }
 
 /// So, of the items of a list.
@@ -419,6 +451,7 @@ fn search_list(
     push_count(&mut found.before, scheme, 1)?;
     let item = format!(in found.alloc; "{place}[]")?;
     match old {
+        Described::Joined(..) if found.is_by_rows => search_row(found, old, new, item.as_str())?,
         Described::Joined(..) => search_members(found, old, members_in(new), 0, item.as_str())?,
         _ => search(found, old, new, item.as_str())?,
     }
@@ -471,14 +504,14 @@ fn search_cases(
     found: &mut Found,
     size: TagSize,
     cases: &Cases,
-    others: &Cases,
+    new: &Described,
     place: &str,
 ) -> Result<(), AllocError> {
     match cases {
-        Cases::Last(tag, content) => search_case(found, (size, *tag), content, others, place),
+        Cases::Last(tag, content) => search_case(found, (size, *tag), content, new, place),
         Cases::Case(tag, content, more) => {
-            search_case(found, (size, *tag), content, others, place)?;
-            search_cases(found, size, more, others, place)
+            search_case(found, (size, *tag), content, new, place)?;
+            search_cases(found, size, more, new, place)
         }
     }
 }
@@ -489,12 +522,12 @@ fn search_case(
     found: &mut Found,
     (size, tag): (TagSize, usize),
     content: &Described,
-    others: &Cases,
+    new: &Described,
     place: &str,
 ) -> Result<(), AllocError> {
     let before = found.before.len();
     push_tag(&mut found.before, size, tag)?;
-    match case_of(others, tag) {
+    match behind_tag(new, tag) {
         Some(other) => {
             let case = format!(in found.alloc; "{place}{{{tag}}}")?;
             search(found, content, other, case.as_str())?;
@@ -510,35 +543,165 @@ fn search_case(
     Ok(())
 }
 
-/// The cases that are new.
+/// The case of this tag, which is new where the old type doesn't have it.
+fn tell_case(
+    found: &mut Found,
+    tag: usize,
+    old: &Described,
+    place: &str,
+) -> Result<(), AllocError> {
+    if behind_tag(old, tag).is_some() {
+        return Ok(());
+    }
+    let why = format!(in found.alloc; "the case {tag} is new")?;
+    found.tell(ChangeKind::Extended, place, why)
+}
+
+/// Those of these cases that are new.
 fn tell_cases(
     found: &mut Found,
     cases: &Cases,
-    old: &Cases,
+    old: &Described,
     place: &str,
 ) -> Result<(), AllocError> {
-    let (tag, more) = match cases {
-        Cases::Last(tag, _) => (*tag, None),
-        Cases::Case(tag, _, more) => (*tag, Some(&**more)),
-    };
-    if case_of(old, tag).is_none() {
-        let why = format!(in found.alloc; "the case {tag} is new")?;
-        found.tell(ChangeKind::Extended, place, why)?;
-    }
-    match more {
-        Some(more) => tell_cases(found, more, old, place),
-        None => Ok(()),
+    match cases {
+        Cases::Last(tag, _) => tell_case(found, *tag, old, place),
+        Cases::Case(tag, _, more) => {
+            tell_case(found, *tag, old, place)?;
+            tell_cases(found, more, old, place)
+        }
     }
 }
 
-/// Where the two types differ, in the order of the old type's parts; of each difference bytes that may show it.
+/// The cases of an enum or the sides of a result that are new.
+fn tell_new(
+    found: &mut Found,
+    new: &Described,
+    old: &Described,
+    place: &str,
+) -> Result<(), AllocError> {
+    match new {
+        Described::Enum(_, cases) => tell_cases(found, cases, old, place),
+        Described::Result(..) => {
+            tell_case(found, 0, old, place)?;
+            tell_case(found, 1, old, place)
+        }
+        _ => Ok(()),
+    }
+}
+
+/// What differs between the types that stand in a row in the two, and those that came behind them.
+#[cycle(searching)]
+fn search_row(
+    found: &mut Found,
+    old: &Described,
+    new: &Described,
+    place: &str,
+) -> Result<(), AllocError> {
+    let end = walk(found, old, new, 0, place)?;
+    match head_at(new, end) {
+        Ok(more) => {
+            let why = format!(in found.alloc; "`{more}` came behind it")?;
+            let mut behind = Vec::new(found.alloc);
+            push_smallest(&mut behind, old)?;
+            found.differ(place, why, behind)
+        }
+        Err(_) => Ok(()),
+    }
+}
+
+/// So, of those that stand in the new type from one place on; where they end.
+#[cycle(searching)]
+fn walk(
+    found: &mut Found,
+    old: &Described,
+    new: &Described,
+    at: usize,
+    place: &str,
+) -> Result<usize, AllocError> {
+    match old {
+        Described::Boxed(content) | Described::Field(_, content) => {
+            walk(found, content, new, at, place)
+        }
+        Described::Tuple(members) | Described::Struct(members) => {
+            walk_members(found, members, (new, at), 0, place)
+        }
+        Described::Joined(..) => walk_members(found, old, (new, at), 0, place),
+        Described::Array(n, item) if is_row(*n, item) => {
+            walk_items(found, (*n, item), new, at, place)
+        }
+        _ => {
+            match head_at(new, at) {
+                Ok(head) => search(found, old, head, place)?,
+                Err(_) => found.lose_at(old, place)?,
+            }
+            Ok(at.saturating_add(1))
+        }
+    }
+}
+
+/// So, of members from one on.
+#[cycle(searching)]
+fn walk_members(
+    found: &mut Found,
+    old: &Described,
+    (new, at): (&Described, usize),
+    number: usize,
+    place: &str,
+) -> Result<usize, AllocError> {
+    let member = member_at(found.alloc, old, number, place)?;
+    let Described::Joined(first, others) = old else {
+        return walk(found, old, new, at, member.as_str());
+    };
+    let start = found.changes.len();
+    let middle = walk(found, first, new, at, member.as_str())?;
+    let size = found.pass(start, first, others)?;
+    let end = walk_members(
+        found,
+        others,
+        (new, middle),
+        number.saturating_add(1),
+        place,
+    )?;
+    found.before.truncate(size);
+    Ok(end)
+}
+
+/// So, of the items of an array.
+#[cycle(searching)]
+fn walk_items(
+    found: &mut Found,
+    (n, item): (usize, &Described),
+    new: &Described,
+    at: usize,
+    place: &str,
+) -> Result<usize, AllocError> {
+    let size = found.before.len();
+    let mut end = at;
+    for i in 0..n {
+        let start = found.changes.len();
+        let one = format!(in found.alloc; "{place}[{i}]")?;
+        end = walk(found, item, new, end, one.as_str())?;
+        let mut tail = Vec::new(found.alloc);
+        push_items(&mut tail, item, n.saturating_sub(i).saturating_sub(1))?;
+        found.end_with(start, tail.as_slice())?;
+        push_smallest(&mut found.before, item)?;
+    }
+    found.before.truncate(size);
+    Ok(end)
+}
+
+/// Where the two types differ, in the order of the old type's parts; of each difference bytes that may show it. By rows,
+/// members are looked at as they stand in a row, however they are nested.
 pub(crate) fn changes_of(
     alloc: Global,
     old: &Described,
     new: &Described,
+    is_by_rows: bool,
 ) -> Result<Vec<Change>, AllocError> {
     let mut found = Found {
         alloc,
+        is_by_rows,
         before: Vec::new(alloc),
         changes: Vec::new(alloc),
     };

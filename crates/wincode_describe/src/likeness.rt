@@ -1,21 +1,30 @@
 //! What the encodings of one type are to those of another, as far as their forms tell.
-ghost use Rattle.std.specs.Prelude.{◌≡◌, ◌+◌, true, length, IfSome, MatchResult};
+ghost use Rattle.std.specs.Prelude.{◌≡◌, ◌+◌, true, length, min, IfSome, MatchResult};
+ghost use Rattle.wincode_base.specs.Tags.{result_read};
 ghost use Rattle.wincode_describe.specs.Compared.{
   IsLike,
   IsWider,
   AreLike,
   AreNamed,
+  AreSides,
   StandsAt,
   Takes,
   both,
   heads,
+  is_row,
+  repeated,
+  row_read,
+  side_at,
 };
-ghost use Rattle.wincode_describe.specs.ShownGrammars.{chosen_read};
-ghost use Rattle.wincode_describe.specs.Types.{described_read, cases_read, list_of, scheme_of, tag_bytes};
+ghost use Rattle.wincode_describe.specs.ShownGrammars.{shown_read, chosen_read};
+ghost use Rattle.wincode_describe.specs.Types.{described_read, cases_read, list_of, result_shown, scheme_of, tag_bytes};
 
 use crate::described::{Cases, Described, LengthScheme, TagSize};
 use crate::parsing::has_case;
 use crate::sizes::prealloc_size;
+
+/// An array of more items, or of items in which more types stand in a row, is likened to arrays of as many items alone.
+const ROW: usize = 64;
 
 /// What the encodings of one type, the old one, are to those of another, the new one.
 #[derive(Debug, Clone, Copy, PartialEq, Eq)]
@@ -83,6 +92,27 @@ fn are_named(cases: &Cases, others: &Cases) -> bool
     }
 }
 
+/// The side of a result that this tag names, if it names one.
+fn side_of<'a>(one: &'a Described, other: &'a Described, tag: usize) -> Option<&'a Described>
+    ensures { IfSome result (λ d. IsLike Likeness.Same (described_read d.now) (side_at (described_read one.now) (described_read other.now) tag)) }
+{
+    match tag {
+        0 => Some(one),
+        1 => Some(other),
+        _ => None,
+    }
+}
+
+/// Whether each tag is one of a result's, 0 or 1.
+fn are_sides(cases: &Cases) -> bool
+    ensures { result ≡ true → AreSides cases.now }
+{
+    match cases {
+        Cases::Last(tag, _) => *tag < 2,
+        Cases::Case(tag, _, more) => *tag < 2 && are_sides(more),
+    }
+}
+
 /// A list and its items, if it is one: a list, a set or a map.
 pub(crate) fn list_in(described: &Described) -> Option<(LengthScheme, &Described)>
     ensures { IfSome result (λ p. IsLike Likeness.Same (list_of p.0 (described_read p.1.now)) (described_read described.now)) }
@@ -143,8 +173,38 @@ fn leaf_likeness(old: &Described, new: &Described) -> Likeness
     }
 }
 
+/// How many types stand in a row in a value of the type, up to `usize::MAX`.
+fn row_length(described: &Described) -> usize
+    ensures { result ≡ min (length (heads described.now)) 18446744073709551615 }
+{
+    match described {
+        Described::Boxed(content)
+        | Described::Tuple(content)
+        | Described::Struct(content)
+        | Described::Field(_, content) => row_length(content),
+        Described::Joined(first, second) => row_length(first).saturating_add(row_length(second)),
+        Described::Array(n, item) => {
+            let width = row_length(item);
+            if *n <= ROW && width <= ROW {
+                (*n).saturating_mul(width)
+            } else {
+                1
+            }
+        }
+        _ => 1,
+    }
+}
+
+/// Whether an array of so many items is a row of what they hold.
+pub(crate) fn is_row(n: usize, item: &Described) -> bool
+    ensures { result ≡ is_row n (length (heads item.now)) }
+{
+    n <= ROW && row_length(item) <= ROW
+}
+
 /// The type at this place of those that stand in a row in a value of the type, or how far the place is behind them.
-fn head_at(described: &Described, i: usize) -> Result<&Described, usize>
+#[cycle(placing)]
+pub(crate) fn head_at(described: &Described, i: usize) -> Result<&Described, usize>
     ensures { MatchResult result (λ d. StandsAt i (heads described.now) d.now) (λ left. i ≡ length (heads described.now) + left) }
 {
     match described {
@@ -156,11 +216,30 @@ fn head_at(described: &Described, i: usize) -> Result<&Described, usize>
             Ok(head) => Ok(head),
             Err(left) => head_at(second, left),
         },
+        Described::Array(n, item) if is_row(*n, item) => item_head_at(*n, item, i),
         _ => match i.checked_sub(1) {
             None => Ok(described),
             Some(left) => Err(left),
         },
     }
+}
+
+/// So, of those that stand in so many items.
+#[cycle(placing)]
+fn item_head_at(n: usize, item: &Described, i: usize) -> Result<&Described, usize>
+    ensures { MatchResult result (λ d. StandsAt i (repeated n (heads item.now)) d.now) (λ left. i ≡ length (repeated n (heads item.now)) + left) }
+{
+    if row_length(item) == 0 {
+        return Err(i);
+    }
+    let mut place = i;
+    for _i in 0..n {
+        match head_at(item, place) {
+            Ok(head) => return Ok(head),
+            Err(left) => place = left,
+        }
+    }
+    Err(place)
 }
 
 /// What the encodings of the old type are to those of the new one. `Same`: they are the same, with the same parts;
@@ -192,6 +271,7 @@ fn row_likeness(old: &Described, new: &Described, at: usize) -> (Likeness, usize
             let (other, end) = row_likeness(second, new, middle);
             (one.and(other), end)
         }
+        Described::Array(n, item) if is_row(*n, item) => items_likeness(*n, item, new, at),
         _ => {
             let (Ok(head), Some(next)) = (head_at(new, at), at.checked_add(1)) else {
                 return (Likeness::Unlike, at);
@@ -199,6 +279,24 @@ fn row_likeness(old: &Described, new: &Described, at: usize) -> (Likeness, usize
             (head_likeness(old, head), next)
         }
     }
+}
+
+/// So, of so many items.
+#[cycle(likening)]
+fn items_likeness(n: usize, item: &Described, new: &Described, at: usize) -> (Likeness, usize)
+    ensures { Takes result.0 (row_read (repeated n (heads item.now))) (heads new.now) at result.1 }
+{
+    let mut answer = Likeness::Same;
+    let mut end = at;
+    if row_length(item) == 0 {
+        return (answer, end);
+    }
+    for _i in 0..n {
+        let (one, next) = row_likeness(item, new, end);
+        answer = answer.and(one);
+        end = next;
+    }
+    (answer, end)
 }
 
 /// What they are to those of one of them.
@@ -215,6 +313,7 @@ fn head_likeness(old: &Described, new: &Described) -> Likeness
             Described::Result(first, second) => {
                 likeness_of(one, first).and(likeness_of(other, second))
             }
+            Described::Enum(TagSize::U32, cases) => result_likeness(old, cases),
             _ => Likeness::Unlike,
         },
         Described::List(scheme, item) => list_likeness(*scheme, item, new),
@@ -245,17 +344,72 @@ fn list_likeness(scheme: LengthScheme, item: &Described, new: &Described) -> Lik
     wider.and(likeness_of(item, content))
 }
 
+/// So, of a result and an enum of such cases.
+#[cycle(likening)]
+fn result_likeness(old: &Described, cases: &Cases) -> Likeness
+    ensures { IsLike result (described_read old.now) (chosen_read 4 (cases_read cases.now)) }
+{
+    let Described::Result(one, other) = old else {
+        return Likeness::Unlike;
+    };
+    let (Some(first), Some(second)) = (case_of(cases, 0), case_of(cases, 1)) else {
+        return Likeness::Unlike;
+    };
+    let answer = likeness_of(one, first).and(likeness_of(other, second));
+    if are_sides(cases) {
+        answer
+    } else {
+        answer.and(Likeness::Reads)
+    }
+}
+
+/// So, of an enum of such cases and a result of such sides.
+#[cycle(likening)]
+fn sides_likeness(cases: &Cases, one: &Described, other: &Described) -> Likeness
+    ensures { IsLike result (chosen_read 4 (cases_read cases.now)) (shown_read result_shown (result_read 4 (described_read one.now) (described_read other.now))) }
+{
+    let answer = side_likeness(cases, one, other);
+    if has_case(cases, 0) && has_case(cases, 1) {
+        answer
+    } else {
+        answer.and(Likeness::Reads)
+    }
+}
+
+/// So, of what stands behind the tag of each of these cases, and the sides of a result.
+#[cycle(likening)]
+fn side_likeness(cases: &Cases, one: &Described, other: &Described) -> Likeness
+    ensures { AreLike result cases.now (side_at (described_read one.now) (described_read other.now)) }
+{
+    match cases {
+        Cases::Last(tag, content) => match side_of(one, other, *tag) {
+            Some(side) => likeness_of(content, side),
+            None => Likeness::Unlike,
+        },
+        Cases::Case(tag, content, more) => match side_of(one, other, *tag) {
+            Some(side) => likeness_of(content, side).and(side_likeness(more, one, other)),
+            None => Likeness::Unlike,
+        },
+    }
+}
+
 /// So, of an enum of such cases.
 #[cycle(likening)]
 fn enum_likeness(size: TagSize, cases: &Cases, new: &Described) -> Likeness
     ensures { IsLike result (chosen_read (tag_bytes size) (cases_read cases.now)) (described_read new.now) }
 {
-    let Described::Enum(other, others) = new else {
-        return Likeness::Unlike;
-    };
-    if size != *other {
-        return Likeness::Unlike;
+    match new {
+        Described::Enum(other, others) if size == *other => named_likeness(size, cases, others),
+        Described::Result(one, other) if size == TagSize::U32 => sides_likeness(cases, one, other),
+        _ => Likeness::Unlike,
     }
+}
+
+/// So, of enums of such cases.
+#[cycle(likening)]
+fn named_likeness(size: TagSize, cases: &Cases, others: &Cases) -> Likeness
+    ensures { IsLike result (chosen_read (tag_bytes size) (cases_read cases.now)) (chosen_read (tag_bytes size) (cases_read others.now)) }
+{
     let answer = cases_likeness(cases, others);
     if are_named(others, cases) {
         answer
@@ -267,7 +421,7 @@ fn enum_likeness(size: TagSize, cases: &Cases, new: &Described) -> Likeness
 /// So, of what stands behind the tag of each of these cases.
 #[cycle(likening)]
 fn cases_likeness(cases: &Cases, others: &Cases) -> Likeness
-    ensures { AreLike result cases.now others.now }
+    ensures { AreLike result cases.now (cases_read others.now).case }
 {
     match cases {
         Cases::Last(tag, content) => match case_of(others, *tag) {

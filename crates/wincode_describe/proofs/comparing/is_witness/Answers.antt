@@ -16,6 +16,6 @@ returns c = λ h.
     let P : Option ReadError → Type 0 = λ r. Explains old bytes parts r in
     let Q : Option ReadError → Type 0 = λ r. Explains new bytes others r in
     let none : c.explain-was.result.refused ≡ None = search rules in
-    let differ : parts ≡ others → ⊥ = λ e. not_both c.are_same_parts.result (c.are_same_parts.ensures (ap (map seen) c.as_slice.ensures.value ∙ e
+    let differ : parts ≡ others → ⊥ = λ e. not_both c.are_same_parts.result (c.are_same_parts.ensures.same (ap (map seen) c.as_slice.ensures.value ∙ e
     ∙ sym (ap (map seen) c.as_slice-in-None.ensures.value))) h in
     other_witness old new bytes parts others (subst P none c.explain-was.ensures) (subst Q c.in-None.is c.explain-is.ensures) differ
