@@ -79,10 +79,22 @@ static int memory(void) {
   return 1;
 }
 
-/* Random bytes by some types: whatever is answered, the report counts these bytes. */
+/* In how many items the part stands that the last line of an explanation refuses: its place has a bracket for each. */
+static size_t depth_told(const char *text, const uint8_t *bytes, size_t length) {
+  static _Thread_local uint8_t room[1 << 16];
+  struct wincode_report report;
+  struct wincode_page page;
+  wincode_explain((const uint8_t *)text, strlen(text), bytes, length, 0, room, sizeof room, &report, &page);
+  size_t start = page.length ? page.length - 1 : 0, depth = 0;
+  while (start > 0 && room[start - 1] != '\n') start--;
+  for (size_t i = start; i + 7 < page.length && memcmp(room + i, "refused", 7) != 0; i++) depth += room[i] == '[';
+  return depth;
+}
+
+/* Random bytes by some types: whatever is answered, the report counts these bytes, and tells the depth of a refusal. */
 static void *random_bytes(void *seed) {
   static const char *const TYPES[] = {"Vec<(u64, String)>", "BTreeMap<u8, Vec<Option<char>>>", "short Vec<bool>",
-                                      "enum u8 { 0: u64, 1: Result<u8, String>, 7: [u16; 3] }"};
+                                      "enum u8 { 0: u64, 1: Result<u8, String>, 2: short Vec<[(bool, short Vec<bool>); 3]> }"};
   uint64_t state = *(uint64_t *)seed;
   for (int round = 0; round < 12500; round++) {
     uint8_t bytes[48];
@@ -94,6 +106,7 @@ static void *random_bytes(void *seed) {
     const char *text = TYPES[round % 4];
     int32_t found = wincode_check((const uint8_t *)text, strlen(text), bytes, sizeof bytes, &report);
     if (found < 0 || report.length + report.behind != sizeof bytes || report.place > sizeof bytes) return seed;
+    if (report.depth != (found > 0 ? depth_told(text, bytes, sizeof bytes) : 0)) return seed;
   }
   return NULL;
 }

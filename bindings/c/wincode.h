@@ -25,6 +25,7 @@ struct wincode_report {
   size_t place;  /* how many bytes were read; of a fault of the type's text, the byte of the text where it is */
   size_t first;  /* the numbers that the refusal's text has, or 0 */
   size_t second;
+  size_t depth; /* of a refusal, how many items deep its part is: of how many lists, sets, maps and arrays it is in an item */
 };
 
 /* What a call put into the room for lines. */

@@ -14,3 +14,7 @@ for call, text, data, said in [
         assert str(refused) == said, refused
     else:
         raise AssertionError(said)
+try:
+    wincode.check("[[bool; 2]; 2]", b"\1\0\1\2")
+except wincode.Refused as refused:
+    assert (refused.offset, refused.depth) == (3, 2)

@@ -13,15 +13,15 @@ Checked = namedtuple("Checked", "length parts behind")
 
 
 class Report(ctypes.Structure):
-    _fields_ = [(name, ctypes.c_size_t) for name in ("length", "parts", "behind", "place", "first", "second")]
+    _fields_ = [(name, ctypes.c_size_t) for name in ("length", "parts", "behind", "place", "first", "second", "depth")]
 
 
 class Refused(ValueError):
-    """No value was read: `number` as in wincode.h, the `offset` of the part that was refused, the reader's `place`."""
+    """No value was read: `number` as in wincode.h; `offset` and `depth` of the part that was refused; the reader's `place`."""
 
     def __init__(self, number, report):
         super().__init__(f"{_message(number, report)} at offset {report.length}")
-        self.number, self.offset, self.place = number, report.length, report.place
+        self.number, self.offset, self.place, self.depth = number, report.length, report.place, report.depth
 
 
 class NoType(ValueError):

@@ -26,6 +26,7 @@ struct Report {
     place: usize,
     first: usize,
     second: usize,
+    depth: usize,
 }
 
 /// As `struct wincode_page`.
@@ -136,6 +137,8 @@ pub struct Refused {
     pub offset: usize,
     /// How many bytes were read.
     pub place: usize,
+    /// How many items deep the part is: of how many lists, sets, maps and arrays it stands in an item.
+    pub depth: usize,
 }
 
 /// A text describes no type.
@@ -216,6 +219,7 @@ impl Type {
                     kind: Kind::OutOfMemory,
                     offset: report.length,
                     place: report.place,
+                    depth: report.depth,
                 });
             }
             if page.behind == 0 {
@@ -252,6 +256,7 @@ impl Type {
             kind: Kind::of(number, &report),
             offset: report.length,
             place: report.place,
+            depth: report.depth,
         })
     }
 }

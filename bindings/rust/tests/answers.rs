@@ -44,6 +44,12 @@ fn debug_of(kind: Kind) -> String {
 }
 
 #[test]
+fn depth_of_a_refusal() {
+    let refused = Type::parse("[[bool; 2]; 2]").unwrap().check(&[1, 0, 1, 2]).unwrap_err();
+    assert_eq!((refused.offset, refused.depth), (3, 2));
+}
+
+#[test]
 fn rows_of_the_rust_crate() {
     let rows = fs::read_to_string("../../crates/rows_values/stdout").unwrap();
     let mut seen = 0;

@@ -1,5 +1,6 @@
 pub mod CountLaws
 pub mod Counts
+pub mod Depths
 pub mod Messages
 pub mod Pages
 pub mod Refusals

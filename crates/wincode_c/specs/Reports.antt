@@ -1,5 +1,5 @@
 -- What a call reports of bytes.
-use Rattle.std.specs.Prelude.{◌≡◌, ◌⊎◌, ℕ, zero, suc, ℤ, pos, neg_ℤ, ◌-◌, ◌<◌, List, length, Option, Some, None, Bool, true, false, IsUtf8}
+use Rattle.std.specs.Prelude.{◌≡◌, ◌⊎◌, ℕ, zero, suc, ℤ, pos, neg_ℤ, ◌-◌, ◌<◌, ◌≤◌, List, length, Option, Some, None, Bool, true, false, IsUtf8}
 use Rattle.wincode_io.specs.Readers.{ReaderState, memory, nothing}
 use Rattle.wincode_base.specs.declared.error.ReadError.{ReadError}
 use Rattle.wincode_describe.specs.Explained.{ExplainsRead}
@@ -9,6 +9,7 @@ use Rattle.wincode_describe.specs.Parts.{Part, parts_bytes}
 use Rattle.wincode_describe.specs.Spelled.{IsType}
 use Rattle.wincode_describe.specs.Written.{written}
 use Rattle.wincode_describe.specs.declared.described.Described.{Described}
+use Rattle.wincode_c.specs.Depths.{nested}
 use Rattle.wincode_c.specs.Refusals.{number_of, first_of, second_of}
 use Rattle.wincode_c.specs.Messages.{PutsText}
 use Rattle.wincode_c.specs.Pages.{IsPage}
@@ -26,13 +27,18 @@ abbrev pub IsTold : Option ReadError → ℤ → ℕ → ℕ → Type 0
 IsTold None n first second = (n ≡ pos 0) × (first ≡ 0) × (second ≡ 0)
 IsTold (Some e) n first second = (n ≡ pos (number_of e)) × (first ≡ first_of e) × (second ≡ second_of e)
 
+-- No part was refused, or one that stands in no more items than lists, sets, maps and arrays are nested in the type.
+abbrev pub IsDeep : Described → Option ReadError → ℕ → Type 0
+IsDeep d None n = n ≡ 0
+IsDeep d (Some e) n = n ≤ nested d
+
 -- Some parts explain the bytes by the type: the report counts them and their bytes, and those behind, and says how many
 -- bytes the reader took.
 abbrev pub Reports : Described → List ℕ → Report → ℤ → Type 0
 Reports d bytes r n = (parts : List Part) × (new : ReaderState) × (refused : Option ReadError)
     × ExplainsRead d (memory nothing bytes) new parts refused
     × (r.length ≡ length (parts_bytes parts)) × (r.parts ≡ length parts) × (r.behind ≡ length bytes - r.length)
-    × (r.place ≡ length bytes - length new.rest) × IsTold refused n r.first r.second
+    × (r.place ≡ length bytes - length new.rest) × IsTold refused n r.first r.second × IsDeep d refused r.depth
 
 -- The number of a fault of a type's text, below 0.
 abbrev pub fault_number : Untyped → ℤ
@@ -50,7 +56,7 @@ fault_place OutOfMemory = 0
 
 -- The fault is reported, and nothing else is.
 abbrev pub FaultReported : Untyped → Report → ℤ → Type 0
-FaultReported f r n = (n ≡ fault_number f) × (r.place ≡ fault_place f) × (r.length ≡ 0) × (r.parts ≡ 0) × (r.behind ≡ 0) × (r.first ≡ 0) × (r.second ≡ 0)
+FaultReported f r n = (n ≡ fault_number f) × (r.place ≡ fault_place f) × (r.length ≡ 0) × (r.parts ≡ 0) × (r.behind ≡ 0) × (r.first ≡ 0) × (r.second ≡ 0) × (r.depth ≡ 0)
 
 -- A text that is written as types are has no fault, but that memory was refused.
 abbrev pub Untypes : List ℕ → Untyped → Type 0

@@ -5,6 +5,7 @@ ghost use Rattle.wincode_c.specs.Counts.{Counts};
 ghost use Rattle.wincode_c.specs.Reports.{IsTold, Reports};
 ghost use Rattle.wincode_describe.specs.SinkLaws.{parts_size};
 
+use crate::depths::depth_at;
 use crate::refusals::{number_of, numbers_of};
 use crate::report::Report;
 use std::alloc::Global;
@@ -14,9 +15,9 @@ use wincode_io::{Lending, Lifetime, Reader, TrustedSliceReader};
 
 /// How many parts were taken, and how many bytes they have.
 #[derive(Clone, Copy, Drop)]
-struct Counted {
-    parts: usize,
-    bytes: usize,
+pub(crate) struct Counted {
+    pub(crate) parts: usize,
+    pub(crate) bytes: usize,
 }
 
 /// No part is kept. A part with which they or their bytes can't be counted any more is `OutOfMemory`.
@@ -43,7 +44,7 @@ impl PartSink for Counted {
 
 /// Reads a value of the type from the front of what the reader has, and counts its parts; or those that stand before what
 /// was refused, and why.
-fn count_read<L: Lending, R: Reader<L>>(
+pub(crate) fn count_read<L: Lending, R: Reader<L>>(
     alloc: Global,
     described: &Described,
     reader: &mut R,
@@ -92,5 +93,9 @@ pub(crate) fn check_by(
     report.place = bytes.len().saturating_sub(reader.at_hand().len());
     report.first = first;
     report.second = second;
+    report.depth = match &refused {
+        None => 0,
+        Some(_) => depth_at(alloc, described, bytes, counted.parts),
+    };
     number
 }

@@ -3,10 +3,12 @@
 //! - `exports`: what other programs call.
 //! - `report`: what a call found; `refusals`, `messages`: the numbers of refusals, and their texts.
 //! - `typed`: the type that a text describes.
-//! - `checking`: bytes read by a type, of which the parts are counted; `explaining`, `pages`: their lines, as many as fit.
+//! - `checking`: bytes read by a type, of which the parts are counted; `depths`: in how many items a refused part stands;
+//!   `explaining`, `pages`: their lines, as many as fit.
 #![tactic(auto)]
 
 mod checking;
+mod depths;
 mod explaining;
 pub mod exports;
 mod messages;

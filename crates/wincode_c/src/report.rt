@@ -16,6 +16,9 @@ pub struct Report {
     pub first: usize,
     /// The second one, or 0.
     pub second: usize,
+    /// Of a refusal, how many items deep the part that was refused is: of how many lists, sets, maps and arrays it stands in
+    /// an item.
+    pub depth: usize,
 }
 
 /// What a call put into the room for lines.

@@ -12,6 +12,7 @@ const NO_REPORT: Report = Report {
     place: 9,
     first: 9,
     second: 9,
+    depth: 9,
 };
 
 const NO_PAGE: Page = Page {
@@ -76,6 +77,53 @@ fn bytes_are_checked(rt: HostRuntime) -> Result<(), Fail> {
             (place, first, second),
             "{words}"
         );
+    }
+    Ok(())
+}
+
+/// A type, bytes, and how many items deep the part is that is refused of them.
+const DEPTHS: [(&str, &[u8], usize); 13] = [
+    ("bool", &[1], 0),
+    ("(u8, bool)", &[7, 2], 0),
+    ("([u16; 0], bool)", &[2], 0),
+    ("Vec<u64>", &[7], 0),
+    ("Vec<u64>", &[1, 0, 0, 0, 0, 0, 0, 0], 1),
+    (
+        "Vec<Vec<bool>>",
+        &[1, 0, 0, 0, 0, 0, 0, 0, 2, 0, 0, 0, 0, 0, 0, 0, 1, 2],
+        2,
+    ),
+    (
+        "Vec<(u8, Vec<bool>)>",
+        &[1, 0, 0, 0, 0, 0, 0, 0, 5, 1, 0, 0],
+        1,
+    ),
+    ("Vec<(u8, [u16; 2])>", &[1, 0, 0, 0, 0, 0, 0, 0, 5], 1),
+    ("[[bool; 2]; 2]", &[1, 0, 1, 2], 2),
+    ("[[u16; 2]; 2]", &[0, 0], 2),
+    (
+        "BTreeMap<u8, Option<bool>>",
+        &[1, 0, 0, 0, 0, 0, 0, 0, 3, 1, 2],
+        1,
+    ),
+    (
+        "Option<BTreeSet<char>>",
+        &[1, 1, 0, 0, 0, 0, 0, 0, 0, 128],
+        1,
+    ),
+    (
+        "enum u8 { 4: [Result<u8, bool>; 1] }",
+        &[4, 1, 0, 0, 0, 2],
+        1,
+    ),
+];
+
+#[test]
+fn depths_of_refusals(rt: HostRuntime) -> Result<(), Fail> {
+    for (words, bytes, depth) in DEPTHS {
+        let mut report = NO_REPORT;
+        let _ = wincode_check(rt.alloc(), words.as_bytes(), bytes, &mut report);
+        assert_eq!(rt; report.depth, depth, "{words}");
     }
     Ok(())
 }

@@ -46,6 +46,7 @@ impl Untyped {
         report.place = place;
         report.first = 0;
         report.second = 0;
+        report.depth = 0;
         number
     }
 }
