@@ -241,6 +241,14 @@ fn member_at(
     }
 }
 
+/// Whether it is an array of so many items.
+fn is_array_of(described: &Described, n: usize) -> bool {
+    match described {
+        Described::Array(count, _) => *count == n,
+        _ => false,
+    }
+}
+
 /// How wide the tag of an enum or a result is.
 fn tag_size(described: &Described) -> Option<TagSize> {
     match described {
@@ -271,11 +279,27 @@ fn search(
     new: &Described,
     place: &str,
 ) -> Result<(), AllocError> {
+    let is_row_of_parts = match old {
+        Described::Tuple(_) | Described::Struct(_) => true,
+        Described::Array(n, item) => is_row(*n, item) && !is_array_of(opened(new), *n),
+        _ => false,
+    };
+    if found.is_by_rows && is_row_of_parts {
+        return search_row(found, old, new, place);
+    }
+    search_part(found, old, new, place)
+}
+
+/// So, of types that aren't looked at as a row.
+#[cycle(searching)]
+fn search_part(
+    found: &mut Found,
+    old: &Described,
+    new: &Described,
+    place: &str,
+) -> Result<(), AllocError> {
     match old {
         Described::Boxed(content) => search(found, content, new, place),
-        Described::Tuple(_) | Described::Struct(_) if found.is_by_rows => {
-            search_row(found, old, new, place)
-        }
         Described::Tuple(members) | Described::Struct(members) => {
             search_members(found, members, members_in(new), 0, place)
         }
@@ -286,7 +310,8 @@ fn search(
         },
         Described::Result(one, other) => match tag_size(opened(new)) {
             Some(TagSize::U32) => {
-                search_sides(found, one, other, opened(new), place)?;
+                search_case(found, (TagSize::U32, 0), one, opened(new), place)?;
+                search_case(found, (TagSize::U32, 1), other, opened(new), place)?;
                 tell_new(found, opened(new), old, place)
             }
             _ => found.replace(old, new, place),
@@ -307,7 +332,6 @@ fn search(
             Described::Array(other, content) if *n == *other => {
                 search_array(found, *n, item, content, place)
             }
-            _ if found.is_by_rows && is_row(*n, item) => search_row(found, old, new, place),
             _ => found.replace(old, new, place),
         },
         Described::Enum(size, cases) => match tag_size(opened(new)) {
@@ -423,19 +447,6 @@ fn search_option(
     search(found, old, new, place)?;
     found.before.truncate(size);
     Ok(())
-}
-
-/// So, of the sides of a result.
-#[cycle(searching)]
-fn search_sides(
-    found: &mut Found,
-    one: &Described,
-    other: &Described,
-    new: &Described,
-    place: &str,
-) -> Result<(), AllocError> {
-    search_case(found, (TagSize::U32, 0), one, new, place)?;
-    search_case(found, (TagSize::U32, 1), other, new, place)
 }
 
 /// So, of the items of a list.
@@ -628,11 +639,11 @@ fn walk(
         }
         Described::Joined(..) => walk_members(found, old, (new, at), 0, place),
         Described::Array(n, item) if is_row(*n, item) => {
-            walk_items(found, (*n, item), new, at, place)
+            walk_items(found, *n, item, (new, at), place)
         }
         _ => {
             match head_at(new, at) {
-                Ok(head) => search(found, old, head, place)?,
+                Ok(head) => search_part(found, old, head, place)?,
                 Err(_) => found.lose_at(old, place)?,
             }
             Ok(at.saturating_add(1))
@@ -671,9 +682,9 @@ fn walk_members(
 #[cycle(searching)]
 fn walk_items(
     found: &mut Found,
-    (n, item): (usize, &Described),
-    new: &Described,
-    at: usize,
+    n: usize,
+    item: &Described,
+    (new, at): (&Described, usize),
     place: &str,
 ) -> Result<usize, AllocError> {
     let size = found.before.len();
