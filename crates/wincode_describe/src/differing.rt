@@ -609,7 +609,10 @@ fn search_row(
     new: &Described,
     place: &str,
 ) -> Result<(), AllocError> {
-    let end = walk(found, old, new, 0, place)?;
+    let end = match old {
+        Described::Joined(..) => walk_members(found, old, (new, 0), 0, place)?,
+        _ => walk(found, old, new, 0, place)?,
+    };
     match head_at(new, end) {
         Ok(more) => {
             let why = format!(in found.alloc; "`{more}` came behind it")?;
@@ -637,7 +640,6 @@ fn walk(
         Described::Tuple(members) | Described::Struct(members) => {
             walk_members(found, members, (new, at), 0, place)
         }
-        Described::Joined(..) => walk_members(found, old, (new, at), 0, place),
         Described::Array(n, item) if is_row(*n, item) => {
             walk_items(found, *n, item, (new, at), place)
         }
