@@ -7,6 +7,7 @@
 //! and writes is made of a number that depends on the arguments, so that no run can leave anything out. Where values
 //! are read as they come or written as they go, they stand in a file in the folder for such, which is removed afterwards.
 //!
+//! With `--growth` it doubles how many items a value has, from a thousand up to a gibibyte, and prints the time of an item.
 //! With `--many` it reads back maps of more than a mebi of pairs, and as many tokens, which takes a test too long. With
 //! `--large` it writes a gibibyte of records through a writer's buffer to such a file, and prints how long that took.
 #![tactic(auto)]
@@ -14,6 +15,7 @@
 mod arguments;
 mod cases;
 mod each;
+mod growth;
 mod look;
 mod made;
 mod mebi;
@@ -26,6 +28,7 @@ mod writing;
 
 use arguments::{asked_by, is_asked};
 use cases::time_cases;
+use growth::time_growth;
 use mebi::{COUNT, are_hashed_pairs_kept, are_ordered_pairs_kept, are_tokens_kept};
 use timing::Failure;
 use writing::write_large;
@@ -46,6 +49,9 @@ fn keep_many(rt: &(impl Print + AllocGlobal)) -> Result<(), Failure> {
 fn main(rt: HostRuntime) -> Result<(), Failure> {
     if let Some(asked) = asked_by(&rt)? {
         return time_cases(&rt, &asked);
+    }
+    if is_asked(&rt, "--growth")? {
+        return time_growth(&rt);
     }
     if is_asked(&rt, "--many")? {
         return keep_many(&rt);

@@ -16,7 +16,7 @@ use wincode::{
 };
 
 /// What the file is called that the values stand in, behind the folder for such.
-const FILE: &str = "/run_bench.values";
+pub const FILE: &str = "/run_bench.values";
 
 /// Lists of numbers, with a limit that holds 64 mebibytes of them.
 type Lists = containers::Vec<Vec<u64>, LongLen>;
@@ -36,9 +36,9 @@ const MESSAGES: [u64; 2] = [1_024, 8_191];
 
 /// The file that the values stand in.
 #[derive(Drop)]
-struct Stored<'a, R> {
-    rt: &'a R,
-    path: &'a str,
+pub struct Stored<'a, R> {
+    pub rt: &'a R,
+    pub path: &'a str,
 }
 
 /// Reads all of the file.
@@ -68,9 +68,9 @@ impl<R: Files, T: Look, S: SchemaRead<Lifetime<'static>, Dst = T>> Work
 
 /// Reads the values of the file, one after another, to its end.
 #[derive(Drop)]
-struct ReadingMessages<'a, R, S> {
-    stored: &'a Stored<'a, R>,
-    of: PhantomData<S>,
+pub struct ReadingMessages<'a, R, S> {
+    pub stored: &'a Stored<'a, R>,
+    pub of: PhantomData<S>,
 }
 
 impl<R: Files, T: Look, S: SchemaReadOwned<Lifetime<'static>, Dst = T>> Work

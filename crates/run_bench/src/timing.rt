@@ -7,7 +7,7 @@ use thiserror::Error;
 use wincode::{ReadError, WriteError};
 
 /// How often each piece of work is run.
-const RUNS: u32 = 40;
+const RUNS: u64 = 40;
 
 /// Why a measurement ended early.
 #[derive(Debug, Drop, Error)]
@@ -77,10 +77,16 @@ fn once<W: Work>(rt: &impl Clock, alloc: Global, work: &W, due: u64) -> Result<u
     }
 }
 
-/// The least time of the runs, in nanoseconds.
-fn least<W: Work>(rt: &impl Clock, alloc: Global, work: &W, due: u64) -> Result<u128, Failure> {
+/// The least time of so many runs, in nanoseconds.
+pub fn least_of<W: Work>(
+    rt: &impl Clock,
+    alloc: Global,
+    runs: u64,
+    work: &W,
+    due: u64,
+) -> Result<u128, Failure> {
     let mut nanoseconds = u128::MAX;
-    for _i in 0..RUNS {
+    for _i in 0..runs {
         nanoseconds = nanoseconds.min(once(rt, alloc, work, due)?);
     }
     Ok(nanoseconds)
@@ -103,7 +109,7 @@ impl<'a> Rows<'a> {
         copying: &W,
         due: u64,
     ) -> Result<Rows<'a>, Failure> {
-        let copy = least(rt, rt.alloc(), copying, due)?;
+        let copy = least_of(rt, rt.alloc(), RUNS, copying, due)?;
         let rows = Rows { name, unit, copy };
         rows.print(rt, "copied", copy)?;
         Ok(rows)
@@ -117,7 +123,7 @@ impl<'a> Rows<'a> {
         work: &W,
         due: u64,
     ) -> Result<(), Failure> {
-        let taken = least(rt, rt.alloc(), work, due)?;
+        let taken = least_of(rt, rt.alloc(), RUNS, work, due)?;
         self.print(rt, done, taken)
     }
 

@@ -46,9 +46,9 @@ impl<'a, T: Look, S: SchemaRead<Lifetime<'a>, Dst = T>> Work for Reading<'a, S> 
 
 /// Writes a value by the schema `S` into a new vector.
 #[derive(Drop)]
-struct Writing<'a, T, S> {
-    value: &'a T,
-    of: PhantomData<S>,
+pub struct Writing<'a, T, S> {
+    pub value: &'a T,
+    pub of: PhantomData<S>,
 }
 
 impl<T, S: SchemaWrite<Src = T>> Work for Writing<'_, T, S> {
