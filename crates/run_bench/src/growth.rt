@@ -24,11 +24,11 @@ const ITEMS: u64 = 8_000_000;
 /// A length with a limit that holds more than a gibibyte.
 type Length = BincodeLen<10_000_000_000>;
 
-/// The times of an item of a case, in picoseconds, at its second step.
+/// The times of an item at a step, in picoseconds. What isn't written has no time of writing.
 #[derive(Clone, Copy)]
-struct Second {
+struct Times {
     read: u128,
-    written: u128,
+    written: Option<u128>,
 }
 
 /// How often a step is run.
@@ -41,21 +41,28 @@ fn each_of(nanoseconds: u128, count: u64) -> u128 {
     nanoseconds.saturating_mul(1000) / u128::from(count.max(1))
 }
 
-/// Prints the times of a step, and how many hundredths of those of the second step they are.
-fn print_step(
+/// Prints a time of a step, and how many hundredths of that of the second step it is.
+fn print_time(
     rt: &impl Print,
-    name: &str,
-    count: u64,
-    now: Second,
-    second: Second,
+    (count, name): (u64, &str),
+    done: &str,
+    now: u128,
+    second: u128,
 ) -> Result<(), Failure> {
-    let (read, written) = (now.read, now.written);
-    let more = read.saturating_mul(100) / second.read.max(1);
-    let longer = written.saturating_mul(100) / second.written.max(1);
+    let hundredths = now.saturating_mul(100) / second.max(1);
     println!(rt;
-        "{count} {name}: read in {read} picoseconds each ({more}), written in {written} ({longer})"
+        "{count} {name} {done}: {now} picoseconds each, {hundredths} hundredths of the second step"
     )?;
     Ok(())
+}
+
+/// Prints the times of a step beside those of the second one.
+fn print_step(rt: &impl Print, row: (u64, &str), now: Times, second: Times) -> Result<(), Failure> {
+    print_time(rt, row, "read", now.read, second.read)?;
+    match (now.written, second.written) {
+        (Some(written), Some(before)) => print_time(rt, row, "written", written, before),
+        _ => Ok(()),
+    }
 }
 
 /// Times a list of so many items, and prints its row. The encoding is put into the vector.
@@ -68,8 +75,8 @@ fn time_step<
     name: &str,
     lengths: &[u64; 2],
     text: &'a mut Vec<u8>,
-    second: Option<Second>,
-) -> Result<Second, Failure> {
+    second: Option<Times>,
+) -> Result<Times, Failure> {
     let count = lengths[0];
     let runs = runs_of(count);
     let value = Vec::<T>::made(rt.alloc(), 1, lengths.as_slice())?;
@@ -84,11 +91,11 @@ fn time_step<
         of: PhantomData,
     };
     let written = least_of(rt, rt.alloc(), runs, &writing, end_of(text))?;
-    let now = Second {
+    let now = Times {
         read: each_of(read, count),
-        written: each_of(written, count),
+        written: Some(each_of(written, count)),
     };
-    print_step(rt, name, count, now, second.unwrap_or(now))?;
+    print_step(rt, (count, name), now, second.unwrap_or(now))?;
     Ok(now)
 }
 
@@ -116,8 +123,8 @@ fn time_messages<
     stored: &Stored<'_, R>,
     name: &str,
     lengths: &[u64; 2],
-    second: Option<Second>,
-) -> Result<Second, Failure> {
+    second: Option<Times>,
+) -> Result<Times, Failure> {
     let rt = stored.rt;
     let count = lengths[0];
     let values = Vec::<T>::made(rt.alloc(), 1, lengths.as_slice())?;
@@ -135,8 +142,11 @@ fn time_messages<
         least_of(rt, rt.alloc(), runs_of(count), &reading, due)?,
         count,
     );
-    let now = Second { read, written: 0 };
-    print_step(rt, name, count, now, second.unwrap_or(now))?;
+    let now = Times {
+        read,
+        written: None,
+    };
+    print_step(rt, (count, name), now, second.unwrap_or(now))?;
     Ok(now)
 }
 

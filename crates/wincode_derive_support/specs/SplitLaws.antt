@@ -1,5 +1,5 @@
 -- The laws of cases in two parts, from those of each.
-use Rattle.std.proofs.Common.{◌≡◌, sym, ap, subst, ℕ, ◌<◌, ◌≤◌, List, ◌++◌, arith, Result, Ok, Err}
+use Rattle.std.proofs.Common.{◌≡◌, sym, ap, subst, ℕ, ◌<◌, ◌≤◌, List, arith, Result, Ok, Err}
 use Rattle.std.specs.Result.{result_map_both}
 use Rattle.wincode_io.specs.Joins.{IsUnambiguous}
 use Rattle.wincode_base.specs.Grammar.{ReadGrammar, WriteGrammar}

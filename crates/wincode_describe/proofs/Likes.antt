@@ -9,7 +9,6 @@ use Rattle.wincode_base.specs.Arrays.{array_read}
 use Rattle.wincode_base.specs.Grammar.{ReadGrammar}
 use Rattle.wincode_base.specs.InWindow.{windowed_read}
 use Rattle.wincode_base.specs.Pairs.{pair_read}
-use Rattle.wincode_base.specs.Leaves.{number_read}
 use Rattle.wincode_base.specs.TagLaws.{small_tag}
 use Rattle.wincode_base.specs.Tags.{option_read, result_read}
 use Rattle.wincode_describe.specs.Compared.{Within, IsLike, IsWider, AreLike, AreNamed, AreSides, both, side_at}
