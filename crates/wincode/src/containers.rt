@@ -85,13 +85,6 @@ impl<T: SchemaWrite, Len: SeqLen> SchemaWrite for Vec<T, Len> {
         None
     }
 
-    #[inline(always)]
-    fn encode_items(items: &[Self::Src], dst: &mut [u8]) -> bool {
-        let _items = items.len();
-        let _len = dst.len();
-        false
-    }
-
     ghost write_laws = { list_write_laws Len.scheme 24 (λ v. v.items) T.is_valid T.model T.writing T.write_laws };
 }
 
@@ -145,13 +138,6 @@ impl<L: Lending, T: SchemaRead<L>, Len: SeqLen> SchemaRead<L> for Vec<T, Len> {
     fn decode(bytes: &[u8], place: &mut Self::Dst) -> bool {
         let _ = bytes.len();
         let _ = &*place;
-        false
-    }
-
-    #[inline(always)]
-    fn decode_over(bytes: &[u8], places: &mut [Self::Dst]) -> bool {
-        let _ = bytes.len();
-        let _ = &*places;
         false
     }
 
@@ -216,13 +202,6 @@ impl<T: SchemaWrite, Len: SeqLen> SchemaWrite for VecDeque<T, Len> {
         None
     }
 
-    #[inline(always)]
-    fn encode_items(items: &[Self::Src], dst: &mut [u8]) -> bool {
-        let _items = items.len();
-        let _len = dst.len();
-        false
-    }
-
     ghost write_laws = { list_write_laws Len.scheme 24 (λ q. q.items) T.is_valid T.model T.writing T.write_laws };
 }
 
@@ -276,13 +255,6 @@ impl<L: Lending, T: SchemaRead<L>, Len: SeqLen> SchemaRead<L> for VecDeque<T, Le
     fn decode(bytes: &[u8], place: &mut Self::Dst) -> bool {
         let _ = bytes.len();
         let _ = &*place;
-        false
-    }
-
-    #[inline(always)]
-    fn decode_over(bytes: &[u8], places: &mut [Self::Dst]) -> bool {
-        let _ = bytes.len();
-        let _ = &*places;
         false
     }
 
@@ -345,13 +317,6 @@ impl<T: SchemaWrite, Len: SeqLen> SchemaWrite for BoxedSlice<T, Len> {
         None
     }
 
-    #[inline(always)]
-    fn encode_items(items: &[Self::Src], dst: &mut [u8]) -> bool {
-        let _items = items.len();
-        let _len = dst.len();
-        false
-    }
-
     ghost write_laws = { list_write_laws Len.scheme 16 (λ b. (boxed_slice_items b)) T.is_valid T.model T.writing T.write_laws };
 }
 
@@ -405,13 +370,6 @@ impl<L: Lending, T: SchemaRead<L>, Len: SeqLen> SchemaRead<L> for BoxedSlice<T, 
     fn decode(bytes: &[u8], place: &mut Self::Dst) -> bool {
         let _ = bytes.len();
         let _ = &*place;
-        false
-    }
-
-    #[inline(always)]
-    fn decode_over(bytes: &[u8], places: &mut [Self::Dst]) -> bool {
-        let _ = bytes.len();
-        let _ = &*places;
         false
     }
 
@@ -474,13 +432,6 @@ impl<T: SchemaWrite, Len: SeqLen> SchemaWrite for RcSlice<T, Len> {
         None
     }
 
-    #[inline(always)]
-    fn encode_items(items: &[Self::Src], dst: &mut [u8]) -> bool {
-        let _items = items.len();
-        let _len = dst.len();
-        false
-    }
-
     ghost write_laws = { list_write_laws Len.scheme 16 (λ r. (rc_slice_items r)) T.is_valid T.model T.writing T.write_laws };
 }
 
@@ -534,13 +485,6 @@ impl<L: Lending, T: SchemaRead<L>, Len: SeqLen> SchemaRead<L> for RcSlice<T, Len
     fn decode(bytes: &[u8], place: &mut Self::Dst) -> bool {
         let _ = bytes.len();
         let _ = &*place;
-        false
-    }
-
-    #[inline(always)]
-    fn decode_over(bytes: &[u8], places: &mut [Self::Dst]) -> bool {
-        let _ = bytes.len();
-        let _ = &*places;
         false
     }
 
@@ -608,13 +552,6 @@ where
         None
     }
 
-    #[inline(always)]
-    fn encode_items(items: &[Self::Src], dst: &mut [u8]) -> bool {
-        let _items = items.len();
-        let _len = dst.len();
-        false
-    }
-
     ghost write_laws = { scattered_write_laws Len.scheme heap_items T.write_laws };
 }
 
@@ -674,13 +611,6 @@ where
         false
     }
 
-    #[inline(always)]
-    fn decode_over(bytes: &[u8], places: &mut [Self::Dst]) -> bool {
-        let _ = bytes.len();
-        let _ = &*places;
-        false
-    }
-
     ghost read_laws = { bag_read_laws Len.scheme Len.scheme_laws (item_size T.reading.meta) T.model T.read_laws };
 }
 
@@ -736,11 +666,6 @@ impl<T: SchemaWrite> SchemaWrite for Elem<T> {
         T::encode_front(src, dst)
     }
 
-    #[inline(always)]
-    fn encode_items(items: &[T::Src], dst: &mut [u8]) -> bool {
-        T::encode_items(items, dst)
-    }
-
     ghost write_laws = { T.write_laws };
 }
 
@@ -789,11 +714,6 @@ impl<L: Lending, T: SchemaRead<L>> SchemaRead<L> for Elem<T> {
     #[inline(always)]
     fn decode(bytes: &[u8], place: &mut T::Dst) -> bool {
         T::decode(bytes, place)
-    }
-
-    #[inline(always)]
-    fn decode_over(bytes: &[u8], places: &mut [T::Dst]) -> bool {
-        T::decode_over(bytes, places)
     }
 
     ghost read_laws = { T.read_laws };

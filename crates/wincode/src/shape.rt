@@ -95,13 +95,6 @@ impl<T: Shape> SchemaWrite for By<T> {
         None
     }
 
-    #[inline(always)]
-    fn encode_items(items: &[Self::Src], dst: &mut [u8]) -> bool {
-        let _items = items.len();
-        let _len = dst.len();
-        false
-    }
-
     ghost write_laws = { write_laws_by T.parts T.As.SchemaWrite.write_laws };
 }
 
@@ -162,13 +155,6 @@ where
         let _ = &*reader;
         let _ = &*into;
         None
-    }
-
-    #[inline(always)]
-    fn decode_over(bytes: &[u8], places: &mut [Self::Dst]) -> bool {
-        let _ = bytes.len();
-        let _ = &*places;
-        false
     }
 
     ghost read_laws = { T.As.SchemaRead.read_laws };

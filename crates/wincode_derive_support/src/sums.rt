@@ -524,13 +524,6 @@ impl<Tag: TagCode, C: CasesWrite> SchemaWrite for OneOf<Tag, C> {
         None
     }
 
-    #[inline(always)]
-    fn encode_items(items: &[Self::Src], dst: &mut [u8]) -> bool {
-        let _items = items.len();
-        let _len = dst.len();
-        false
-    }
-
     ghost write_laws = { enum_write_laws Tag.size C.tag C.own C.part_laws };
 }
 
@@ -595,13 +588,6 @@ impl<L: Lending, Tag: TagCode, C: CasesRead<L>> SchemaRead<L> for OneOf<Tag, C> 
     fn decode(bytes: &[u8], place: &mut Self::Dst) -> bool {
         let _ = bytes.len();
         let _ = &*place;
-        false
-    }
-
-    #[inline(always)]
-    fn decode_over(bytes: &[u8], places: &mut [Self::Dst]) -> bool {
-        let _ = bytes.len();
-        let _ = &*places;
         false
     }
 

@@ -57,12 +57,12 @@ impl Buffer {
         &bytes[place..end]
     }
 
-    /// How many bytes it has memory for, those that are gone among them.
-    pub(crate) fn capacity(&self) -> usize
-        ensures { length self.now ≤ result }
+    /// The vector that they stand in, with those that are gone.
+    pub(crate) fn memory(&self) -> &Vec<u8>
+        ensures { length self.now ≤ vec_len result.now }
     {
         let (_place, _end) = (self.place, self.end);
-        self.bytes.capacity()
+        &self.bytes
     }
 
     /// Drops the first `n` bytes.

@@ -49,7 +49,12 @@ impl<S: Source> Model for StreamReader<S> {
 
     ghost view = { λ r. record { position = length r.gone.bytes; at_hand = r.buffer; source = r.source; has_ended = r.has_ended; has_failed = r.has_failed } };
 
-    ghost invariant = { λ r. (r.position ≡ min (length r.gone.bytes) byte_limit) × (IsTrue r.has_ended → IsOver (S.state r.source)) × (IsTrue r.has_failed → 0 < (S.state r.source).failures) };
+    ghost invariant = {
+      λ r.
+        (r.position ≡ min (length r.gone.bytes) byte_limit)
+          × (IsTrue r.has_ended → IsOver (S.state r.source))
+          × (IsTrue r.has_failed → 0 < (S.state r.source).failures)
+    };
 }
 
 impl<S: Source> StreamReader<S> {
@@ -108,7 +113,7 @@ impl<S: Source> StreamReader<S> {
     pub fn capacity(&self) -> usize
         ensures { length self.now.at_hand ≤ result }
     {
-        self.buffer.capacity()
+        self.buffer.memory().capacity()
     }
 
     /// How many bytes are at hand.

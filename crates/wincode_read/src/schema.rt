@@ -99,22 +99,9 @@ pub trait SchemaRead<L: Lending> {
 
     /// As `decode`, a value for each place, whose encodings stand one after another.
     #[inline(always)]
-    fn decode_over(bytes: &[u8], places: &mut [Self::Dst]) -> bool
-        ensures { IsTrue result → AreItems (length places.old) reading.reads bytes.now (map model places.new) }
-    {
-        let _ = bytes.len();
-        let _ = &*places;
-        false
-    }
-
-    /// As `decode_over`, and by `decode` where it answers `false`.
-    #[inline(always)]
     final fn take_over(bytes: &[u8], places: &mut [Self::Dst]) -> bool
         ensures { IsTrue result → AreItems (length places.old) reading.reads bytes.now (map model places.new) }
     {
-        if Self::decode_over(bytes, places) {
-            return true;
-        }
         let TypeMeta::Static { size, .. } = Self::type_meta() else {
             return false;
         };

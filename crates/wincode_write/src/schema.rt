@@ -33,8 +33,8 @@ const LONGEST: usize = 64;
 
 /// Writes the values of a type.
 ///
-/// An implementation writes `type_meta`, `size_of` and `write`. The others have bodies. `known_size`, `encode`,
-/// `encode_front` and `encode_items` are for speed alone: what they don't do, `size_of` and `write` do.
+/// An implementation writes `type_meta`, `size_of` and `write`. The others have bodies. `known_size`, `encode_front`
+/// and `write_at_once` are for speed alone: what they don't do, `size_of` and `write` do.
 pub trait SchemaWrite {
     type Src;
 
@@ -100,17 +100,6 @@ pub trait SchemaWrite {
         None
     }
 
-    /// Puts an encoding of each item, one after another, over all of the bytes, where they have as many; or
-    /// answers `false`, and may have put any bytes there.
-    #[inline(always)]
-    fn encode_items(items: &[Self::Src], dst: &mut [u8]) -> bool
-        ensures { IsTrue result → IsEncoded (items_write writing) (map model items.now) dst.new × Each is_valid items.now }
-    {
-        let _items = items.len();
-        let _len = dst.len();
-        false
-    }
-
     /// Puts an encoding of the value over all of the bytes, where it has as many; or answers `false`, and may
     /// have put any bytes there.
     #[inline(always)]
@@ -123,7 +112,8 @@ pub trait SchemaWrite {
         }
     }
 
-    /// As `encode_items`, and by `encode` where it answers `false`.
+    /// Puts an encoding of each item, one after another, over all of the bytes, where they have as many; or
+    /// answers `false`, and may have put any bytes there.
     #[inline(always)]
     final fn put_items(items: &[Self::Src], dst: &mut [u8]) -> bool
         ensures { IsTrue result → IsEncoded (items_write writing) (map model items.now) dst.new × Each is_valid items.now }
@@ -134,9 +124,6 @@ pub trait SchemaWrite {
         };
         if items.len().checked_mul(size) != Some(dst.len()) {
             return false;
-        }
-        if Self::encode_items(items, dst) {
-            return true;
         }
         for i in 0..items.len() {
             let at = i * size;

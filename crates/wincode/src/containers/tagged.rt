@@ -65,13 +65,6 @@ impl<T: SchemaWrite, Tag: TagCode> SchemaWrite for Option<T, Tag> {
         None
     }
 
-    #[inline(always)]
-    fn encode_items(items: &[Self::Src], dst: &mut [u8]) -> bool {
-        let _items = items.len();
-        let _len = dst.len();
-        false
-    }
-
     ghost write_laws = { option_write_laws Tag.size T.is_valid T.model T.writing T.write_laws };
 }
 
@@ -127,13 +120,6 @@ impl<L: Lending, T: SchemaRead<L>, Tag: TagCode> SchemaRead<L> for Option<T, Tag
     fn decode(bytes: &[u8], place: &mut Self::Dst) -> bool {
         let _ = bytes.len();
         let _ = &*place;
-        false
-    }
-
-    #[inline(always)]
-    fn decode_over(bytes: &[u8], places: &mut [Self::Dst]) -> bool {
-        let _ = bytes.len();
-        let _ = &*places;
         false
     }
 
@@ -195,13 +181,6 @@ impl<T: SchemaWrite, E: SchemaWrite, Tag: TagCode> SchemaWrite for Result<T, E, 
         None
     }
 
-    #[inline(always)]
-    fn encode_items(items: &[Self::Src], dst: &mut [u8]) -> bool {
-        let _items = items.len();
-        let _len = dst.len();
-        false
-    }
-
     ghost write_laws = { result_write_laws Tag.size T.is_valid E.is_valid T.model E.model T.writing E.writing T.write_laws E.write_laws };
 }
 
@@ -258,13 +237,6 @@ impl<L: Lending, T: SchemaRead<L>, E: SchemaRead<L>, Tag: TagCode> SchemaRead<L>
     fn decode(bytes: &[u8], place: &mut Self::Dst) -> bool {
         let _ = bytes.len();
         let _ = &*place;
-        false
-    }
-
-    #[inline(always)]
-    fn decode_over(bytes: &[u8], places: &mut [Self::Dst]) -> bool {
-        let _ = bytes.len();
-        let _ = &*places;
         false
     }
 

@@ -138,13 +138,6 @@ impl<L: Lending, T: SchemaRead<L>, const N: usize> SchemaRead<L> for Items<T, N>
         None
     }
 
-    #[inline(always)]
-    fn decode_over(bytes: &[u8], places: &mut [Self::Dst]) -> bool {
-        let _ = bytes.len();
-        let _ = &*places;
-        false
-    }
-
     ghost read_laws = { array_read_laws N T.is_valid T.reading T.read_laws };
 }
 
@@ -195,13 +188,6 @@ impl<L: Lending, T: SchemaRead<L>, const N: usize> SchemaRead<L> for [T; N] {
     #[inline(always)]
     fn decode(bytes: &[u8], place: &mut [T::Dst; N]) -> bool {
         <Items<T, N> as SchemaRead<L>>::decode(bytes, place)
-    }
-
-    #[inline(always)]
-    fn decode_over(bytes: &[u8], places: &mut [[T::Dst; N]]) -> bool {
-        let _ = bytes.len();
-        let _ = &*places;
-        false
     }
 
     ghost read_laws = { windowed_read_laws (array_read_laws N T.is_valid T.reading T.read_laws) };

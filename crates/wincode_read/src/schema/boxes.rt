@@ -71,13 +71,6 @@ impl<L: Lending, T: SchemaRead<L>> SchemaRead<L> for Box<T> {
         false
     }
 
-    #[inline(always)]
-    fn decode_over(bytes: &[u8], places: &mut [Self::Dst]) -> bool {
-        let _ = bytes.len();
-        let _ = &*places;
-        false
-    }
-
     ghost read_laws = { boxed_read_laws T.is_valid T.reading T.read_laws };
 }
 
@@ -139,13 +132,6 @@ impl<L: Lending, T: SchemaRead<L>> SchemaRead<L> for Rc<T> {
     fn decode(bytes: &[u8], place: &mut Self::Dst) -> bool {
         let _ = bytes.len();
         let _ = &*place;
-        false
-    }
-
-    #[inline(always)]
-    fn decode_over(bytes: &[u8], places: &mut [Self::Dst]) -> bool {
-        let _ = bytes.len();
-        let _ = &*places;
         false
     }
 

@@ -89,6 +89,7 @@ fn gather_items<C: Gather<T::Dst>, L: Lending, T: SchemaRead<L>, R: Reader<L>>(
     Ok(gathered)
 }
 
+/// It is made of a vector, and keeps its memory.
 impl<L: Lending, U: Drop, T: SchemaRead<L, Dst = U>> FromItems<L, T> for VecDeque<U> {
     ghost made = { λ ds q. q.items ≡ ds };
 
@@ -97,7 +98,8 @@ impl<L: Lending, U: Drop, T: SchemaRead<L, Dst = U>> FromItems<L, T> for VecDequ
         reader: &mut R,
         n: usize,
     ) -> ReadResult<VecDeque<U>> {
-        gather_items::<VecDeque<U>, L, T, R>(alloc, reader, n)
+        let items = <Vec<U> as FromItems<L, T>>::from_items::<R>(alloc, reader, n)?;
+        Ok(VecDeque::from(items))
     }
 }
 

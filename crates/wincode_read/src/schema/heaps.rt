@@ -80,12 +80,5 @@ where
         false
     }
 
-    #[inline(always)]
-    fn decode_over(bytes: &[u8], places: &mut [Self::Dst]) -> bool {
-        let _ = bytes.len();
-        let _ = &*places;
-        false
-    }
-
     ghost read_laws = { bag_read_laws (bincode preallocation_limit) (bincode_laws preallocation_limit) (item_size T.reading.meta) T.model T.read_laws };
 }

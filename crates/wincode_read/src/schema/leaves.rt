@@ -88,15 +88,6 @@ impl<L: Lending> SchemaRead<L> for u8 {
         decode_form(bytes, place)
     }
 
-    #[inline(always)]
-    fn decode_over(bytes: &[u8], places: &mut [u8]) -> bool {
-        if bytes.len() != places.len() {
-            return false;
-        }
-        places.copy_from_slice(bytes);
-        true
-    }
-
     ghost read_laws = { number_read_laws 1 true (lit≤ tt) };
 }
 
@@ -160,13 +151,6 @@ impl<L: Lending> SchemaRead<L> for usize {
         None
     }
 
-    #[inline(always)]
-    fn decode_over(bytes: &[u8], places: &mut [Self::Dst]) -> bool {
-        let _ = bytes.len();
-        let _ = &*places;
-        false
-    }
-
     ghost read_laws = { number_read_laws 8 false (lit≤ tt) };
 }
 
@@ -228,13 +212,6 @@ impl<L: Lending> SchemaRead<L> for isize {
         let _ = &*reader;
         let _ = &*into;
         None
-    }
-
-    #[inline(always)]
-    fn decode_over(bytes: &[u8], places: &mut [Self::Dst]) -> bool {
-        let _ = bytes.len();
-        let _ = &*places;
-        false
     }
 
     ghost read_laws = { signed_read_laws w64 refl false (lit≤ tt) };
@@ -305,13 +282,6 @@ impl<L: Lending> SchemaRead<L> for bool {
         None
     }
 
-    #[inline(always)]
-    fn decode_over(bytes: &[u8], places: &mut [Self::Dst]) -> bool {
-        let _ = bytes.len();
-        let _ = &*places;
-        false
-    }
-
     ghost read_laws = { bool_read_laws };
 }
 
@@ -364,13 +334,6 @@ impl<L: Lending> SchemaRead<L> for () {
         let _ = &*reader;
         let _ = &*into;
         None
-    }
-
-    #[inline(always)]
-    fn decode_over(bytes: &[u8], places: &mut [Self::Dst]) -> bool {
-        let _ = bytes.len();
-        let _ = &*places;
-        false
     }
 
     ghost read_laws = { unit_read_laws };
@@ -429,13 +392,6 @@ impl<L: Lending, T> SchemaRead<L> for PhantomData<T> {
         let _ = &*reader;
         let _ = &*into;
         None
-    }
-
-    #[inline(always)]
-    fn decode_over(bytes: &[u8], places: &mut [Self::Dst]) -> bool {
-        let _ = bytes.len();
-        let _ = &*places;
-        false
     }
 
     ghost read_laws = { unit_read_laws };

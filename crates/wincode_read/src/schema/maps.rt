@@ -95,13 +95,6 @@ where
         false
     }
 
-    #[inline(always)]
-    fn decode_over(bytes: &[u8], places: &mut [Self::Dst]) -> bool {
-        let _ = bytes.len();
-        let _ = &*places;
-        false
-    }
-
     ghost read_laws = { map_read_laws (bincode preallocation_limit) (bincode_laws preallocation_limit)
         (pair_size K.reading.meta V.reading.meta) K.model V.model K.read_laws V.read_laws K.Dst.cmp K.Dst.Ord.total K.Dst.eq K.Dst.matches_eq K.alike };
 }
@@ -170,13 +163,6 @@ where
         false
     }
 
-    #[inline(always)]
-    fn decode_over(bytes: &[u8], places: &mut [Self::Dst]) -> bool {
-        let _ = bytes.len();
-        let _ = &*places;
-        false
-    }
-
     ghost read_laws = { hash_map_read_laws (bincode preallocation_limit) (bincode_laws preallocation_limit)
         (pair_size K.reading.meta V.reading.meta) K.model V.model K.read_laws V.read_laws K.Dst.eq K.Dst.Eq.laws K.alike };
 }
@@ -239,13 +225,6 @@ where
         false
     }
 
-    #[inline(always)]
-    fn decode_over(bytes: &[u8], places: &mut [Self::Dst]) -> bool {
-        let _ = bytes.len();
-        let _ = &*places;
-        false
-    }
-
     ghost read_laws = { set_read_laws (bincode preallocation_limit) (bincode_laws preallocation_limit)
         (item_size K.reading.meta) K.model K.read_laws K.Dst.cmp K.Dst.Ord.total K.Dst.eq K.Dst.matches_eq K.alike };
 }
@@ -305,13 +284,6 @@ where
     fn decode(bytes: &[u8], place: &mut Self::Dst) -> bool {
         let _ = bytes.len();
         let _ = &*place;
-        false
-    }
-
-    #[inline(always)]
-    fn decode_over(bytes: &[u8], places: &mut [Self::Dst]) -> bool {
-        let _ = bytes.len();
-        let _ = &*places;
         false
     }
 

@@ -102,12 +102,5 @@ impl<L: Lending, T: ZeroCopy> SchemaRead<L> for Pod<T> {
         decode_form(bytes, place)
     }
 
-    #[inline(always)]
-    fn decode_over(bytes: &[u8], places: &mut [Self::Dst]) -> bool {
-        let _ = bytes.len();
-        let _ = &*places;
-        false
-    }
-
     ghost read_laws = { form_read_laws T.byte_form true (form_prealloc T.size) 0 (form_prealloc_some T.size) };
 }

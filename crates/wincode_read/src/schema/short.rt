@@ -65,12 +65,5 @@ impl<L: Lending> SchemaRead<L> for ShortU16 {
         false
     }
 
-    #[inline(always)]
-    fn decode_over(bytes: &[u8], places: &mut [Self::Dst]) -> bool {
-        let _ = bytes.len();
-        let _ = &*places;
-        false
-    }
-
     ghost read_laws = { short_read_laws };
 }

@@ -101,13 +101,6 @@ impl<L: Lending> SchemaRead<L> for char {
         false
     }
 
-    #[inline(always)]
-    fn decode_over(bytes: &[u8], places: &mut [Self::Dst]) -> bool {
-        let _ = bytes.len();
-        let _ = &*places;
-        false
-    }
-
     ghost read_laws = { char_read_laws };
 }
 
@@ -277,13 +270,6 @@ impl<L: Lending> SchemaRead<L> for String {
     fn decode(bytes: &[u8], place: &mut Self::Dst) -> bool {
         let _ = bytes.len();
         let _ = &*place;
-        false
-    }
-
-    #[inline(always)]
-    fn decode_over(bytes: &[u8], places: &mut [Self::Dst]) -> bool {
-        let _ = bytes.len();
-        let _ = &*places;
         false
     }
 

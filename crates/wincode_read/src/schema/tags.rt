@@ -146,13 +146,6 @@ impl<L: Lending, T: SchemaRead<L>> SchemaRead<L> for Option<T> {
         false
     }
 
-    #[inline(always)]
-    fn decode_over(bytes: &[u8], places: &mut [Self::Dst]) -> bool {
-        let _ = bytes.len();
-        let _ = &*places;
-        false
-    }
-
     ghost read_laws = { option_read_laws 1 (lit≤ tt) T.is_valid T.reading T.read_laws };
 }
 
@@ -208,13 +201,6 @@ impl<L: Lending, T: SchemaRead<L>, E: SchemaRead<L>> SchemaRead<L> for Result<T,
         let _ = &*reader;
         let _ = &*into;
         None
-    }
-
-    #[inline(always)]
-    fn decode_over(bytes: &[u8], places: &mut [Self::Dst]) -> bool {
-        let _ = bytes.len();
-        let _ = &*places;
-        false
     }
 
     ghost read_laws = { result_read_laws 4 (lit≤ tt) T.is_valid E.is_valid T.reading E.reading T.read_laws E.read_laws };

@@ -101,12 +101,5 @@ impl<L: Lending, A: SchemaRead<L>, B: SchemaRead<L>> SchemaRead<L> for Members2<
         None
     }
 
-    #[inline(always)]
-    fn decode_over(bytes: &[u8], places: &mut [Self::Dst]) -> bool {
-        let _ = bytes.len();
-        let _ = &*places;
-        false
-    }
-
     ghost read_laws = { pair_read_laws A.read_laws B.read_laws };
 }

@@ -118,13 +118,6 @@ impl<L: Lending, B: Borrowed<L>, T: ZeroCopy> SchemaRead<L> for View<B, T> {
         false
     }
 
-    #[inline(always)]
-    fn decode_over(bytes: &[u8], places: &mut [Self::Dst]) -> bool {
-        let _ = bytes.len();
-        let _ = &*places;
-        false
-    }
-
     ghost read_laws = { form_read_laws T.byte_form false 8 B.borrow (lit≤ tt) };
 }
 
@@ -179,13 +172,6 @@ impl<L: Lending, B: Borrowed<L>, T: ZeroCopy> SchemaRead<L> for SliceView<B, T> 
     fn decode(bytes: &[u8], place: &mut Self::Dst) -> bool {
         let _ = bytes.len();
         let _ = &*place;
-        false
-    }
-
-    #[inline(always)]
-    fn decode_over(bytes: &[u8], places: &mut [Self::Dst]) -> bool {
-        let _ = bytes.len();
-        let _ = &*places;
         false
     }
 

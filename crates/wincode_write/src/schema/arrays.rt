@@ -60,13 +60,6 @@ impl<T: SchemaWrite, const N: usize> SchemaWrite for Items<T, N> {
         None
     }
 
-    #[inline(always)]
-    fn encode_items(items: &[Self::Src], dst: &mut [u8]) -> bool {
-        let _items = items.len();
-        let _len = dst.len();
-        false
-    }
-
     ghost write_laws = { array_write_laws N T.is_valid T.model T.writing T.write_laws };
 }
 
@@ -106,11 +99,6 @@ impl<T: SchemaWrite, const N: usize> SchemaWrite for [T; N] {
     #[inline(always)]
     fn encode_front(src: &[T::Src; N], dst: &mut [u8]) -> Option<usize> {
         <Items<T, N> as SchemaWrite>::encode_front(src, dst)
-    }
-
-    #[inline(always)]
-    fn encode_items(items: &[[T::Src; N]], dst: &mut [u8]) -> bool {
-        <Items<T, N> as SchemaWrite>::encode_items(items, dst)
     }
 
     ghost write_laws = { windowed_write_laws ⟦<Items<T, N> as SchemaWrite>⟧.write_laws };

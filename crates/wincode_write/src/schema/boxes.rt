@@ -50,13 +50,6 @@ impl<T: SchemaWrite> SchemaWrite for Box<T> {
         None
     }
 
-    #[inline(always)]
-    fn encode_items(items: &[Self::Src], dst: &mut [u8]) -> bool {
-        let _items = items.len();
-        let _len = dst.len();
-        false
-    }
-
     ghost write_laws = { boxed_write_laws T.is_valid T.model (λ held. held.value) T.writing T.write_laws };
 }
 
@@ -99,13 +92,6 @@ impl<T: SchemaWrite> SchemaWrite for Rc<T> {
     #[inline(always)]
     fn known_size() -> Option<usize> {
         None
-    }
-
-    #[inline(always)]
-    fn encode_items(items: &[Self::Src], dst: &mut [u8]) -> bool {
-        let _items = items.len();
-        let _len = dst.len();
-        false
     }
 
     ghost write_laws = { boxed_write_laws T.is_valid T.model (λ held. held.value) T.writing T.write_laws };

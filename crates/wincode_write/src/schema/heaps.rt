@@ -67,12 +67,5 @@ where
         None
     }
 
-    #[inline(always)]
-    fn encode_items(items: &[Self::Src], dst: &mut [u8]) -> bool {
-        let _items = items.len();
-        let _len = dst.len();
-        false
-    }
-
     ghost write_laws = { scattered_write_laws (bincode preallocation_limit) heap_items T.write_laws };
 }

@@ -72,15 +72,6 @@ impl SchemaWrite for u8 {
         encode_form::<u8>(src, dst)
     }
 
-    #[inline(always)]
-    fn encode_items(items: &[u8], dst: &mut [u8]) -> bool {
-        if items.len() != dst.len() {
-            return false;
-        }
-        dst.copy_from_slice(items);
-        true
-    }
-
     ghost write_laws = { number_write_laws 1 true };
 }
 
@@ -128,13 +119,6 @@ impl SchemaWrite for usize {
         None
     }
 
-    #[inline(always)]
-    fn encode_items(items: &[Self::Src], dst: &mut [u8]) -> bool {
-        let _items = items.len();
-        let _len = dst.len();
-        false
-    }
-
     ghost write_laws = { number_write_laws 8 false };
 }
 
@@ -180,13 +164,6 @@ impl SchemaWrite for isize {
         let _ = &*writer;
         let _items = items.len();
         None
-    }
-
-    #[inline(always)]
-    fn encode_items(items: &[Self::Src], dst: &mut [u8]) -> bool {
-        let _items = items.len();
-        let _len = dst.len();
-        false
     }
 
     ghost write_laws = { signed_write_laws w64 false };
@@ -243,13 +220,6 @@ impl SchemaWrite for bool {
         None
     }
 
-    #[inline(always)]
-    fn encode_items(items: &[Self::Src], dst: &mut [u8]) -> bool {
-        let _items = items.len();
-        let _len = dst.len();
-        false
-    }
-
     ghost write_laws = { bool_write_laws };
 }
 
@@ -299,13 +269,6 @@ impl SchemaWrite for () {
         None
     }
 
-    #[inline(always)]
-    fn encode_items(items: &[Self::Src], dst: &mut [u8]) -> bool {
-        let _items = items.len();
-        let _len = dst.len();
-        false
-    }
-
     ghost write_laws = { unit_write_laws };
 }
 
@@ -353,13 +316,6 @@ impl<T> SchemaWrite for PhantomData<T> {
         let _ = &*writer;
         let _items = items.len();
         None
-    }
-
-    #[inline(always)]
-    fn encode_items(items: &[Self::Src], dst: &mut [u8]) -> bool {
-        let _items = items.len();
-        let _len = dst.len();
-        false
     }
 
     ghost write_laws = { unit_write_laws };

@@ -65,13 +65,6 @@ impl<T: SchemaWrite> SchemaWrite for Vec<T> {
         None
     }
 
-    #[inline(always)]
-    fn encode_items(items: &[Self::Src], dst: &mut [u8]) -> bool {
-        let _items = items.len();
-        let _len = dst.len();
-        false
-    }
-
     ghost write_laws = { list_write_laws (bincode preallocation_limit) 24 (λ v. v.items) T.is_valid T.model T.writing T.write_laws };
 }
 
@@ -117,13 +110,6 @@ impl<T: SchemaWrite> SchemaWrite for VecDeque<T> {
         let _ = src;
         let _len = dst.len();
         None
-    }
-
-    #[inline(always)]
-    fn encode_items(items: &[Self::Src], dst: &mut [u8]) -> bool {
-        let _items = items.len();
-        let _len = dst.len();
-        false
     }
 
     ghost write_laws = { list_write_laws (bincode preallocation_limit) 24 (λ q. q.items) T.is_valid T.model T.writing T.write_laws };
@@ -175,13 +161,6 @@ impl<T: SchemaWrite> SchemaWrite for LinkedList<T> {
         None
     }
 
-    #[inline(always)]
-    fn encode_items(items: &[Self::Src], dst: &mut [u8]) -> bool {
-        let _items = items.len();
-        let _len = dst.len();
-        false
-    }
-
     ghost write_laws = { list_write_laws (bincode preallocation_limit) 24 (λ l. l) T.is_valid T.model T.writing T.write_laws };
 }
 
@@ -219,12 +198,6 @@ impl<'a, U: 'a, T: SchemaWrite<Src = U>> SchemaWrite for &'a [T] {
     #[inline]
     fn encode_front(src: &&'a [U], dst: &mut [u8]) -> Option<usize> {
         encode_list::<BincodeLen<NO_LIMIT>, T, 16>(*src, dst)
-    }
-
-    fn encode_items(items: &[&'a [U]], dst: &mut [u8]) -> bool {
-        let _items = items.len();
-        let _len = dst.len();
-        false
     }
 
     #[inline(always)]

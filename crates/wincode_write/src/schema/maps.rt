@@ -88,13 +88,6 @@ where
         None
     }
 
-    #[inline(always)]
-    fn encode_items(items: &[Self::Src], dst: &mut [u8]) -> bool {
-        let _items = items.len();
-        let _len = dst.len();
-        false
-    }
-
     ghost write_laws = { sounder_laws (IsOrdered K.Src.cmp) (list_write_laws_of (bincode preallocation_limit) 24 (pair_size K.writing.meta V.writing.meta) (λ m. m.entries)
         (λ e. K.is_valid e.0 × V.is_valid e.1) (sees K.model V.model)
         (pair_write K.writing V.writing) (pair_write_laws K.write_laws V.write_laws)) };
@@ -158,13 +151,6 @@ where
         None
     }
 
-    #[inline(always)]
-    fn encode_items(items: &[Self::Src], dst: &mut [u8]) -> bool {
-        let _items = items.len();
-        let _len = dst.len();
-        false
-    }
-
     ghost write_laws = { sounder_laws (IsUnique K.Src.eq) (scattered_write_laws_of (bincode preallocation_limit) (pair_size K.writing.meta V.writing.meta) (λ m. m.entries)
         (pair_write_laws K.write_laws V.write_laws)) };
 }
@@ -216,13 +202,6 @@ where
         None
     }
 
-    #[inline(always)]
-    fn encode_items(items: &[Self::Src], dst: &mut [u8]) -> bool {
-        let _items = items.len();
-        let _len = dst.len();
-        false
-    }
-
     ghost write_laws = { sounder_laws (λ s. IsStrictlySortedBy K.Src.cmp s.keys) (list_write_laws (bincode preallocation_limit) 24 (λ s. s.keys) K.is_valid K.model K.writing K.write_laws) };
 }
 
@@ -271,13 +250,6 @@ where
         let _ = src;
         let _len = dst.len();
         None
-    }
-
-    #[inline(always)]
-    fn encode_items(items: &[Self::Src], dst: &mut [u8]) -> bool {
-        let _items = items.len();
-        let _len = dst.len();
-        false
     }
 
     ghost write_laws = { sounder_laws (λ s. IsDistinct K.Src.eq s.keys) (scattered_write_laws (bincode preallocation_limit) (λ s. s.keys) K.write_laws) };

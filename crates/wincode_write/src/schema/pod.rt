@@ -79,12 +79,5 @@ impl<T: ZeroCopy> SchemaWrite for Pod<T> {
         None
     }
 
-    #[inline(always)]
-    fn encode_items(items: &[Self::Src], dst: &mut [u8]) -> bool {
-        let _items = items.len();
-        let _len = dst.len();
-        false
-    }
-
     ghost write_laws = { form_write_laws T.byte_form (λ v. v) true (form_prealloc T.size) };
 }

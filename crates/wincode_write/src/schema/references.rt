@@ -48,12 +48,6 @@ impl<'a, U: 'a, T: SchemaWrite<Src = U>> SchemaWrite for &'a T {
         T::encode_front(*src, dst)
     }
 
-    fn encode_items(items: &[&'a U], dst: &mut [u8]) -> bool {
-        let _items = items.len();
-        let _len = dst.len();
-        false
-    }
-
     #[inline(always)]
     fn known_size() -> Option<usize> {
         None

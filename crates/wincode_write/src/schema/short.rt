@@ -53,12 +53,5 @@ impl SchemaWrite for ShortU16 {
         None
     }
 
-    #[inline(always)]
-    fn encode_items(items: &[Self::Src], dst: &mut [u8]) -> bool {
-        let _items = items.len();
-        let _len = dst.len();
-        false
-    }
-
     ghost write_laws = { short_write_laws (λ v. v.0 < 2 ^ 16) (λ v. v.0) };
 }

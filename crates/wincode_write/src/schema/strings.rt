@@ -62,13 +62,6 @@ impl SchemaWrite for char {
         None
     }
 
-    #[inline(always)]
-    fn encode_items(items: &[Self::Src], dst: &mut [u8]) -> bool {
-        let _items = items.len();
-        let _len = dst.len();
-        false
-    }
-
     ghost write_laws = { char_write_laws };
 }
 
@@ -133,13 +126,6 @@ impl SchemaWrite for String {
     #[inline(always)]
     fn known_size() -> Option<usize> {
         None
-    }
-
-    #[inline(always)]
-    fn encode_items(items: &[Self::Src], dst: &mut [u8]) -> bool {
-        let _items = items.len();
-        let _len = dst.len();
-        false
     }
 
     ghost write_laws = { str_write_laws 24 (λ s. IsUtf8 (string_bytes s)) (λ s. string_bytes s) };

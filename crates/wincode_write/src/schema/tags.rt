@@ -119,13 +119,6 @@ impl<T: SchemaWrite> SchemaWrite for Option<T> {
         None
     }
 
-    #[inline(always)]
-    fn encode_items(items: &[Self::Src], dst: &mut [u8]) -> bool {
-        let _items = items.len();
-        let _len = dst.len();
-        false
-    }
-
     ghost write_laws = { option_write_laws 1 T.is_valid T.model T.writing T.write_laws };
 }
 
@@ -171,13 +164,6 @@ impl<T: SchemaWrite, E: SchemaWrite> SchemaWrite for Result<T, E> {
     #[inline(always)]
     fn known_size() -> Option<usize> {
         None
-    }
-
-    #[inline(always)]
-    fn encode_items(items: &[Self::Src], dst: &mut [u8]) -> bool {
-        let _items = items.len();
-        let _len = dst.len();
-        false
     }
 
     ghost write_laws = { result_write_laws 4 T.is_valid E.is_valid T.model E.model T.writing E.writing T.write_laws E.write_laws };

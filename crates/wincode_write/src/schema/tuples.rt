@@ -78,13 +78,6 @@ impl<A: SchemaWrite, B: SchemaWrite> SchemaWrite for Members2<A, B> {
         None
     }
 
-    #[inline(always)]
-    fn encode_items(items: &[Self::Src], dst: &mut [u8]) -> bool {
-        let _items = items.len();
-        let _len = dst.len();
-        false
-    }
-
     ghost write_laws = { pair_write_laws A.write_laws B.write_laws };
 }
 
@@ -122,12 +115,6 @@ impl<'a, U: 'a, T: SchemaWrite<Src = U>> SchemaWrite for &'a Member<T> {
     #[inline(always)]
     fn encode_front(src: &&'a U, dst: &mut [u8]) -> Option<usize> {
         T::encode_front(*src, dst)
-    }
-
-    fn encode_items(items: &[&'a U], dst: &mut [u8]) -> bool {
-        let _items = items.len();
-        let _len = dst.len();
-        false
     }
 
     #[inline(always)]

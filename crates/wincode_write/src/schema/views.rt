@@ -62,13 +62,6 @@ impl<B: SharedBytes, T: ZeroCopy> SchemaWrite for View<B, T> {
         None
     }
 
-    #[inline(always)]
-    fn encode_items(items: &[Self::Src], dst: &mut [u8]) -> bool {
-        let _items = items.len();
-        let _len = dst.len();
-        false
-    }
-
     ghost write_laws = { form_write_laws T.byte_form (λ v. value_seen v) false 8 };
 }
 
@@ -142,13 +135,6 @@ impl<B: SharedBytes, T: ZeroCopy> SchemaWrite for SliceView<B, T> {
         let _ = src;
         let _len = dst.len();
         None
-    }
-
-    #[inline(always)]
-    fn encode_items(items: &[Self::Src], dst: &mut [u8]) -> bool {
-        let _items = items.len();
-        let _len = dst.len();
-        false
     }
 
     ghost write_laws = { lent_write_laws (λ v. values_seen v) T.is_valid

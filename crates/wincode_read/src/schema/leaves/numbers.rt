@@ -69,13 +69,6 @@ impl<L: Lending> SchemaRead<L> for u16 {
         decode_form(bytes, place)
     }
 
-    #[inline(always)]
-    fn decode_over(bytes: &[u8], places: &mut [Self::Dst]) -> bool {
-        let _ = bytes.len();
-        let _ = &*places;
-        false
-    }
-
     ghost read_laws = { number_read_laws 2 true (lit≤ tt) };
 }
 
@@ -134,13 +127,6 @@ impl<L: Lending> SchemaRead<L> for u32 {
         decode_form(bytes, place)
     }
 
-    #[inline(always)]
-    fn decode_over(bytes: &[u8], places: &mut [Self::Dst]) -> bool {
-        let _ = bytes.len();
-        let _ = &*places;
-        false
-    }
-
     ghost read_laws = { number_read_laws 4 true (lit≤ tt) };
 }
 
@@ -197,13 +183,6 @@ impl<L: Lending> SchemaRead<L> for u64 {
     #[inline(always)]
     fn decode(bytes: &[u8], place: &mut u64) -> bool {
         decode_form(bytes, place)
-    }
-
-    #[inline(always)]
-    fn decode_over(bytes: &[u8], places: &mut [Self::Dst]) -> bool {
-        let _ = bytes.len();
-        let _ = &*places;
-        false
     }
 
     ghost read_laws = { number_read_laws 8 true (lit≤ tt) };
@@ -268,13 +247,6 @@ impl<L: Lending> SchemaRead<L> for u128 {
         decode_form(bytes, place)
     }
 
-    #[inline(always)]
-    fn decode_over(bytes: &[u8], places: &mut [Self::Dst]) -> bool {
-        let _ = bytes.len();
-        let _ = &*places;
-        false
-    }
-
     ghost read_laws = { number_read_laws 16 true (lit≤ tt) };
 }
 
@@ -331,13 +303,6 @@ impl<L: Lending> SchemaRead<L> for i8 {
     #[inline(always)]
     fn decode(bytes: &[u8], place: &mut i8) -> bool {
         decode_form(bytes, place)
-    }
-
-    #[inline(always)]
-    fn decode_over(bytes: &[u8], places: &mut [Self::Dst]) -> bool {
-        let _ = bytes.len();
-        let _ = &*places;
-        false
     }
 
     ghost read_laws = { signed_read_laws w8 refl true (lit≤ tt) };
@@ -398,13 +363,6 @@ impl<L: Lending> SchemaRead<L> for i16 {
         decode_form(bytes, place)
     }
 
-    #[inline(always)]
-    fn decode_over(bytes: &[u8], places: &mut [Self::Dst]) -> bool {
-        let _ = bytes.len();
-        let _ = &*places;
-        false
-    }
-
     ghost read_laws = { signed_read_laws w16 refl true (lit≤ tt) };
 }
 
@@ -463,13 +421,6 @@ impl<L: Lending> SchemaRead<L> for i32 {
         decode_form(bytes, place)
     }
 
-    #[inline(always)]
-    fn decode_over(bytes: &[u8], places: &mut [Self::Dst]) -> bool {
-        let _ = bytes.len();
-        let _ = &*places;
-        false
-    }
-
     ghost read_laws = { signed_read_laws w32 refl true (lit≤ tt) };
 }
 
@@ -526,13 +477,6 @@ impl<L: Lending> SchemaRead<L> for i64 {
     #[inline(always)]
     fn decode(bytes: &[u8], place: &mut i64) -> bool {
         decode_form(bytes, place)
-    }
-
-    #[inline(always)]
-    fn decode_over(bytes: &[u8], places: &mut [Self::Dst]) -> bool {
-        let _ = bytes.len();
-        let _ = &*places;
-        false
     }
 
     ghost read_laws = { signed_read_laws w64 refl true (lit≤ tt) };
@@ -595,13 +539,6 @@ impl<L: Lending> SchemaRead<L> for i128 {
     #[inline(always)]
     fn decode(bytes: &[u8], place: &mut i128) -> bool {
         decode_form(bytes, place)
-    }
-
-    #[inline(always)]
-    fn decode_over(bytes: &[u8], places: &mut [Self::Dst]) -> bool {
-        let _ = bytes.len();
-        let _ = &*places;
-        false
     }
 
     ghost read_laws = { signed_read_laws w128 refl true (lit≤ tt) };

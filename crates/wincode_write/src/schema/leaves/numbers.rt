@@ -60,13 +60,6 @@ impl SchemaWrite for u16 {
         encode_form::<u16>(src, dst)
     }
 
-    #[inline(always)]
-    fn encode_items(items: &[Self::Src], dst: &mut [u8]) -> bool {
-        let _items = items.len();
-        let _len = dst.len();
-        false
-    }
-
     ghost write_laws = { number_write_laws 2 true };
 }
 
@@ -116,13 +109,6 @@ impl SchemaWrite for u32 {
     #[inline(always)]
     fn encode_front(src: &u32, dst: &mut [u8]) -> Option<usize> {
         encode_form::<u32>(src, dst)
-    }
-
-    #[inline(always)]
-    fn encode_items(items: &[Self::Src], dst: &mut [u8]) -> bool {
-        let _items = items.len();
-        let _len = dst.len();
-        false
     }
 
     ghost write_laws = { number_write_laws 4 true };
@@ -176,13 +162,6 @@ impl SchemaWrite for u64 {
         encode_form::<u64>(src, dst)
     }
 
-    #[inline(always)]
-    fn encode_items(items: &[Self::Src], dst: &mut [u8]) -> bool {
-        let _items = items.len();
-        let _len = dst.len();
-        false
-    }
-
     ghost write_laws = { number_write_laws 8 true };
 }
 
@@ -232,13 +211,6 @@ impl SchemaWrite for u128 {
     #[inline(always)]
     fn encode_front(src: &u128, dst: &mut [u8]) -> Option<usize> {
         encode_form::<u128>(src, dst)
-    }
-
-    #[inline(always)]
-    fn encode_items(items: &[Self::Src], dst: &mut [u8]) -> bool {
-        let _items = items.len();
-        let _len = dst.len();
-        false
     }
 
     ghost write_laws = { number_write_laws 16 true };
@@ -292,13 +264,6 @@ impl SchemaWrite for i8 {
         encode_form::<i8>(src, dst)
     }
 
-    #[inline(always)]
-    fn encode_items(items: &[Self::Src], dst: &mut [u8]) -> bool {
-        let _items = items.len();
-        let _len = dst.len();
-        false
-    }
-
     ghost write_laws = { signed_write_laws w8 true };
 }
 
@@ -348,13 +313,6 @@ impl SchemaWrite for i16 {
     #[inline(always)]
     fn encode_front(src: &i16, dst: &mut [u8]) -> Option<usize> {
         encode_form::<i16>(src, dst)
-    }
-
-    #[inline(always)]
-    fn encode_items(items: &[Self::Src], dst: &mut [u8]) -> bool {
-        let _items = items.len();
-        let _len = dst.len();
-        false
     }
 
     ghost write_laws = { signed_write_laws w16 true };
@@ -408,13 +366,6 @@ impl SchemaWrite for i32 {
         encode_form::<i32>(src, dst)
     }
 
-    #[inline(always)]
-    fn encode_items(items: &[Self::Src], dst: &mut [u8]) -> bool {
-        let _items = items.len();
-        let _len = dst.len();
-        false
-    }
-
     ghost write_laws = { signed_write_laws w32 true };
 }
 
@@ -466,13 +417,6 @@ impl SchemaWrite for i64 {
         encode_form::<i64>(src, dst)
     }
 
-    #[inline(always)]
-    fn encode_items(items: &[Self::Src], dst: &mut [u8]) -> bool {
-        let _items = items.len();
-        let _len = dst.len();
-        false
-    }
-
     ghost write_laws = { signed_write_laws w64 true };
 }
 
@@ -522,13 +466,6 @@ impl SchemaWrite for i128 {
     #[inline(always)]
     fn encode_front(src: &i128, dst: &mut [u8]) -> Option<usize> {
         encode_form::<i128>(src, dst)
-    }
-
-    #[inline(always)]
-    fn encode_items(items: &[Self::Src], dst: &mut [u8]) -> bool {
-        let _items = items.len();
-        let _len = dst.len();
-        false
     }
 
     ghost write_laws = { signed_write_laws w128 true };

@@ -206,13 +206,6 @@ impl<
         None
     }
 
-    #[inline(always)]
-    fn encode_items(items: &[Self::Src], dst: &mut [u8]) -> bool {
-        let _items = items.len();
-        let _len = dst.len();
-        false
-    }
-
     ghost write_laws = { write_laws_by (λ t. (t.0, (t.1, (t.2, (t.3, (t.4, (t.5, (t.6, (t.7, t.8)))))))))
         (windowed_write_laws (pair_write_laws A.write_laws (pair_write_laws B.write_laws (pair_write_laws C.write_laws (pair_write_laws D.write_laws
         (pair_write_laws E.write_laws (pair_write_laws F.write_laws (pair_write_laws G.write_laws
@@ -417,13 +410,6 @@ impl<
     #[inline(always)]
     fn known_size() -> Option<usize> {
         None
-    }
-
-    #[inline(always)]
-    fn encode_items(items: &[Self::Src], dst: &mut [u8]) -> bool {
-        let _items = items.len();
-        let _len = dst.len();
-        false
     }
 
     ghost write_laws = { write_laws_by (λ t. (t.0, (t.1, (t.2, (t.3, (t.4, (t.5, (t.6, (t.7, (t.8, t.9))))))))))
@@ -643,13 +629,6 @@ impl<
     #[inline(always)]
     fn known_size() -> Option<usize> {
         None
-    }
-
-    #[inline(always)]
-    fn encode_items(items: &[Self::Src], dst: &mut [u8]) -> bool {
-        let _items = items.len();
-        let _len = dst.len();
-        false
     }
 
     ghost write_laws = { write_laws_by (λ t. (t.0, (t.1, (t.2, (t.3, (t.4, (t.5, (t.6, (t.7, (t.8, (t.9, t.10)))))))))))
@@ -886,13 +865,6 @@ impl<
     #[inline(always)]
     fn known_size() -> Option<usize> {
         None
-    }
-
-    #[inline(always)]
-    fn encode_items(items: &[Self::Src], dst: &mut [u8]) -> bool {
-        let _items = items.len();
-        let _len = dst.len();
-        false
     }
 
     ghost write_laws = { write_laws_by (λ t. (t.0, (t.1, (t.2, (t.3, (t.4, (t.5, (t.6, (t.7, (t.8, (t.9, (t.10, t.11))))))))))))

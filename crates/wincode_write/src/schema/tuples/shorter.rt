@@ -102,13 +102,6 @@ impl<A: SchemaWrite, B: SchemaWrite> SchemaWrite for (A, B) {
         None
     }
 
-    #[inline(always)]
-    fn encode_items(items: &[Self::Src], dst: &mut [u8]) -> bool {
-        let _items = items.len();
-        let _len = dst.len();
-        false
-    }
-
     ghost write_laws = { write_laws_by (λ t. (t.0, t.1))
         (windowed_write_laws (pair_write_laws A.write_laws B.write_laws)) };
 }
@@ -195,13 +188,6 @@ impl<A: SchemaWrite, B: SchemaWrite, C: SchemaWrite> SchemaWrite for (A, B, C) {
     #[inline(always)]
     fn known_size() -> Option<usize> {
         None
-    }
-
-    #[inline(always)]
-    fn encode_items(items: &[Self::Src], dst: &mut [u8]) -> bool {
-        let _items = items.len();
-        let _len = dst.len();
-        false
     }
 
     ghost write_laws = { write_laws_by (λ t. (t.0, (t.1, t.2)))
@@ -293,13 +279,6 @@ impl<A: SchemaWrite, B: SchemaWrite, C: SchemaWrite, D: SchemaWrite> SchemaWrite
     #[inline(always)]
     fn known_size() -> Option<usize> {
         None
-    }
-
-    #[inline(always)]
-    fn encode_items(items: &[Self::Src], dst: &mut [u8]) -> bool {
-        let _items = items.len();
-        let _len = dst.len();
-        false
     }
 
     ghost write_laws = { write_laws_by (λ t. (t.0, (t.1, (t.2, t.3))))
@@ -401,13 +380,6 @@ impl<A: SchemaWrite, B: SchemaWrite, C: SchemaWrite, D: SchemaWrite, E: SchemaWr
     #[inline(always)]
     fn known_size() -> Option<usize> {
         None
-    }
-
-    #[inline(always)]
-    fn encode_items(items: &[Self::Src], dst: &mut [u8]) -> bool {
-        let _items = items.len();
-        let _len = dst.len();
-        false
     }
 
     ghost write_laws = { write_laws_by (λ t. (t.0, (t.1, (t.2, (t.3, t.4)))))
@@ -539,13 +511,6 @@ impl<
     #[inline(always)]
     fn known_size() -> Option<usize> {
         None
-    }
-
-    #[inline(always)]
-    fn encode_items(items: &[Self::Src], dst: &mut [u8]) -> bool {
-        let _items = items.len();
-        let _len = dst.len();
-        false
     }
 
     ghost write_laws = { write_laws_by (λ t. (t.0, (t.1, (t.2, (t.3, (t.4, t.5))))))
@@ -705,13 +670,6 @@ impl<
     #[inline(always)]
     fn known_size() -> Option<usize> {
         None
-    }
-
-    #[inline(always)]
-    fn encode_items(items: &[Self::Src], dst: &mut [u8]) -> bool {
-        let _items = items.len();
-        let _len = dst.len();
-        false
     }
 
     ghost write_laws = { write_laws_by (λ t. (t.0, (t.1, (t.2, (t.3, (t.4, (t.5, t.6)))))))
@@ -891,13 +849,6 @@ impl<
     #[inline(always)]
     fn known_size() -> Option<usize> {
         None
-    }
-
-    #[inline(always)]
-    fn encode_items(items: &[Self::Src], dst: &mut [u8]) -> bool {
-        let _items = items.len();
-        let _len = dst.len();
-        false
     }
 
     ghost write_laws = { write_laws_by (λ t. (t.0, (t.1, (t.2, (t.3, (t.4, (t.5, (t.6, t.7))))))))

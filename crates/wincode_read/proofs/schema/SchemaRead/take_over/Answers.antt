@@ -1,4 +1,4 @@
-use Rattle.std.proofs.Common.{refl, rules, arith, ◌≡◌, ◌∙◌, ◌<◌, length}
+use Rattle.std.proofs.Common.{refl, rules, arith, ◌≡◌, ◌<◌, length}
 use Rattle.wincode_base.proofs.Decoding.{decoded_none, decoded_more, decoded_all}
 use Rattle.wincode_read.proofs.schema.SchemaRead.take_over.Goals as goal
 
@@ -17,5 +17,4 @@ returns g c = λ t.
     let T = g.Self.SchemaRead in
     let all : c.loop-place.place-index ≡ length c.args.places.now = omega (arith, c.loop-place-test.false, c.loop-place.auto.place-index-end) in
     let none : length c.loop-place.rest.now ≡ 0 = search rules in
-    let kept : length c.decode_over.new.places ≡ length c.args.places.now = search rules in
-    decoded_all T.reading.reads T.model _ _ c.loop-place.place-index _ _ c.loop-place.invariant all (c.loop-place.auto.places ∙ kept) none
+    decoded_all T.reading.reads T.model _ _ c.loop-place.place-index _ _ c.loop-place.invariant all c.loop-place.auto.places none

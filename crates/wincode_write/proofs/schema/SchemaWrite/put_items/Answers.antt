@@ -3,7 +3,7 @@ use Rattle.wincode_write.proofs.Fronts.{filled_all, sized_none, sized_more}
 use Rattle.wincode_write.proofs.schema.SchemaWrite.put_items.Goals as goal
 
 pub loop-i-init : goal.loop-i-init
-loop-i-init g c = let T = g.Self.SchemaWrite in sized_none T.writing T.model T.is_valid c.args.items.now c.in-Static.size c.encode_items.new.dst
+loop-i-init g c = let T = g.Self.SchemaWrite in sized_none T.writing T.model T.is_valid c.args.items.now c.in-Static.size c.args.dst.now
 
 pub loop-i-preserved : goal.loop-i-preserved
 loop-i-preserved g c =
