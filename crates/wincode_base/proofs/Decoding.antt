@@ -73,17 +73,15 @@ module _ {D V : Type 0} (reads : List ℕ → V → Type 0) (model : D → V) wh
   added_none bytes before = record { items = []; is = sym (append-nil before); so_far = read_none reads bytes }
 
   -- a value was put over one that was added before
-  pub put_last : (before so after : List D) (items : List D) (blank d : D) → so ≡ before ++ items → after ≡ so ++ (blank ∷ []) → slice_set after (length so) d
-      ≡ before ++ (items ++ (d ∷ []))
-  put_last before so after items blank d e pushed =
-      ap (λ t. slice_set t (length so) d) pushed ∙ set-append_seam so blank [] d ∙ ap (λ t. t ++ (d ∷ [])) e ∙ append_assoc before items (d ∷ [])
+  pub put_last : (before after : List D) (blank d : D) → after ≡ before ++ (blank ∷ []) → slice_set after (length before) d ≡ before ++ (d ∷ [])
+  put_last before after blank d pushed = ap (λ t. slice_set t (length before) d) pushed ∙ set-append_seam before blank [] d
 
-  pub added_more : (bytes rest : List ℕ) (i size : ℕ) (before so after : List D) (blank d : D) (next left : List ℕ)
-      → AddedSoFar reads model bytes rest i before so → after ≡ so ++ (blank ∷ []) → next ≡ take size rest → left ≡ drop size rest → reads next (model d)
-      → AddedSoFar reads model bytes left (i + 1) before (slice_set after (length so) d)
-  added_more bytes rest i size before so after blank d next left a pushed is_next is_left r = record {
+  pub added_more : (bytes rest : List ℕ) (i size : ℕ) (before so after : List D) (d : D) (next left : List ℕ)
+      → AddedSoFar reads model bytes rest i before so → after ≡ so ++ (d ∷ []) → next ≡ take size rest → left ≡ drop size rest → reads next (model d)
+      → AddedSoFar reads model bytes left (i + 1) before after
+  added_more bytes rest i size before so after d next left a pushed is_next is_left r = record {
     items = a.items ++ (d ∷ []);
-    is = put_last before so after a.items blank d a.is pushed;
+    is = pushed ∙ ap (λ t. t ++ (d ∷ [])) a.is ∙ append_assoc before a.items (d ∷ []);
     so_far = subst (ReadSoFar reads bytes left (i + 1)) (sym (map-append model a.items (d ∷ [])))
         (read_more reads bytes rest i size (map model a.items) (model d) next left a.so_far is_next is_left r);
   }

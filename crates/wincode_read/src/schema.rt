@@ -22,7 +22,7 @@ pub mod tags;
 mod tuples;
 mod views;
 
-use crate::schema::at_hand::front_at_hand;
+use crate::schema::at_hand::{add_at_hand, add_decoded, add_each};
 pub use crate::schema::leaves::read_bytes;
 use std::alloc::Global;
 use wincode_base::error::{ReadError, ReadResult};
@@ -130,18 +130,11 @@ pub trait SchemaRead<L: Lending> {
         };
         let mut rest = bytes;
         for _i in 0..n {
-            let Some(blank) = Self::blank() else {
-                return false;
-            };
             if rest.len() < size {
                 return false;
             }
             let (front, back) = rest.split_at(size);
-            let last = into.len();
-            if into.push(blank).is_err() {
-                return false;
-            }
-            if !Self::decode(front, &mut into[last]) {
+            if !add_decoded::<L, Self>(front, into) {
                 return false;
             }
             rest = back;
@@ -166,31 +159,16 @@ pub trait SchemaRead<L: Lending> {
         if into.reserve(n).is_err() {
             return Err(ReadError::OutOfMemory);
         }
-        if let Some(bytes) = front_at_hand::<L, R>(reader, n, Self::type_meta()) {
-            let total = bytes.len();
-            if Self::take_items(bytes, n, into) {
-                reader.consume_unchecked(total);
-                return Ok(());
-            }
-            into.truncate(before);
+        if add_at_hand::<L, Self, R>(reader, n, into) {
+            return Ok(());
         }
-        for _i in 0..n {
-            let mut item = None;
-            if let Err(error) = Self::read(alloc, reader, &mut item) {
+        match add_each::<L, Self, R>(alloc, reader, n, into) {
+            Ok(()) => Ok(()),
+            Err(error) => {
                 into.truncate(before);
-                return Err(error);
-            }
-            match item {
-                Some(value) => {
-                    if into.push(value).is_err() {
-                        into.truncate(before);
-                        return Err(ReadError::OutOfMemory);
-                    }
-                }
-                None => unreachable!(),
+                Err(error)
             }
         }
-        Ok(())
     }
 
     ghost read_laws: { ReadLaws is_valid reading };

@@ -1,9 +1,12 @@
 //! Values from bytes that are at hand. What is not given here is read the long way, which says why.
-ghost use Rattle.std.specs.Prelude.{◌≡◌, ◌≤◌, length, IfSome, IfNone};
-ghost use Rattle.wincode_base.specs.Outcomes.{Gives};
+ghost use Rattle.std.specs.Prelude.{◌≡◌, ◌≤◌, [], ◌∷◌, ◌++◌, List, length, false, IsTrue, IfSome, IfNone, IfErr, OnOk};
+ghost use Rattle.wincode_base.specs.Lists.{items_read};
+ghost use Rattle.wincode_base.specs.Outcomes.{Gives, Adds, SchemaReadRefused};
 ghost use Rattle.wincode_io.specs.Readers.{IsShown};
 
-use crate::schema::SchemaRead;
+use crate::schema::{SchemaGet, SchemaRead};
+use std::alloc::Global;
+use wincode_base::error::{ReadError, ReadResult};
 use wincode_base::meta::TypeMeta;
 use wincode_io::{Lending, Reader};
 
@@ -55,4 +58,69 @@ pub(crate) fn get_at_hand<L: Lending, T: SchemaRead<L>, R: Reader<L>>(
     let value = decoded::<L, T>(bytes)?;
     reader.consume_unchecked(size);
     Some(value)
+}
+
+/// Adds the value that reads from all of the bytes to the list, where its schema decodes it; where this answers that it
+/// did not, a value may have been added.
+#[inline(always)]
+pub(crate) fn add_decoded<L: Lending, T: SchemaRead<L>>(
+    bytes: &[u8],
+    into: &mut Vec<T::Dst>,
+) -> bool
+    ensures { (ds : List T.Dst) × (into.new.items ≡ into.old.items ++ ds) × (IsTrue result → (d : T.Dst) × (ds ≡ d ∷ []) × T.reading.reads bytes.now (T.model d)) }
+{
+    let Some(blank) = T::blank() else {
+        return false;
+    };
+    let last = into.len();
+    if into.push(blank).is_err() {
+        return false;
+    }
+    T::decode(bytes, &mut into[last])
+}
+
+/// Adds `n` values to the list, where their bytes are at hand and their schema decodes them. Else the reader and the
+/// list are as they were.
+#[inline(always)]
+pub(crate) fn add_at_hand<L: Lending, T: SchemaRead<L>, R: Reader<L>>(
+    reader: &mut R,
+    n: usize,
+    into: &mut Vec<T::Dst>,
+) -> bool
+    ensures added { IsTrue result → Adds n T.reading.reads T.model (R.state reader.old) (R.state reader.new) into.old.items into.new.items }
+    ensures left { result ≡ false → R.state reader.new ≡ R.state reader.old }
+    ensures same { result ≡ false → into.new.items ≡ into.old.items }
+{
+    let before = into.len();
+    let Some(bytes) = front_at_hand::<L, R>(reader, n, T::type_meta()) else {
+        return false;
+    };
+    let total = bytes.len();
+    if !T::take_items(bytes, n, into) {
+        into.truncate(before);
+        return false;
+    }
+    reader.consume_unchecked(total);
+    true
+}
+
+/// Reads `n` values, one after another, each of which is added to the list before the next is read. Refused, the list
+/// holds those before.
+pub(crate) fn add_each<L: Lending, T: SchemaRead<L>, R: Reader<L>>(
+    alloc: Global,
+    reader: &mut R,
+    n: usize,
+    into: &mut Vec<T::Dst>,
+) -> ReadResult<()>
+    ensures ok { OnOk result (Adds n T.reading.reads T.model (R.state reader.old) (R.state reader.new) into.old.items into.new.items) }
+    ensures err { IfErr result (SchemaReadRefused (items_read n T.reading) (R.state reader.old) (R.state reader.new)) }
+    ensures kept { (ds : List T.Dst) × (into.new.items ≡ into.old.items ++ ds) }
+{
+    for _i in 0..n {
+        let item = T::get(alloc, reader)?;
+        if into.push(item).is_err() {
+            return Err(ReadError::OutOfMemory);
+        }
+    }
+    Ok(())
 }

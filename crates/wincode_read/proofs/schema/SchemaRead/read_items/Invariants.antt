@@ -1,7 +1,0 @@
-use Rattle.wincode_base.specs.Outcomes.{Adds}
-use Rattle.wincode_read.proofs.schema.SchemaRead.read_items.Given as goal
-
--- so far the values of a front were read and added
-abbrev pub invariant-loop-i : goal.invariant-loop-i
-invariant-loop-i g l = Adds l._i g.Self.SchemaRead.reading.reads g.Self.SchemaRead.model (g.R.Reader.state l.fn.reader) (g.R.Reader.state l.reader)
-    l.fn.into.items l.into.items
