@@ -1,17 +1,20 @@
 -- Going over a list item by item, in writing.
 use Rattle.std.proofs.Common.{◌≡◌, ◌∙◌, sym, ap, subst, ℕ, ◌+◌, ◌*◌, ◌<◌, ◌≤◌, ◌^◌, List, [], ◌∷◌, length, map, take, drop, get_or, suc, arith}
+use Rattle.std.proofs.Common.{inl, inr, refl, Result, Ok}
+use Rattle.std.specs.Prelude.{IfOk, IfErr}
 use Rattle.std.proofs.lemmas.List.{length-map}
 use Rattle.wincode_io.specs.Writers.{WriterState, WriterLaws}
 use Rattle.wincode_base.specs.Grammar.{WriteGrammar, WriteLaws}
 use Rattle.wincode_base.specs.Lengths.{Scheme, HasEncoding, encoding_len, length_write, LengthSizeRefused}
+use Rattle.wincode_base.specs.JoinedSizes.{JoinedSize, JoinedSizeRefused}
 use Rattle.wincode_base.specs.Lists.{item_write, items_write, each_write, parts_write, list_write, SizesRefused}
 use Rattle.wincode_base.specs.Outcomes.{Wrote, WriteRefused, Stopped, IsSized, SizeRefused}
-use Rattle.wincode_base.specs.PairSizeLaws.{unsized_part, unsized_second, unwritable_first}
+use Rattle.wincode_base.specs.PairSizeLaws.{overflow_refused, unsized_part, unsized_second, unwritable_first}
 use Rattle.wincode_base.specs.WriteSequences.{items_wrote_none, items_wrote_more, items_unwritten, each_halted, items_halted, item_halted}
 use Rattle.wincode_base.specs.WriteSequences.{list_halted_first, list_halted_second, list_wrote, list_unwritten_first, list_unwritten_second}
 use Rattle.wincode_base.specs.declared.error.WriteError.{WriteError}
 use Rattle.wincode_io.specs.Joins.{Each, total}
-use Rattle.wincode_io.specs.JoinLaws.{map_more, map_parted, each_map_at, total_within}
+use Rattle.wincode_io.specs.JoinLaws.{map_more, map_parted, each_map_after, each_map_at, total_after, total_within}
 
 -- no item was written yet
 pub items_before : {A V S K : Type 0} (xs : List A) (f : A → V) {put : S → List ℕ → S} {room : S → ℕ} (laws : WriterLaws put room)
@@ -78,18 +81,39 @@ module _ {X V : Type 0} (s : Scheme) (count : ℕ) (g : WriteGrammar V) (f : X �
 
 -- ---- the sizes of items, added to what stands before them
 
-module _ {X V : Type 0} (before : ℕ) (g : WriteGrammar V) (f : X → V) (xs : List X) (i : ℕ) (x : X) (h : i < length xs) (is : x ≡ get_or xs i x) where
-  -- an item's size was refused
-  pub sum_item : (e : WriteError) → SizeRefused g (f x) e → SizesRefused before g (map f xs) e
-  sum_item e d = (
-    λ c fits. d.0 (each_map_at xs i x h is f g.can c) (omega (arith, total_within xs i x h is f g.size)),
-    unsized_part g.builtin e (λ c. each_map_at xs i x h is f g.can c) d.1,
-  )
+module _ {V : Type 0} (g : WriteGrammar V) (v : V) (sum : ℕ) where
+  -- the size of an item, and what a sum with it is
+  pub joined_item : (new : ℕ) (size : Result ℕ WriteError) → IfOk size (IsSized g v) → JoinedSize (Ok sum) size new → g.can v × (new ≡ sum + g.size v)
+  joined_item new size s r =
+      let is : sum ≡ r.0 = subst (λ t. IfOk t (λ n. sum ≡ n)) r.2 refl in
+      let one = subst (λ t. IfOk t (IsSized g v)) r.3 s in
+      (one.0, omega (arith, is, r.4, one.1))
 
-  -- the sum of sizes overflows
-  pub sum_over : (sum : ℕ) → sum ≡ before + total g.size (map f (take i xs)) → 2 ^ 64 ≤ sum + g.size (f x) → Each g.can (map f xs)
-      → before + total g.size (map f xs) < 2 ^ 64 → ⊥
-  sum_over sum e over c fits = absurd (omega (arith, total_within xs i x h is f g.size))
+  -- a sum with the size of an item was refused, which is one of these behind the others
+  pub unjoined_item : (before : ℕ) (vs : List V) → (Each g.can vs → g.can v) → sum + g.size v ≤ before + total g.size vs → (size : Result ℕ WriteError)
+      (e : WriteError) → IfOk size (IsSized g v) → IfErr size (SizeRefused g v) → JoinedSizeRefused (Ok sum) size e → SizesRefused before g vs e
+  unjoined_item before vs can within size e s d (inl p) = subst (λ t. IfErr t (SizesRefused before g vs)) p tt
+  unjoined_item before vs can within size e s d (inr (inl p)) =
+      let one = subst (λ t. IfErr t (SizeRefused g v)) p.2 d in
+      (λ c fits. one.0 (can c) (omega (arith, within, fits)), unsized_part g.builtin e can one.1)
+  unjoined_item before vs can within size e s d (inr (inr p)) =
+      let is : sum ≡ p.0 = subst (λ t. IfOk t (λ n. sum ≡ n)) p.2 refl in
+      let one = subst (λ t. IfOk t (IsSized g v)) p.3 s in
+      overflow_refused g.builtin e (λ c fits. absurd (omega (arith, is, p.4, one.1, within, fits))) p.5
+
+module _ {X V : Type 0} (before : ℕ) (g : WriteGrammar V) (f : X → V) (xs : List X) (i : ℕ) (x : X) (h : i < length xs) (is : x ≡ get_or xs i x)
+    (sum : ℕ) (size : Result ℕ WriteError) (so : sum ≡ before + total g.size (map f (take i xs))) (s : IfOk size (IsSized g (f x))) where
+  -- the size of the item at a place was added to those before it
+  pub item_joined : (new : ℕ) → Each g.can (map f (take i xs)) → JoinedSize (Ok sum) size new
+      → Each g.can (map f (take (i + 1) xs)) × (new ≡ before + total g.size (map f (take (i + 1) xs)))
+  item_joined new can r =
+      let n = joined_item g (f x) sum new size s r in
+      (each_map_after xs i x h is f g.can can n.0, omega (arith, n.1, so, total_after xs i x h is f g.size))
+
+  -- or was refused, or there is no such sum
+  pub item_unjoined : (e : WriteError) → IfErr size (SizeRefused g (f x)) → JoinedSizeRefused (Ok sum) size e → SizesRefused before g (map f xs) e
+  item_unjoined e d r =
+      unjoined_item g (f x) sum before (map f xs) (each_map_at xs i x h is f g.can) (omega (arith, so, total_within xs i x h is f g.size)) size e s d r
 
 -- ---- items of which each can be written, in one size
 

@@ -1,19 +1,22 @@
 -- Going over the items of a collection, in writing.
-use Rattle.std.proofs.Common.{◌≡◌, ◌∙◌, sym, ap, subst, ℕ, ◌+◌, ◌-◌, ◌<◌, ◌≤◌, ◌^◌, List, [], ◌∷◌, ◌++◌, length, map, refl, arith, append_assoc}
-use Rattle.std.proofs.Common.{append-nil, length-append}
+use Rattle.std.proofs.Common.{◌≡◌, ◌∙◌, sym, ap, subst, ℕ, ◌+◌, ◌-◌, ◌≤◌, List, [], ◌∷◌, ◌++◌, length, map, refl, arith, append_assoc}
+use Rattle.std.proofs.Common.{append-nil, length-append, Result, Ok}
+use Rattle.std.specs.Prelude.{IfOk, IfErr}
 use Rattle.std.proofs.lemmas.List.{map-append}
 use Rattle.wincode_io.specs.Joins.{Joined, Each, total}
 use Rattle.wincode_io.specs.JoinLaws.{joined_append, each_split, each_append, total-append}
 use Rattle.wincode_io.specs.Writers.{WriterState, WriterLaws}
 use Rattle.wincode_base.specs.Grammar.{WriteGrammar, WriteLaws}
 use Rattle.wincode_base.specs.Lists.{item_write, items_write, ItemsWriteRefused, SizesRefused}
+use Rattle.wincode_base.specs.JoinedSizes.{JoinedSize, JoinedSizeRefused}
 use Rattle.wincode_base.specs.ListLaws.{items_write_laws}
-use Rattle.wincode_base.specs.Outcomes.{Wrote, WriteRefused, Stopped, SizeRefused}
+use Rattle.wincode_base.specs.Outcomes.{Wrote, WriteRefused, Stopped, IsSized, SizeRefused}
 use Rattle.wincode_base.specs.PairSizeLaws.{unsized_part}
 use Rattle.wincode_base.specs.Pairs.{pair_write}
 use Rattle.wincode_base.specs.WriteSequences.{items_wrote_more, items_unwritten, item_halted, stopped_map, stopped_behind, wrote_map, unwritten_map}
 use Rattle.wincode_base.specs.WriteSequences.{pair_wrote, pair_unwritten_first, pair_unwritten_second}
 use Rattle.wincode_base.specs.declared.error.WriteError.{WriteError}
+use Rattle.wincode_base.proofs.Lists.{joined_item, unjoined_item}
 
 -- so far the items before `rest` were written
 pub record WritesSoFar {S K E V : Type 0} {put : S → List ℕ → S} {room : S → ℕ} (g : WriteGrammar V) (see : E → V) (P : E → Type 0)
@@ -198,7 +201,7 @@ module _ {S K V E : Type 0} {put : S → List ℕ → S} {room : S → ℕ} (law
       (subst (λ ds. Wrote (items_write g) old cur (map see ds)) done w.items, subst (Each P) done w.each)
 
 module _ {V E : Type 0} (g : WriteGrammar V) (see : E → V) (before : ℕ) where
-  pub sum_more : (sum new : ℕ) (all rest left : List E) (e : E) → SumsSoFar g see before sum all left → left ≡ e ∷ rest → g.can (see e) → new
+  sum_more : (sum new : ℕ) (all rest left : List E) (e : E) → SumsSoFar g see before sum all left → left ≡ e ∷ rest → g.can (see e) → new
       ≡ sum + g.size (see e) → SumsSoFar g see before new all rest
   sum_more sum new all rest left e w k c n = record {
     done = w.done ++ (e ∷ []);
@@ -215,18 +218,21 @@ module _ {V E : Type 0} (g : WriteGrammar V) (see : E → V) (before : ℕ) wher
       let b = total-append g.size (map see w.done) (see e ∷ map see rest) in
       let d = w.is in omega (arith, a, b, d)
 
-  pub sum_refused : (sum : ℕ) (all rest left : List E) (e : E) (x : WriteError) → SumsSoFar g see before sum all left → left ≡ e ∷ rest
-      → SizeRefused g (see e) x → SizesRefused before g (map see all) x
-  sum_refused sum all rest left e x w k d = (
-    λ c fits. let t = total_part sum all rest left e w k in d.0 (part_can c) (omega (arith, t, fits)),
-    unsized_part g.builtin x part_can d.1,
-  ) where
-    part_can : Each g.can (map see all) → g.can (see e)
-    part_can c = (each_split g.can (map see w.done) (see e ∷ map see rest) (subst (Each g.can) (sym (part_model see w.done rest all left e w.joins k)) c)).1.0
+  part_can : (sum : ℕ) (all rest left : List E) (e : E) → SumsSoFar g see before sum all left → left ≡ e ∷ rest → Each g.can (map see all) → g.can (see e)
+  part_can sum all rest left e w k c =
+      (each_split g.can (map see w.done) (see e ∷ map see rest) (subst (Each g.can) (sym (part_model see w.done rest all left e w.joins k)) c)).1.0
 
-  pub sum_past : (sum : ℕ) (all rest left : List E) (e : E) → SumsSoFar g see before sum all left → left ≡ e ∷ rest → (sum + g.size (see e) < 2 ^ 64 → ⊥)
-      → Each g.can (map see all) → before + total g.size (map see all) < 2 ^ 64 → ⊥
-  sum_past sum all rest left e w k o c fits = let t = total_part sum all rest left e w k in o (omega (arith, t, fits))
+  -- the size of an item more was added
+  pub sum_joined : (sum new : ℕ) (all rest left : List E) (e : E) (size : Result ℕ WriteError) → SumsSoFar g see before sum all left → left ≡ e ∷ rest
+      → IfOk size (IsSized g (see e)) → JoinedSize (Ok sum) size new → SumsSoFar g see before new all rest
+  sum_joined sum new all rest left e size w k s r = let n = joined_item g (see e) sum new size s r in sum_more sum new all rest left e w k n.0 n.1
+
+  -- or was refused, or there is no such sum
+  pub sum_unjoined : (sum : ℕ) (all rest left : List E) (e : E) (size : Result ℕ WriteError) (x : WriteError) → SumsSoFar g see before sum all left
+      → left ≡ e ∷ rest → IfOk size (IsSized g (see e)) → IfErr size (SizeRefused g (see e)) → JoinedSizeRefused (Ok sum) size x
+      → SizesRefused before g (map see all) x
+  sum_unjoined sum all rest left e size x w k s d r =
+      unjoined_item g (see e) sum before (map see all) (part_can sum all rest left e w k) (total_part sum all rest left e w k) size x s d r
 
   -- ---- the sizes of two runs
 

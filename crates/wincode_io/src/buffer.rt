@@ -75,7 +75,7 @@ impl Buffer {
     }
 
     /// A window of the first `n` bytes, which are gone from these.
-    #[tactic(auto, using(crate::proofs::Ranges::later))]
+    #[tactic(auto, using(crate::proofs::Ranges::earlier, crate::proofs::Ranges::later))]
     pub(crate) fn window(&mut self, n: usize) -> Result<CountedSliceReader, AllocError>
         requires { n ≤ length self.old }
         ensures front { IfOk result (λ w. w ≡ take n self.old) }

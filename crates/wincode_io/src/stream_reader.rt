@@ -49,12 +49,10 @@ impl<S: Source> Model for StreamReader<S> {
 
     ghost view = { λ r. record { position = length r.gone.bytes; at_hand = r.buffer; source = r.source; has_ended = r.has_ended; has_failed = r.has_failed } };
 
-    ghost invariant = {
-      λ r.
+    ghost invariant = { λ r.
         (r.position ≡ min (length r.gone.bytes) byte_limit)
-          × (IsTrue r.has_ended → IsOver (S.state r.source))
-          × (IsTrue r.has_failed → 0 < (S.state r.source).failures)
-    };
+        × (IsTrue r.has_ended → IsOver (S.state r.source))
+        × (IsTrue r.has_failed → 0 < (S.state r.source).failures) };
 }
 
 impl<S: Source> StreamReader<S> {
@@ -173,16 +171,66 @@ impl<S: Source> StreamReader<S> {
         Ok(())
     }
 
-    /// The first `n` bytes, where as many are at hand.
-    fn front(&self, n: usize) -> ReadResult<&[u8]>
-        ensures ok { IfOk result (λ s. (n ≤ length self.now.at_hand) × (s.now ≡ take n self.now.at_hand)) }
-        ensures err { IfErr result (λ e. (length self.now.at_hand < n) × (e ≡ ReadError.ReadSizeLimit n)) }
+    /// Asks the source until `n` bytes are at hand. It is `ReadSizeLimit` of `n` where the source ended before.
+    fn need(&mut self, n: usize) -> ReadResult<()>
+        ensures ok { OnOk result (Stays (stream_state S.state self.old) (stream_state S.state self.new)) }
+        ensures enough { OnOk result (n ≤ length self.new.at_hand) }
+        ensures err { IfErr result (BytesReadRefused (IsShort n (stream_state S.state self.old)) ⊥ n (stream_state S.state self.old) (stream_state S.state self.new)) }
+        ensures asks { Asks n 0 self.old self.new }
+        ensures refused { IfErr result (StreamRefused S.state n self.old self.new) }
     {
-        let bytes = self.buffer.as_slice();
-        if bytes.len() < n {
+        self.fetch(n)?;
+        let ready = self.ready();
+        if ready < n {
             return Err(ReadError::ReadSizeLimit(n));
         }
-        Ok(&bytes[..n])
+        Ok(())
+    }
+
+    /// Asks the source until the bytes of a form are at hand; how many they are. It is `ReadSizeLimit` of that number, or
+    /// of `usize::MAX` where it is more, where the source ended before.
+    fn need_form<T: ZeroCopy>(&mut self) -> ReadResult<usize>
+        ensures ok { OnOk result (Stays (stream_state S.state self.old) (stream_state S.state self.new)) }
+        ensures enough { IfOk result (λ size. (size ≡ T.size) × (T.size ≤ length self.new.at_hand)) }
+        ensures vast { byte_limit < T.size → result ≡ Err (ReadError.ReadSizeLimit byte_limit) }
+        ensures err { IfErr result (FormReadRefused T.size (stream_state S.state self.old) (stream_state S.state self.new)) }
+        ensures asks { Asks T.size 0 self.old self.new }
+        ensures refused { IfErr result (StreamRefused S.state T.size self.old self.new) }
+    {
+        let Some(size) = T::form_size() else {
+            // Fewer bytes are at hand, since their number fits.
+            let _ready = self.ready();
+            return Err(ReadError::ReadSizeLimit(usize::MAX));
+        };
+        self.need(size)?;
+        Ok(size)
+    }
+
+    /// As `need_form`, of `n` forms.
+    fn need_forms<T: ZeroCopy>(&mut self, n: usize) -> ReadResult<usize>
+        ensures ok { OnOk result (Stays (stream_state S.state self.old) (stream_state S.state self.new)) }
+        ensures enough { IfOk result (λ total. (total ≡ n * T.size) × (n * T.size ≤ length self.new.at_hand)) }
+        ensures vast { byte_limit < n * T.size → result ≡ Err (ReadError.ReadSizeLimit byte_limit) }
+        ensures err { IfErr result (FormReadRefused (n * T.size) (stream_state S.state self.old) (stream_state S.state self.new)) }
+        ensures asks { Asks (n * T.size) 0 self.old self.new }
+        ensures refused { IfErr result (StreamRefused S.state (n * T.size) self.old self.new) }
+    {
+        let Some(total) = total_size::<T>(n) else {
+            // Fewer bytes are at hand, since their number fits.
+            let _ready = self.ready();
+            return Err(ReadError::ReadSizeLimit(usize::MAX));
+        };
+        self.need(total)?;
+        Ok(total)
+    }
+
+    /// The first `n` bytes, which are at hand.
+    fn front(&self, n: usize) -> &[u8]
+        requires { n ≤ length self.now.at_hand }
+        ensures size { length result.now ≡ n }
+        ensures shown { IsShown n (stream_state S.state self.now) result.now }
+    {
+        &self.buffer.as_slice()[..n]
     }
 
     /// Goes on by `n` bytes, which are at hand.
@@ -271,12 +319,8 @@ impl<L: Lending, S: Source> Reader<L> for StreamReader<S> {
             (λ new. Fills (IsShort n (stream_state S.state self.old)) n (λ s. length s.now) (stream_state S.state self.old) (stream_state S.state new) result
             × Asks n 0 self.old new × IfErr result (StreamRefused S.state n self.old new))) }
     {
-        self.fetch(n)?;
-        let ready = self.buffer.as_slice();
-        if ready.len() < n {
-            return Err(ReadError::ReadSizeLimit(n));
-        }
-        Ok(&ready[..n])
+        self.need(n)?;
+        Ok(self.front(n))
     }
 
     fn peek(&mut self) -> ReadResult<&u8>
@@ -297,8 +341,8 @@ impl<L: Lending, S: Source> Reader<L> for StreamReader<S> {
         ensures refused { IfErr result (StreamRefused S.state (length dst.old) self.old self.new) }
     {
         let n = dst.len();
-        self.fetch(n)?;
-        dst.copy_from_slice(self.front(n)?);
+        self.need(n)?;
+        dst.copy_from_slice(self.front(n));
         self.skip(n);
         Ok(())
     }
@@ -311,13 +355,8 @@ impl<L: Lending, S: Source> Reader<L> for StreamReader<S> {
         ensures asks { Asks T.size (gone T.size result) self.old self.new }
         ensures refused { IfErr result (StreamRefused S.state T.size self.old self.new) }
     {
-        let Some(size) = T::form_size() else {
-            // Fewer bytes are at hand, since their number fits.
-            let _ready = self.ready();
-            return Err(ReadError::ReadSizeLimit(usize::MAX));
-        };
-        self.fetch(size)?;
-        *dst = Some(T::of_form(self.front(size)?));
+        let size = self.need_form::<T>()?;
+        *dst = Some(T::of_form(self.front(size)));
         self.skip(size);
         Ok(())
     }
@@ -330,13 +369,8 @@ impl<L: Lending, S: Source> Reader<L> for StreamReader<S> {
         ensures asks { Asks (length dst.old * T.size) (gone (length dst.old * T.size) result) self.old self.new }
         ensures refused { IfErr result (StreamRefused S.state (length dst.old * T.size) self.old self.new) }
     {
-        let Some(total) = total_size::<T>(dst.len()) else {
-            // Fewer bytes are at hand, since their number fits.
-            let _ready = self.ready();
-            return Err(ReadError::ReadSizeLimit(usize::MAX));
-        };
-        self.fetch(total)?;
-        read_forms(self.front(total)?, dst);
+        let total = self.need_forms::<T>(dst.len())?;
+        read_forms(self.front(total), dst);
         self.skip(total);
         Ok(())
     }

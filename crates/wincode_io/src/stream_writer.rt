@@ -42,16 +42,14 @@ impl<S: Sink> Model for StreamWriter<S> {
 
     ghost Value = { Sinking S };
 
-    ghost view = {
-      λ w.
+    ghost view = { λ w.
         record {
           kept = w.buffer.items;
           sink = w.sink;
           count = w.count;
           has_failed = w.has_failed;
-          spare = min (vec_capacity w.buffer - length w.buffer.items) (byte_limit - length w.buffer.items)
-        }
-    };
+          spare = min (vec_capacity w.buffer - length w.buffer.items) (byte_limit - length w.buffer.items);
+        } };
 
     ghost invariant = { λ w. (8192 ≤ vec_capacity w.buffer) × (IsTrue w.has_failed → 0 < (S.state w.sink).failures) };
 }

@@ -4,11 +4,11 @@ ghost use Rattle.std.specs.BinaryHeap.{heap_items};
 ghost use Rattle.std.specs.HashMap.{IsUnique};
 ghost use Rattle.std.specs.List.{IsDistinct};
 ghost use Rattle.std.specs.List.Sorted.{IsStrictlySortedBy};
-ghost use Rattle.std.specs.Prelude.{◌≡◌, ◌+◌, ◌≤◌, List, length, map, IfSome, IsTrue, IfOk, IfErr};
+ghost use Rattle.std.specs.Prelude.{◌≡◌, ◌+◌, ◌≤◌, List, [], ◌∷◌, ◌++◌, ◌⊎◌, length, map, take, IfSome, IsTrue, IfOk, IfErr};
 ghost use Rattle.wincode_io.specs.Joins.{Each, total};
 ghost use Rattle.wincode_base.specs.Lengths.{HasEncoding, LengthSizeRefused};
 ghost use Rattle.wincode_base.specs.Lists.{item_write, items_write, each_write, parts_write, list_write_of, list_write, SizesRefused};
-ghost use Rattle.wincode_base.specs.Outcomes.{IsSized, IsEncoded, SizeRefused, WriteOutcome};
+ghost use Rattle.wincode_base.specs.Outcomes.{IsSized, IsEncoded, SizeRefused, WriteOutcome, Wrote, WriteRefused, Stopped};
 ghost use Rattle.wincode_base.specs.declared.meta.TypeMeta.TheVariants.{Dynamic};
 ghost use Rattle.wincode_collect.specs.Seen.{sees};
 ghost use Rattle.wincode_base.specs.Pairs.{pair_write};
@@ -24,7 +24,7 @@ use wincode_base::error::{WriteResult, write_length_encoding_overflow};
 use wincode_base::len::SeqLen;
 use wincode_base::meta::TypeMeta;
 use wincode_base::parts::{Member, Members2};
-use wincode_base::sizes::{ItemSize, checked_sum};
+use wincode_base::sizes::{ItemSize, checked_sum, joined_size};
 use wincode_io::{WriteWindow, Writer};
 
 /// How many bytes of pairs are put together at a time.
@@ -112,8 +112,7 @@ impl<'a, U: 'a, T: SchemaWrite<Src = U>> ToItems<T> for &'a [U] {
         }
         let mut sum = before;
         for item in items {
-            let size = T::size_of(item)?;
-            sum = checked_sum(sum, size)?;
+            sum = joined_size(Ok(sum), T::size_of(item))?;
         }
         Ok(sum)
     }
@@ -184,8 +183,7 @@ impl<U, T: SchemaWrite<Src = U>> ToItems<T> for LinkedList<U> {
     fn add_sizes(&self, before: usize) -> WriteResult<usize> {
         let mut sum = before;
         for item in self {
-            let size = T::size_of(item)?;
-            sum = checked_sum(sum, size)?;
+            sum = joined_size(Ok(sum), T::size_of(item))?;
         }
         Ok(sum)
     }
@@ -234,8 +232,7 @@ impl<A: Ord, B, K: SchemaWrite<Src = A>, V: SchemaWrite<Src = B>> ToItems<Member
         }
         let mut sum = before;
         for (key, value) in self {
-            let size = size_of_members_2::<K, V>(key, value)?;
-            sum = checked_sum(sum, size)?;
+            sum = joined_size(Ok(sum), size_of_members_2::<K, V>(key, value))?;
         }
         Ok(sum)
     }
@@ -267,8 +264,7 @@ impl<A: Eq + Hash, B, K: SchemaWrite<Src = A>, V: SchemaWrite<Src = B>> ToItems<
         }
         let mut sum = before;
         for (key, value) in self {
-            let size = size_of_members_2::<K, V>(key, value)?;
-            sum = checked_sum(sum, size)?;
+            sum = joined_size(Ok(sum), size_of_members_2::<K, V>(key, value))?;
         }
         Ok(sum)
     }
@@ -294,8 +290,7 @@ impl<A: Ord, K: SchemaWrite<Src = A>> ToItems<K> for BTreeSet<A> {
     fn add_sizes(&self, before: usize) -> WriteResult<usize> {
         let mut sum = before;
         for key in self {
-            let size = K::size_of(key)?;
-            sum = checked_sum(sum, size)?;
+            sum = joined_size(Ok(sum), K::size_of(key))?;
         }
         Ok(sum)
     }
@@ -320,8 +315,7 @@ impl<A: Eq + Hash, K: SchemaWrite<Src = A>> ToItems<K> for HashSet<A> {
     fn add_sizes(&self, before: usize) -> WriteResult<usize> {
         let mut sum = before;
         for key in self {
-            let size = K::size_of(key)?;
-            sum = checked_sum(sum, size)?;
+            sum = joined_size(Ok(sum), K::size_of(key))?;
         }
         Ok(sum)
     }
@@ -351,20 +345,63 @@ where
     let mut block = [0; BLOCK];
     let mut filled = 0;
     for (key, value) in pairs {
-        if !encode_pair::<K, V>(key, value, &mut block[filled..filled + size]) {
-            writer.write(&block[..filled])?;
-            filled = 0;
-            write_pair::<K, V, W>(writer, key, value)?;
-            continue;
-        }
-        filled += size;
-        if BLOCK - filled < size {
-            writer.write(&block[..filled])?;
-            filled = 0;
-        }
+        filled = put_pair::<K, V, W>(writer, key, value, &mut block, filled, size)?;
     }
     writer.write(&block[..filled])?;
     Ok(())
+}
+
+/// Puts a pair behind those at the front of the block, and answers how much of it is then filled. It is written
+/// once it has no place for one more, and, with the pair behind it, where that is not put together.
+#[inline(always)]
+fn put_pair<K: SchemaWrite, V: SchemaWrite, W: Writer>(
+    writer: &mut W,
+    key: &K::Src,
+    value: &V::Src,
+    block: &mut [u8; BLOCK],
+    filled: usize,
+    size: usize,
+) -> WriteResult<usize>
+    requires one_size { (pair_write K.writing V.writing).meta ≡ Dynamic → ⊥ }
+    requires fits { filled + size ≤ 1024 }
+    ensures place { IfOk result (λ n. n + size ≤ 1024) }
+    ensures ok { let items = items_write (pair_write K.writing V.writing) in
+        IfOk result (λ n. (es : List (K.Src × V.Src)) → IsEncoded items (map (sees K.model V.model) es) (take filled block.old) → Each (λ e. K.is_valid e.0 × V.is_valid e.1) es
+        → (K.is_valid key.now × V.is_valid value.now)
+        × (((n ≡ 0) × Wrote items (W.state writer.old) (W.state writer.new) (map (sees K.model V.model) (es ++ ((key.now, value.now) ∷ []))))
+        ⊎ ((W.state writer.new ≡ W.state writer.old) × IsEncoded items (map (sees K.model V.model) (es ++ ((key.now, value.now) ∷ []))) (take n block.new)))) }
+    ensures err { let items = items_write (pair_write K.writing V.writing) in
+        IfErr result (λ x. (es : List (K.Src × V.Src)) → IsEncoded items (map (sees K.model V.model) es) (take filled block.old) → Each (λ e. K.is_valid e.0 × V.is_valid e.1) es
+        → WriteRefused items (W.state writer.old) (W.state writer.new) (map (sees K.model V.model) (es ++ ((key.now, value.now) ∷ []))) x
+        × Stopped items (W.state writer.old) (W.state writer.new) (map (sees K.model V.model) (es ++ ((key.now, value.now) ∷ []))) x) }
+{
+    if !encode_pair::<K, V>(key, value, &mut block[filled..filled + size]) {
+        write_behind::<K, V, W>(writer, &block[..filled], key, value)?;
+        return Ok(0);
+    }
+    let behind = filled + size;
+    if BLOCK - behind >= size {
+        return Ok(behind);
+    }
+    writer.write(&block[..behind])?;
+    Ok(0)
+}
+
+/// Writes what was put together of pairs, and then a pair that was not.
+#[inline(always)]
+fn write_behind<K: SchemaWrite, V: SchemaWrite, W: Writer>(
+    writer: &mut W,
+    bytes: &[u8],
+    key: &K::Src,
+    value: &V::Src,
+) -> WriteResult<()>
+    requires one_size { (pair_write K.writing V.writing).meta ≡ Dynamic → ⊥ }
+    ensures { let items = items_write (pair_write K.writing V.writing) in
+        (es : List (K.Src × V.Src)) → IsEncoded items (map (sees K.model V.model) es) bytes.now → Each (λ e. K.is_valid e.0 × V.is_valid e.1) es
+        → WriteOutcome items (W.state writer.old) (W.state writer.new) (map (sees K.model V.model) (es ++ ((key.now, value.now) ∷ []))) (K.is_valid key.now × V.is_valid value.now) result }
+{
+    writer.write(bytes)?;
+    write_pair::<K, V, W>(writer, key, value)
 }
 
 /// Puts an encoding of a key, and then of its value, over all of the bytes; or answers `false`.

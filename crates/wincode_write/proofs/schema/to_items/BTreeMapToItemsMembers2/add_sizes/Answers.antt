@@ -1,30 +1,20 @@
-use Rattle.std.proofs.Common.{rules, arith, ◌∙◌, ap, ◌+◌}
+use Rattle.std.proofs.Common.{rules}
 use Rattle.wincode_collect.specs.Seen.{sees}
 use Rattle.wincode_base.specs.Pairs.{pair_write}
-use Rattle.wincode_base.specs.PairSizeLaws.{overflow_refused}
-use Rattle.wincode_base.proofs.Walks.{sum_more, sum_refused, sum_past}
+use Rattle.wincode_base.proofs.Walks.{sum_joined, sum_unjoined}
 use Rattle.wincode_write.proofs.schema.to_items.BTreeMapToItemsMembers2.add_sizes.Goals as goal
-
-pub returns-in_err-size-clause-err : goal.returns-in_err-size-clause-err
-returns-in_err-size-clause-err g c =
-    let K = g.K.SchemaWrite in
-    let V = g.V.SchemaWrite in
-    let h = sum_refused (pair_write K.writing V.writing) (sees K.model V.model) c.args.before _ _ _ _ (c.in-Some-2.key.now, c.in-Some-2.value.now)
-    _ c.loop-key.invariant c.in-Some-2.ensures.steps c.in_err-size.ensures.err in search (rules, h)
 
 pub returns-in_err-sum-clause-err : goal.returns-in_err-sum-clause-err
 returns-in_err-sum-clause-err g c =
     let K = g.K.SchemaWrite in
     let V = g.V.SchemaWrite in
-    let d = c.in_err-sum.ensures.err in
-    let past = sum_past (pair_write K.writing V.writing) (sees K.model V.model) c.args.before _ _ _ _ (c.in-Some-2.key.now, c.in-Some-2.value.now)
-    c.loop-key.invariant c.in-Some-2.ensures.steps (λ fits. absurd (omega (arith, d.0, c.in_ok-size.ensures.ok.1, fits))) in
-    let h = overflow_refused (pair_write K.writing V.writing).builtin _ past d.1 in search (rules, h)
+    let h = sum_unjoined (pair_write K.writing V.writing) (sees K.model V.model) c.args.before _ _ _ _ (c.in-Some-2.key.now, c.in-Some-2.value.now) _ _
+    c.loop-key.invariant c.in-Some-2.ensures.steps c.size_of_members_2.ensures.ok c.size_of_members_2.ensures.err c.in_err-sum.ensures.err in
+    search (rules, h)
 
 pub loop-key-preserved : goal.loop-key-preserved
 loop-key-preserved g c =
     let K = g.K.SchemaWrite in
     let V = g.V.SchemaWrite in
-    let e = c.in_ok-sum.ensures.ok in
-    sum_more (pair_write K.writing V.writing) (sees K.model V.model) c.args.before _ _ _ _ _ (c.in-Some-2.key.now, c.in-Some-2.value.now)
-    c.loop-key.invariant c.in-Some-2.ensures.steps c.in_ok-size.ensures.ok.0 (e ∙ ap (λ n. c.loop-key.sum + n) c.in_ok-size.ensures.ok.1)
+    sum_joined (pair_write K.writing V.writing) (sees K.model V.model) c.args.before _ _ _ _ _ (c.in-Some-2.key.now, c.in-Some-2.value.now) _
+    c.loop-key.invariant c.in-Some-2.ensures.steps c.size_of_members_2.ensures.ok c.in_ok-sum.ensures.ok
