@@ -85,7 +85,7 @@ returns-in_err-make_room-clause-outcome g c =
     let has = text_at s _ _ many c.in_ok-length.ensures.ok.0 in
     let bytes = bytes_are s z _ _ _ _ many c.in_ok-length.ensures.ok.1 (sym c.times_behind.ensures ∙ c.in-Some.is) in
     let p = whole_room_halted s k z T.writing vs has (Some c.in-Some.total) bytes W known c.in-Some.total refl _ d in
-    record { ok = search rules; value = search rules; refused = search (rules, u); place = search (rules, p) }
+    write_refused (list_write_of s k z T.writing) vs _ _ _ c.from_residual-in_err-make_room.ensures u p
 
 pub returns-in_err-write_parts-clause-outcome : goal.returns-in_err-write_parts-clause-outcome
 returns-in_err-write_parts-clause-outcome g c =
