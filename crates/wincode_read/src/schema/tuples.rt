@@ -18,7 +18,7 @@ use crate::schema::{SchemaGet, SchemaRead};
 use std::alloc::Global;
 use wincode_base::error::ReadResult;
 use wincode_base::meta::TypeMeta;
-use wincode_base::parts::Members2;
+use wincode_base::parts::{Members2, Members4, Members7};
 use wincode_base::sizes::pair_meta;
 use wincode_io::{Lending, Reader};
 
@@ -43,6 +43,49 @@ fn read_pairs<L: Lending, T: SchemaRead<L>, D: FromPairs<T::Dst> + Drop, R: Read
 {
     *dst = Some(D::from_pairs(get_in_window::<L, T, R>(alloc, reader)?));
     Ok(())
+}
+
+/// As `read_pairs`, of three members and what stands behind them.
+#[inline]
+fn read_after_3<
+    L: Lending,
+    A: SchemaRead<L>,
+    B: SchemaRead<L>,
+    C: SchemaRead<L>,
+    O: SchemaRead<L>,
+    Made: FromPairs<(A::Dst, (B::Dst, (C::Dst, O::Dst)))> + Drop,
+    R: Reader<L>,
+>(alloc: Global, reader: &mut R, dst: &mut Option<Made>) -> ReadResult<()>
+    ensures { ReadOutcome (windowed_read (pair_read A.reading (pair_read B.reading (pair_read C.reading O.reading))))
+        (λ d. let p = Made.pairs d in (A.model p.0, (B.model p.1.0, (C.model p.1.1.0, O.model p.1.1.1)))) (R.state reader.old) (R.state reader.new) dst.old dst.new result }
+{
+    read_pairs::<L, Members4<A, B, C, O>, Made, R>(alloc, reader, dst)
+}
+
+/// As `read_pairs`, of six members and what stands behind them.
+#[inline]
+fn read_after_6<
+    L: Lending,
+    A: SchemaRead<L>,
+    B: SchemaRead<L>,
+    C: SchemaRead<L>,
+    D: SchemaRead<L>,
+    E: SchemaRead<L>,
+    F: SchemaRead<L>,
+    O: SchemaRead<L>,
+    Made: FromPairs<
+        (
+            A::Dst,
+            (B::Dst, (C::Dst, (D::Dst, (E::Dst, (F::Dst, O::Dst))))),
+        ),
+    >
+        + Drop,
+    R: Reader<L>,
+>(alloc: Global, reader: &mut R, dst: &mut Option<Made>) -> ReadResult<()>
+    ensures { ReadOutcome (windowed_read (pair_read A.reading (pair_read B.reading (pair_read C.reading (pair_read D.reading (pair_read E.reading (pair_read F.reading O.reading)))))))
+        (λ d. let p = Made.pairs d in (A.model p.0, (B.model p.1.0, (C.model p.1.1.0, (D.model p.1.1.1.0, (E.model p.1.1.1.1.0, (F.model p.1.1.1.1.1.0, O.model p.1.1.1.1.1.1))))))) (R.state reader.old) (R.state reader.new) dst.old dst.new result }
+{
+    read_pairs::<L, Members7<A, B, C, D, E, F, O>, Made, R>(alloc, reader, dst)
 }
 
 impl<L: Lending, A: SchemaRead<L>, B: SchemaRead<L>> SchemaRead<L> for Members2<A, B> {

@@ -6,11 +6,11 @@ ghost use Rattle.wincode_base.specs.Pairs.{pair_read};
 
 use crate::schema::SchemaRead;
 use crate::schema::tuples::shorter::decode_8;
-use crate::schema::tuples::{FromPairs, read_pairs};
+use crate::schema::tuples::{FromPairs, read_after_6};
 use std::alloc::Global;
 use wincode_base::error::ReadResult;
 use wincode_base::meta::TypeMeta;
-use wincode_base::parts::{Members9, Members10, Members11, Members12};
+use wincode_base::parts::{Members3, Members4, Members5, Members6};
 use wincode_base::sizes::pair_meta;
 use wincode_io::{Lending, Reader};
 
@@ -253,7 +253,7 @@ impl<
         reader: &mut R,
         dst: &mut Option<Self::Dst>,
     ) -> ReadResult<()> {
-        read_pairs::<L, Members9<A, B, C, D, E, F, G, H, I>, Self::Dst, R>(alloc, reader, dst)
+        read_after_6::<L, A, B, C, D, E, F, Members3<G, H, I>, Self::Dst, R>(alloc, reader, dst)
     }
 
     #[inline(always)]
@@ -366,7 +366,7 @@ impl<
         reader: &mut R,
         dst: &mut Option<Self::Dst>,
     ) -> ReadResult<()> {
-        read_pairs::<L, Members10<A, B, C, D, E, F, G, H, I, J>, Self::Dst, R>(alloc, reader, dst)
+        read_after_6::<L, A, B, C, D, E, F, Members4<G, H, I, J>, Self::Dst, R>(alloc, reader, dst)
     }
 
     #[inline(always)]
@@ -482,7 +482,7 @@ impl<
         reader: &mut R,
         dst: &mut Option<Self::Dst>,
     ) -> ReadResult<()> {
-        read_pairs::<L, Members11<A, B, C, D, E, F, G, H, I, J, K>, Self::Dst, R>(
+        read_after_6::<L, A, B, C, D, E, F, Members5<G, H, I, J, K>, Self::Dst, R>(
             alloc, reader, dst,
         )
     }
@@ -608,7 +608,7 @@ impl<
         reader: &mut R,
         dst: &mut Option<Self::Dst>,
     ) -> ReadResult<()> {
-        read_pairs::<L, Members12<A, B, C, D, E, F, G, H, I, J, K, M>, Self::Dst, R>(
+        read_after_6::<L, A, B, C, D, E, F, Members6<G, H, I, J, K, M>, Self::Dst, R>(
             alloc, reader, dst,
         )
     }

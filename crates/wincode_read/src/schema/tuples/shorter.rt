@@ -6,11 +6,11 @@ ghost use Rattle.wincode_base.specs.Pairs.{pair_read};
 
 use crate::schema::SchemaRead;
 use crate::schema::in_window::read_in_window;
-use crate::schema::tuples::{FromPairs, read_pairs};
+use crate::schema::tuples::{FromPairs, read_after_3, read_after_6, read_pairs};
 use std::alloc::Global;
 use wincode_base::error::ReadResult;
 use wincode_base::meta::TypeMeta;
-use wincode_base::parts::{Members2, Members3, Members4, Members5, Members6, Members7, Members8};
+use wincode_base::parts::{Members2, Members3, Members4};
 use wincode_base::sizes::pair_meta;
 use wincode_io::{Lending, Reader};
 
@@ -367,7 +367,7 @@ impl<L: Lending, A: SchemaRead<L>, B: SchemaRead<L>, C: SchemaRead<L>, D: Schema
         reader: &mut R,
         dst: &mut Option<Self::Dst>,
     ) -> ReadResult<()> {
-        read_pairs::<L, Members4<A, B, C, D>, Self::Dst, R>(alloc, reader, dst)
+        read_after_3::<L, A, B, C, D, Self::Dst, R>(alloc, reader, dst)
     }
 
     #[inline(always)]
@@ -445,7 +445,7 @@ impl<
         reader: &mut R,
         dst: &mut Option<Self::Dst>,
     ) -> ReadResult<()> {
-        read_pairs::<L, Members5<A, B, C, D, E>, Self::Dst, R>(alloc, reader, dst)
+        read_after_3::<L, A, B, C, Members2<D, E>, Self::Dst, R>(alloc, reader, dst)
     }
 
     #[inline(always)]
@@ -531,7 +531,7 @@ impl<
         reader: &mut R,
         dst: &mut Option<Self::Dst>,
     ) -> ReadResult<()> {
-        read_pairs::<L, Members6<A, B, C, D, E, F>, Self::Dst, R>(alloc, reader, dst)
+        read_after_3::<L, A, B, C, Members3<D, E, F>, Self::Dst, R>(alloc, reader, dst)
     }
 
     #[inline(always)]
@@ -619,7 +619,7 @@ impl<
         reader: &mut R,
         dst: &mut Option<Self::Dst>,
     ) -> ReadResult<()> {
-        read_pairs::<L, Members7<A, B, C, D, E, F, G>, Self::Dst, R>(alloc, reader, dst)
+        read_after_6::<L, A, B, C, D, E, F, G, Self::Dst, R>(alloc, reader, dst)
     }
 
     #[inline(always)]
@@ -719,7 +719,7 @@ impl<
         reader: &mut R,
         dst: &mut Option<Self::Dst>,
     ) -> ReadResult<()> {
-        read_pairs::<L, Members8<A, B, C, D, E, F, G, H>, Self::Dst, R>(alloc, reader, dst)
+        read_after_6::<L, A, B, C, D, E, F, Members2<G, H>, Self::Dst, R>(alloc, reader, dst)
     }
 
     #[inline(always)]

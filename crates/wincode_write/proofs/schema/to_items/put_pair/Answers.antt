@@ -35,8 +35,14 @@ returns-then-behind-size-clause-ok g c =
     let size : length c.encode_pair.new.dst ≡ c.args.size = search rules in
     let fits : c.args.filled + c.args.size ≤ length c.args.block.now = search rules in
     let put = c.if-not-encode_pair.ensures refl in
-    λ es encoded each. (put.1, inr (refl, encoded_more (pair_write K.writing V.writing) (sees K.model V.model) es c.args.filled _ _ c.encode_pair.new.dst
-    (c.args.key.now, c.args.value.now) c.args.size encoded size fits put.0))
+    λ es encoded each. (
+      put.1,
+      inr (
+        refl,
+        encoded_more (pair_write K.writing V.writing) (sees K.model V.model) es c.args.filled _ _ c.encode_pair.new.dst
+            (c.args.key.now, c.args.value.now) c.args.size encoded size fits put.0,
+      ),
+    )
 
 -- the block was refused, and the pair stands in it
 pub returns-in_err-write-clause-err : goal.returns-in_err-write-clause-err
