@@ -85,8 +85,22 @@ fn read_after_6<
 >(alloc: Global, reader: &mut R, dst: &mut Option<Made>) -> ReadResult<()>
     ensures { ReadOutcome (windowed_read (pair_read A.reading (pair_read B.reading (pair_read C.reading (pair_read D.reading (pair_read E.reading
         (pair_read F.reading O.reading)))))))
-        (λ d. let p = Made.pairs d in (A.model p.0, (B.model p.1.0, (C.model p.1.1.0, (D.model p.1.1.1.0, (E.model p.1.1.1.1.0,
-        (F.model p.1.1.1.1.1.0, O.model p.1.1.1.1.1.1))))))) (R.state reader.old) (R.state reader.new) dst.old dst.new result }
+        (λ d. let p = Made.pairs d in (
+          A.model p.0,
+          (
+            B.model p.1.0,
+            (
+              C.model p.1.1.0,
+              (
+                D.model p.1.1.1.0,
+                (
+                  E.model p.1.1.1.1.0,
+                  (F.model p.1.1.1.1.1.0, O.model p.1.1.1.1.1.1),
+                ),
+              ),
+            ),
+          ),
+        )) (R.state reader.old) (R.state reader.new) dst.old dst.new result }
 {
     read_pairs::<L, Members7<A, B, C, D, E, F, O>, Made, R>(alloc, reader, dst)
 }
