@@ -3,7 +3,7 @@
 //! Where all members have one size, the tuple is read through one window of the sum, in bytes: fewer bytes are
 //! `Io(ReadSizeLimit)` of the sum, and stay; where a member is refused, the bytes of the whole tuple are gone.
 //! Other tuples go member by member, and a refusal leaves what is behind the members before it.
-ghost use Rattle.std.specs.Prelude.{◌≡◌};
+ghost use Rattle.std.specs.Prelude.{◌≡◌, ◌++◌, ℕ, List, IfSome};
 ghost use Rattle.wincode_base.specs.InWindow.{windowed_read};
 ghost use Rattle.wincode_base.specs.Outcomes.{ReadOutcome};
 ghost use Rattle.wincode_base.specs.PairLaws.{pair_read_laws};
@@ -43,6 +43,28 @@ fn read_pairs<L: Lending, T: SchemaRead<L>, D: FromPairs<T::Dst> + Drop, R: Read
 {
     *dst = Some(D::from_pairs(get_in_window::<L, T, R>(alloc, reader)?));
     Ok(())
+}
+
+/// Puts the value of a first member over that in the place; the bytes behind it. Or answers `None`, and any value may be
+/// there.
+#[inline(always)]
+fn decode_first<'a, L: Lending, T: SchemaRead<L>>(
+    bytes: &'a [u8],
+    place: &mut T::Dst,
+) -> Option<&'a [u8]>
+    ensures { IfSome result (λ rest. (front : List ℕ) × T.reading.reads front (T.model place.new) × (bytes.now ≡ front ++ rest.now)) }
+{
+    match T::type_meta() {
+        TypeMeta::Static { size, .. } if size <= bytes.len() => {
+            let (front, back) = bytes.split_at(size);
+            if T::decode(front, place) {
+                Some(back)
+            } else {
+                None
+            }
+        }
+        _ => None,
+    }
 }
 
 /// As `read_pairs`, of three members and what stands behind them.

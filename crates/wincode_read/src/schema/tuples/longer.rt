@@ -6,7 +6,7 @@ ghost use Rattle.wincode_base.specs.Pairs.{pair_read};
 
 use crate::schema::SchemaRead;
 use crate::schema::tuples::shorter::decode_8;
-use crate::schema::tuples::{FromPairs, read_after_6};
+use crate::schema::tuples::{FromPairs, decode_first, read_after_6};
 use std::alloc::Global;
 use wincode_base::error::ReadResult;
 use wincode_base::meta::TypeMeta;
@@ -44,13 +44,9 @@ fn decode_9<
         (pair_read F.reading (pair_read G.reading (pair_read H.reading I.reading)))))))).reads bytes.now
         (A.model a.new, (B.model b.new, (C.model c.new, (D.model d.new, (E.model e.new, (F.model f.new, (G.model g.new, (H.model h.new, I.model i.new)))))))) }
 {
-    match A::type_meta() {
-        TypeMeta::Static { size, .. } if size <= bytes.len() => {
-            let (front, back) = bytes.split_at(size);
-            A::decode(front, a)
-                && decode_8::<L, B, C, D, E, F, G, H, I>(back, b, c, d, e, f, g, h, i)
-        }
-        _ => false,
+    match decode_first::<L, A>(bytes, a) {
+        Some(back) => decode_8::<L, B, C, D, E, F, G, H, I>(back, b, c, d, e, f, g, h, i),
+        None => false,
     }
 }
 
@@ -86,13 +82,9 @@ fn decode_10<
         (pair_read F.reading (pair_read G.reading (pair_read H.reading (pair_read I.reading J.reading))))))))).reads bytes.now
         (A.model a.new, (B.model b.new, (C.model c.new, (D.model d.new, (E.model e.new, (F.model f.new, (G.model g.new, (H.model h.new, (I.model i.new, J.model j.new))))))))) }
 {
-    match A::type_meta() {
-        TypeMeta::Static { size, .. } if size <= bytes.len() => {
-            let (front, back) = bytes.split_at(size);
-            A::decode(front, a)
-                && decode_9::<L, B, C, D, E, F, G, H, I, J>(back, b, c, d, e, f, g, h, i, j)
-        }
-        _ => false,
+    match decode_first::<L, A>(bytes, a) {
+        Some(back) => decode_9::<L, B, C, D, E, F, G, H, I, J>(back, b, c, d, e, f, g, h, i, j),
+        None => false,
     }
 }
 
@@ -130,13 +122,11 @@ fn decode_11<
         (pair_read F.reading (pair_read G.reading (pair_read H.reading (pair_read I.reading (pair_read J.reading K.reading)))))))))).reads bytes.now
         (A.model a.new, (B.model b.new, (C.model c.new, (D.model d.new, (E.model e.new, (F.model f.new, (G.model g.new, (H.model h.new, (I.model i.new, (J.model j.new, K.model k.new)))))))))) }
 {
-    match A::type_meta() {
-        TypeMeta::Static { size, .. } if size <= bytes.len() => {
-            let (front, back) = bytes.split_at(size);
-            A::decode(front, a)
-                && decode_10::<L, B, C, D, E, F, G, H, I, J, K>(back, b, c, d, e, f, g, h, i, j, k)
-        }
-        _ => false,
+    match decode_first::<L, A>(bytes, a) {
+        Some(back) => decode_10::<L, B, C, D, E, F, G, H, I, J, K>(
+            back, b, c, d, e, f, g, h, i, j, k,
+        ),
+        None => false,
     }
 }
 
@@ -177,15 +167,11 @@ fn decode_12<
         (pair_read K.reading M.reading))))))))))).reads bytes.now
         (A.model a.new, (B.model b.new, (C.model c.new, (D.model d.new, (E.model e.new, (F.model f.new, (G.model g.new, (H.model h.new, (I.model i.new, (J.model j.new, (K.model k.new, M.model m.new))))))))))) }
 {
-    match A::type_meta() {
-        TypeMeta::Static { size, .. } if size <= bytes.len() => {
-            let (front, back) = bytes.split_at(size);
-            A::decode(front, a)
-                && decode_11::<L, B, C, D, E, F, G, H, I, J, K, M>(
-                    back, b, c, d, e, f, g, h, i, j, k, m,
-                )
-        }
-        _ => false,
+    match decode_first::<L, A>(bytes, a) {
+        Some(back) => decode_11::<L, B, C, D, E, F, G, H, I, J, K, M>(
+            back, b, c, d, e, f, g, h, i, j, k, m,
+        ),
+        None => false,
     }
 }
 

@@ -6,7 +6,7 @@ ghost use Rattle.wincode_base.specs.Pairs.{pair_read};
 
 use crate::schema::SchemaRead;
 use crate::schema::in_window::read_in_window;
-use crate::schema::tuples::{FromPairs, read_after_3, read_after_6, read_pairs};
+use crate::schema::tuples::{FromPairs, decode_first, read_after_3, read_after_6, read_pairs};
 use std::alloc::Global;
 use wincode_base::error::ReadResult;
 use wincode_base::meta::TypeMeta;
@@ -24,12 +24,9 @@ pub(crate) fn decode_2<L: Lending, A: SchemaRead<L>, B: SchemaRead<L>>(
 ) -> bool
     ensures { IsTrue result → (pair_read A.reading B.reading).reads bytes.now (A.model a.new, B.model b.new) }
 {
-    match A::type_meta() {
-        TypeMeta::Static { size, .. } if size <= bytes.len() => {
-            let (front, back) = bytes.split_at(size);
-            A::decode(front, a) && B::decode(back, b)
-        }
-        _ => false,
+    match decode_first::<L, A>(bytes, a) {
+        Some(back) => B::decode(back, b),
+        None => false,
     }
 }
 
@@ -44,12 +41,9 @@ fn decode_3<L: Lending, A: SchemaRead<L>, B: SchemaRead<L>, C: SchemaRead<L>>(
 ) -> bool
     ensures { IsTrue result → (pair_read A.reading (pair_read B.reading C.reading)).reads bytes.now (A.model a.new, (B.model b.new, C.model c.new)) }
 {
-    match A::type_meta() {
-        TypeMeta::Static { size, .. } if size <= bytes.len() => {
-            let (front, back) = bytes.split_at(size);
-            A::decode(front, a) && decode_2::<L, B, C>(back, b, c)
-        }
-        _ => false,
+    match decode_first::<L, A>(bytes, a) {
+        Some(back) => decode_2::<L, B, C>(back, b, c),
+        None => false,
     }
 }
 
@@ -66,12 +60,9 @@ fn decode_4<L: Lending, A: SchemaRead<L>, B: SchemaRead<L>, C: SchemaRead<L>, D:
     ensures { IsTrue result → (pair_read A.reading (pair_read B.reading (pair_read C.reading D.reading))).reads bytes.now
         (A.model a.new, (B.model b.new, (C.model c.new, D.model d.new))) }
 {
-    match A::type_meta() {
-        TypeMeta::Static { size, .. } if size <= bytes.len() => {
-            let (front, back) = bytes.split_at(size);
-            A::decode(front, a) && decode_3::<L, B, C, D>(back, b, c, d)
-        }
-        _ => false,
+    match decode_first::<L, A>(bytes, a) {
+        Some(back) => decode_3::<L, B, C, D>(back, b, c, d),
+        None => false,
     }
 }
 
@@ -96,12 +87,9 @@ fn decode_5<
     ensures { IsTrue result → (pair_read A.reading (pair_read B.reading (pair_read C.reading (pair_read D.reading E.reading)))).reads bytes.now
         (A.model a.new, (B.model b.new, (C.model c.new, (D.model d.new, E.model e.new)))) }
 {
-    match A::type_meta() {
-        TypeMeta::Static { size, .. } if size <= bytes.len() => {
-            let (front, back) = bytes.split_at(size);
-            A::decode(front, a) && decode_4::<L, B, C, D, E>(back, b, c, d, e)
-        }
-        _ => false,
+    match decode_first::<L, A>(bytes, a) {
+        Some(back) => decode_4::<L, B, C, D, E>(back, b, c, d, e),
+        None => false,
     }
 }
 
@@ -129,12 +117,9 @@ fn decode_6<
         (pair_read E.reading F.reading))))).reads bytes.now
         (A.model a.new, (B.model b.new, (C.model c.new, (D.model d.new, (E.model e.new, F.model f.new))))) }
 {
-    match A::type_meta() {
-        TypeMeta::Static { size, .. } if size <= bytes.len() => {
-            let (front, back) = bytes.split_at(size);
-            A::decode(front, a) && decode_5::<L, B, C, D, E, F>(back, b, c, d, e, f)
-        }
-        _ => false,
+    match decode_first::<L, A>(bytes, a) {
+        Some(back) => decode_5::<L, B, C, D, E, F>(back, b, c, d, e, f),
+        None => false,
     }
 }
 
@@ -164,12 +149,9 @@ fn decode_7<
         (pair_read F.reading G.reading)))))).reads bytes.now
         (A.model a.new, (B.model b.new, (C.model c.new, (D.model d.new, (E.model e.new, (F.model f.new, G.model g.new)))))) }
 {
-    match A::type_meta() {
-        TypeMeta::Static { size, .. } if size <= bytes.len() => {
-            let (front, back) = bytes.split_at(size);
-            A::decode(front, a) && decode_6::<L, B, C, D, E, F, G>(back, b, c, d, e, f, g)
-        }
-        _ => false,
+    match decode_first::<L, A>(bytes, a) {
+        Some(back) => decode_6::<L, B, C, D, E, F, G>(back, b, c, d, e, f, g),
+        None => false,
     }
 }
 
@@ -201,12 +183,9 @@ pub(crate) fn decode_8<
         (pair_read F.reading (pair_read G.reading H.reading))))))).reads bytes.now
         (A.model a.new, (B.model b.new, (C.model c.new, (D.model d.new, (E.model e.new, (F.model f.new, (G.model g.new, H.model h.new))))))) }
 {
-    match A::type_meta() {
-        TypeMeta::Static { size, .. } if size <= bytes.len() => {
-            let (front, back) = bytes.split_at(size);
-            A::decode(front, a) && decode_7::<L, B, C, D, E, F, G, H>(back, b, c, d, e, f, g, h)
-        }
-        _ => false,
+    match decode_first::<L, A>(bytes, a) {
+        Some(back) => decode_7::<L, B, C, D, E, F, G, H>(back, b, c, d, e, f, g, h),
+        None => false,
     }
 }
 

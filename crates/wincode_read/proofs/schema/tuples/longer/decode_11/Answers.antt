@@ -1,9 +1,4 @@
-use Rattle.std.proofs.Common.{rules, refl, ◌≡◌, ◌++◌}
 use Rattle.wincode_read.proofs.schema.tuples.longer.decode_11.Goals as goal
 
-pub returns-then-decode : goal.returns-then-decode
-returns-then-decode g c = λ done.
-    let front = c.split_at.result.0.now in
-    let back = c.split_at.result.1.now in
-    let joined : c.args.bytes.now ≡ front ++ back = search rules in
-    (front, back, c.if-decode.ensures refl, c.decode_10.ensures done, joined)
+pub returns-in-Some : goal.returns-in-Some
+returns-in-Some g c = λ done. let first = c.in-Some.ensures in (first.0, c.in-Some.back.now, first.1, c.decode_10.ensures done, first.2)
