@@ -32,12 +32,20 @@ fn forms(rt: HostRuntime) -> Result<(), Fail> {
     Ok(())
 }
 
-/// Items that are read one by one.
+/// Items without bytes.
 #[test]
 fn lists(rt: HostRuntime) -> Result<(), Fail> {
     let alloc = rt.alloc();
     let list: Vec<()> = deserialize(alloc, LENGTH.as_slice())?;
     assert_eq!(rt; list.len(), COUNT);
+    Ok(())
+}
+
+/// Items of no one size.
+#[test]
+fn options(rt: HostRuntime) -> Result<(), Fail> {
+    let alloc = rt.alloc();
+    assert!(rt; keeps_all::<_, Vec<Option<()>>>(alloc, alike(alloc, 8 + COUNT)?.as_slice())?);
     Ok(())
 }
 
