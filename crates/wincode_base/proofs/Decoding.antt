@@ -1,7 +1,7 @@
 -- Values that are decoded from bytes, one after another.
 use Rattle.std.proofs.Common.{◌≡◌, ◌∙◌, sym, ap, subst, refl, ℕ, ◌+◌, ◌<◌, List, [], ◌∷◌, ◌++◌, length, map, take, drop, slice_set, append_assoc}
 use Rattle.std.proofs.Common.{append-nil, length-append, take-append-drop, arith}
-use Rattle.std.proofs.lemmas.List.{map-append, take_more_set, take_all}
+use Rattle.std.proofs.lemmas.List.{map-append, take_more_set}
 use Rattle.std.proofs.Math.Seq.{set-append_seam}
 use Rattle.wincode_io.specs.Joins.{Joined, AreItems}
 use Rattle.wincode_io.specs.JoinLaws.{joined_append}
@@ -49,9 +49,6 @@ pub record AddedSoFar {D V : Type 0} (reads : List ℕ → V → Type 0) (model 
   pub so_far : ReadSoFar reads bytes rest i (map model items)
 
 module _ {D V : Type 0} (reads : List ℕ → V → Type 0) (model : D → V) where
-  pub decoded_none : (bytes : List ℕ) (places : List D) → DecodedSoFar reads model bytes bytes 0 places
-  decoded_none bytes places = record { so_far = read_none reads bytes }
-
   pub decoded_more : (bytes rest : List ℕ) (i size : ℕ) (places : List D) (d : D) (next left : List ℕ) → DecodedSoFar reads model bytes rest i places → i
       < length places → next ≡ take size rest → left ≡ drop size rest → reads next (model d)
       → DecodedSoFar reads model bytes left (i + 1) (slice_set places i d)
@@ -62,12 +59,6 @@ module _ {D V : Type 0} (reads : List ℕ → V → Type 0) (model : D → V) wh
         so_far = subst (ReadSoFar reads bytes left (i + 1)) (sym e)
             (read_more reads bytes rest i size (map model (take i places)) (model d) next left so.so_far is_next is_left r);
       }
-
-  pub decoded_all : (bytes rest : List ℕ) (i n : ℕ) (places : List D) → DecodedSoFar reads model bytes rest i places → i ≡ n → length places ≡ n → length rest
-      ≡ 0 → AreItems n reads bytes (map model places)
-  decoded_all bytes rest i n places so e size none =
-      let all : take i places ≡ places = ap (λ k. take k places) e ∙ take_all n places (omega (arith, size)) in
-      subst (λ ds. AreItems n reads bytes (map model ds)) all (read_all_of reads bytes rest i n (map model (take i places)) so.so_far e none)
 
   pub added_none : (bytes : List ℕ) (before : List D) → AddedSoFar reads model bytes bytes 0 before before
   added_none bytes before = record { items = []; is = sym (append-nil before); so_far = read_none reads bytes }

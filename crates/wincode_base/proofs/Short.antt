@@ -4,17 +4,19 @@ use Rattle.std.proofs.Math.Seq.{take-append_seam}
 use Rattle.wincode_io.specs.ShortNumbers.{short_encoding, BeginsShort, BeginsNoShort}
 use Rattle.wincode_io.specs.ShortNumberLaws.{short_shown, short_whole}
 use Rattle.wincode_io.specs.Places.{onward}
-use Rattle.wincode_io.specs.PlaceLaws.{kept_trans, known_kept, stays_onward}
-use Rattle.wincode_io.specs.Readers.{ReaderState, Stays, Loses, IsShown}
+use Rattle.wincode_io.specs.PlaceLaws.{kept_trans, known_kept, stays_onward, unsteady}
+use Rattle.wincode_io.specs.Readers.{ReaderState, Stays, Loses, IsShown, ReadRefusedFor, BytesReadRefused, nothing}
 use Rattle.wincode_io.specs.Writers.{WriterState, WriterLaws, Added, BytesWriteRefused}
 use Rattle.wincode_base.specs.Lengths.{HasEncoding, encoding_len, length_write}
 use Rattle.wincode_base.specs.Short.{short_read, short_scheme}
 use Rattle.wincode_base.specs.ShortLaws.{short_has}
 use Rattle.wincode_base.specs.WriteSequences.{encoding_wrote, encoding_unwritten, encoding_stopped}
-use Rattle.wincode_base.specs.Outcomes.{Gives, ReadRefused, Accepts, Wrote, WriteRefused, Stopped, PieceWriteRefused}
+use Rattle.wincode_base.specs.Outcomes.{Gives, ReaderDue, ReadRefused, SchemaReadRefused, Accepts, Wrote, WriteRefused, Stopped, PieceWriteRefused}
 use Rattle.wincode_base.specs.FixedSizeLaws.{takes_gives}
 use Rattle.wincode_base.specs.declared.error.ReadError.TheVariants as reading
 use Rattle.wincode_base.specs.declared.error.WriteError.TheVariants as writing
+use Rattle.wincode_io.specs.declared.error.ReadError.{ReadError as IoReadError}
+use Rattle.wincode_io.specs.declared.error.ReadError.TheVariants as reader
 use Rattle.wincode_io.specs.declared.error.WriteError.{WriteError as IoWriteError}
 
 -- ---- reading
@@ -47,6 +49,24 @@ module _ {old mid : ReaderState} {bytes : List ℕ} (stays : Stays old mid) (sho
     front = λ t. let w = short_whole old.rest n (subst (λ r. BeginsShort r n) (shown.1 t) b) in
         sym (ap (take (length (short_encoding n))) w.1.1 ∙ take-append_seam (short_encoding n) w.1.0);
   } (b.0, refl)
+
+-- the reader refused the first three
+denied_due : (accepted : Type 0) (new : ReaderState) (e : IoReadError) → ReadRefusedFor ⊥ ⊥ 3 new e → ReaderDue accepted nothing new e
+denied_due accepted new (reader.ReadSizeLimit n) d = absurd d.0
+denied_due accepted new reader.UnsupportedZeroCopy d = absurd d
+denied_due accepted new reader.OutOfMemory d = unsteady new d
+denied_due accepted new (reader.Io e) d = d
+
+pub short_denied : (old new : ReaderState) (e : IoReadError) → BytesReadRefused ⊥ ⊥ 3 old new e → SchemaReadRefused short_read old new (reading.Io e)
+short_denied old new e d = (
+  record {
+    kept = d.0.kept;
+    left = λ t. record { front = []; joins = sym (d.0.rest t) };
+    place = stays_onward old new d.0;
+    due = denied_due (Accepts short_read.reads old) new e d.1;
+  },
+  d,
+)
 
 -- ---- writing
 

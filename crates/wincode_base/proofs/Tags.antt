@@ -2,7 +2,7 @@
 use Rattle.std.proofs.Common.{◌≡◌, ◌∙◌, sym, ap, subst, ℕ, ◌<◌, ◌≤◌, ◌&&◌, true, List, [], ◌++◌, max, refl, arith, Option, Some, None, Result, Ok}
 use Rattle.std.proofs.Common.{Err, length, append-nil, inl, inr, ◌-◌}
 use Rattle.std.specs.Int.{Width, byte_len, from_le_bytes}
-use Rattle.wincode_io.specs.Readers.{ReaderState, Takes}
+use Rattle.wincode_io.specs.Readers.{ReaderState, Takes, TakesNumber}
 use Rattle.wincode_io.specs.Numbers.{le}
 use Rattle.wincode_io.specs.NumberLaws.{length-le}
 use Rattle.wincode_io.specs.Writers.{WriterState, WriterLaws}
@@ -28,6 +28,10 @@ use Rattle.wincode_base.specs.declared.error.WriteError.{WriteError}
 pub tag_refuses : (size k : ℕ) → size ≡ k → (old new : ReaderState) (e : ReadError) → PieceReadRefused k old new e
     → SchemaReadRefused (number_read size true) old new e
 tag_refuses size k is old new e d = let h = subst (λ n. PieceReadRefused n old new e) (sym is) d in (number_refuses size true old new e h, h)
+
+-- a number that was taken is a tag
+pub tag_taken : (size k : ℕ) → size ≡ k → (old new : ReaderState) (v : ℕ) → TakesNumber k old new v → Gives (number_read size true).reads old new v
+tag_taken size k is old new v t = subst (λ n. Gives (number_read n true).reads old new v) (sym is) (number_gives k true old new v t)
 
 -- bytes that were taken are those of their tag
 pub tag_given : (w : Width) (some : 0 < byte_len w) (size : ℕ) → size ≡ byte_len w → (old new : ReaderState) (bytes : List ℕ) (v : ℕ)

@@ -1,8 +1,8 @@
 -- Writing items a block at a time.
 use Rattle.std.proofs.Common.{◌≡◌, ◌∙◌, sym, ap, ℕ, ◌+◌, ◌-◌, ◌*◌, ◌≤◌, List, ◌++◌, length, take, drop, arith, append_assoc, length-append, take-append-drop}
-use Rattle.std.proofs.Math.Nat.{mul-le-mul_right}
+use Rattle.std.proofs.Math.Nat.{mul-le-mul, mul-le-mul_right}
 use Rattle.std.proofs.lemmas.Grind.{flat_map-append}
-use Rattle.std.proofs.lemmas.List.{take_at, drop_at}
+use Rattle.std.proofs.lemmas.List.{take_at, drop_at, length-take-le}
 use Rattle.std.specs.List.{All, flat_map}
 use Rattle.wincode_io.specs.JoinedForms.{length-joined}
 use Rattle.wincode_io.specs.Writers.{WriterState, WriterLaws, Took}
@@ -36,3 +36,8 @@ module _ {X : Type 0} (xs block more : List X) (d : ℕ) (left : drop d xs ≡ b
             (omega (arith, length-joined form s (take d xs) before, length-joined form s block here, long, fits))
             ∙ ap (put old.content) (sym (ap (flat_map form) done_more ∙ flat_map-append form (take d xs) block));
       }
+
+-- the bytes of a block of k forms
+pub block_bytes : (k s t : ℕ) (bytes : List ℕ) → length bytes ≡ 1024 → k ≤ 64 → t ≡ s → s ≤ 16 → length (take (k * t) bytes) ≡ k * s
+block_bytes k s t bytes long few same small =
+    let most : k * s ≤ 64 * 16 = mul-le-mul few small in rw same (length-take-le (k * s) bytes (omega (arith, most, long)))

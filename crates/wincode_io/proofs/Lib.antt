@@ -8,5 +8,7 @@ pub mod Ranges
 pub mod Refusals
 pub mod Resting
 pub mod Took
+pub mod Asked
+pub mod WindowSteps
 pub mod KeptBytes
 pub mod SinkFronts

@@ -1,2 +1,4 @@
+mod Exits
 mod Pending
+mod Walked
 pub mod Fronts

@@ -2,7 +2,7 @@
 use Rattle.std.proofs.Common.{◌≡◌, ◌∙◌, sym, ap, subst, ℕ, ◌+◌, ◌≤◌, List, [], ◌∷◌, ◌++◌, length, map, take, refl, arith, append_assoc}
 use Rattle.std.proofs.Common.{◌⊎◌, inl, inr, Result, Ok, Err}
 use Rattle.std.specs.Prelude.{IfErr}
-use Rattle.std.proofs.lemmas.List.{map-append}
+use Rattle.std.proofs.lemmas.List.{map-append, take_all}
 use Rattle.std.proofs.lemmas.Slice.{take-put_mid, take-put_mid_below}
 use borrow.Rule.Slice.PartMut.{put_mid}
 use Rattle.wincode_io.specs.Joins.{Joined, Each}
@@ -27,10 +27,6 @@ pub record PendingSoFar {S K E V : Type 0} {put : S → List ℕ → S} {room : 
   pub written : WritesSoFar g see P old cur all (pending ++ rest)
   pub encoded : IsEncoded (items_write g) (map see pending) (take filled block)
   pub each : Each P pending
-
-whole : (bytes : List ℕ) → take (length bytes) bytes ≡ bytes
-whole [] = refl
-whole (b ∷ bytes) = ap (λ t. b ∷ t) (whole bytes)
 
 run_is : {E : Type 0} (pending rest left : List E) (e : E) → left ≡ e ∷ rest → pending ++ left ≡ (pending ++ (e ∷ [])) ++ rest
 run_is pending rest left e is = ap (λ t. pending ++ t) is ∙ sym (append_assoc pending (e ∷ []) rest)
@@ -113,7 +109,7 @@ module _ {S K V E : Type 0} {put : S → List ℕ → S} {room : S → ℕ} (law
   pub block_wrote : {old new : WriterState put room K} (es more all : List E) (bytes : List ℕ) → es ++ more ≡ all
       → IsEncoded (items_write g) (map see es) bytes → Each P es → Added bytes old new → WritesSoFar g see P old new all more
   block_wrote {old} {new} es more all bytes joins encoded each a =
-      let is = sym (whole bytes) in
+      let is = sym (take_all (length bytes) bytes (omega arith)) in
       pending_written (block_pending es more all (length bytes) bytes joins (subst (IsEncoded (items_write g) (map see es)) is encoded) each)
       (subst (λ t. Added t old new) is a)
 
@@ -121,7 +117,7 @@ module _ {S K V E : Type 0} {put : S → List ℕ → S} {room : S → ℕ} (law
       → IsEncoded (items_write g) (map see es) bytes → Each P es → (g.meta ≡ Dynamic → ⊥) → BytesWriteRefused (length bytes) old new e
       → WriteRefused (items_write g) old new (map see all) (Io e) × Stopped (items_write g) old new (map see all) (Io e)
   block_refused {old} {new} es more all bytes e joins encoded each one_size d =
-      let is = sym (whole bytes) in
+      let is = sym (take_all (length bytes) bytes (omega arith)) in
       let w = block_pending es more all (length bytes) bytes joins (subst (IsEncoded (items_write g) (map see es)) is encoded) each in
       let r = subst (λ t. BytesWriteRefused (length t) old new e) is d in
       (pending_refused w r, pending_halted one_size w r)

@@ -1,13 +1,14 @@
-use Rattle.std.proofs.Common.{rules, arith, refl, min, ◌≡◌, ◌<◌, ◌≤◌, ◌*◌, ◌^◌}
+use Rattle.std.proofs.Common.{arith, refl, min, ◌≡◌, ◌<◌, ◌≤◌, ◌*◌, ◌^◌}
 use Rattle.wincode_io.specs.Writers.{byte_limit}
+use Rattle.wincode_base.specs.Lengths.{length_read, bincode}
+use Rattle.wincode_base.proofs.ReadAnswers.{get_refused}
 use Rattle.wincode_base.proofs.Lengths.{length_denied, length_given, length_not_accepted}
 use Rattle.wincode_base.proofs.len.BincodeLenSeqLen.read.Goals as goal
 
 pub returns-in_err-len : goal.returns-in_err-len
 returns-in_err-len g c =
-    let d = length_denied g.row.MAX_SIZE c.args.prealloc _ _ _ c.in_err-len.ensures.err in
-    let u = d.0 in
-    let p = d.1 in search (rules, u, p)
+    get_refused (length_read (bincode g.row.MAX_SIZE) c.args.prealloc) (λ n. n) _ _ c.from_residual.ensures
+    (length_denied g.row.MAX_SIZE c.args.prealloc _ _ _ c.in_err-len.ensures.err)
 
 pub returns-in-Some : goal.returns-in-Some
 returns-in-Some g c =

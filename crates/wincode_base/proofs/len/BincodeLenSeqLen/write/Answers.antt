@@ -1,4 +1,6 @@
-use Rattle.std.proofs.Common.{rules, arith, ◌<◌, ◌^◌}
+use Rattle.std.proofs.Common.{arith, ◌<◌, ◌^◌}
+use Rattle.wincode_base.specs.Lengths.{length_write, bincode}
+use Rattle.wincode_base.proofs.WriteAnswers.{write_refused}
 use Rattle.wincode_base.proofs.Lengths.{length_wrote, length_unwritten, length_halted}
 use Rattle.wincode_base.proofs.len.BincodeLenSeqLen.write.Goals as goal
 
@@ -7,8 +9,9 @@ returns-in_err-write g c =
     let fits : c.args.len < 2 ^ 64 = omega (arith, c.ranges.len.fits) in
     let laws = g.met.W.Writer.writer_laws in
     let d = c.in_err-write.ensures.err in
-    let u = length_unwritten g.row.MAX_SIZE c.args.len fits c.to_le_bytes.ensures laws _ d in
-    let p = length_halted g.row.MAX_SIZE c.args.len fits c.to_le_bytes.ensures laws _ d in search (rules, u, p)
+    write_refused (length_write (bincode g.row.MAX_SIZE)) _ _ _ _ c.from_residual.ensures
+    (length_unwritten g.row.MAX_SIZE c.args.len fits c.to_le_bytes.ensures laws _ d)
+    (length_halted g.row.MAX_SIZE c.args.len fits c.to_le_bytes.ensures laws _ d)
 
 pub returns : goal.returns
 returns g c =

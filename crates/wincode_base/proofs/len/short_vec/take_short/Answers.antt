@@ -1,5 +1,8 @@
-use Rattle.std.proofs.Common.{refl}
-use Rattle.wincode_base.proofs.Short.{short_overflow, short_given}
+use Rattle.std.proofs.Common.{refl, ap, length, arith, length-append}
+use Rattle.wincode_io.specs.ShortNumbers.{short_encoding}
+use Rattle.wincode_base.specs.Short.{short_read}
+use Rattle.wincode_base.proofs.ReadAnswers.{get_refused}
+use Rattle.wincode_base.proofs.Short.{short_denied, short_overflow, short_given}
 use Rattle.wincode_base.proofs.len.short_vec.take_short.Goals as goal
 
 pub returns-in-Some : goal.returns-in-Some
@@ -20,3 +23,15 @@ returns-in-None g c =
       place =
           (fills.0, refl);
     })
+
+pub returns-in_err-bytes : goal.returns-in_err-bytes
+returns-in_err-bytes g c =
+    let fills = rw c.in_err-bytes.was at c.fill_buf.follows.holds-at-none in
+    get_refused short_read (λ n. n) _ _ c.from_residual.ensures (short_denied _ _ _ (fills.0, fills.2))
+
+pub consume_unchecked-requires : goal.consume_unchecked-requires
+consume_unchecked-requires g c =
+    let fills = rw c.in_ok-bytes.was at c.fill_buf.follows.holds-at-none in
+    let begins = c.in-Some.ensures.1 in
+    let whole = ap length begins.1 in
+    omega (arith, fills.1, whole, c.short_size.ensures, length-append (short_encoding c.in-Some.value) begins.0)

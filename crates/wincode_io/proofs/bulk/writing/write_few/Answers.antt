@@ -1,5 +1,6 @@
 use Rattle.std.proofs.Common.{rules, ◌≡◌, ◌∙◌, sym, ap, ◌+◌, ◌-◌, ◌*◌, ◌++◌, length, take, drop, arith, length-append, take-append-drop}
 use Rattle.std.specs.List.{All, flat_map}
+use Rattle.std.proofs.lemmas.List.{take_all}
 use Rattle.std.proofs.lemmas.List.Elements.{All-append}
 use Rattle.wincode_io.specs.Writers.{Took}
 use Rattle.wincode_io.proofs.Blocks.{done_more, left_more, took_more}
@@ -24,7 +25,7 @@ loop-rest-preserved g c =
     let took : Took (flat_map T.form run) (W.state c.loop-rest.writer) (W.state c.write_first-n.new.writer) = rw front at wrote.took in
     let counts : length rest ≡ length run + length more = ap length cut ∙ length-append run more in
     let sizes : length rest * T.size ≡ (length run + length more) * T.size = ap (λ k. k * T.size) counts in
-    let size : length run ≡ n = search rules in
+    let size = c.split_at.ensures.front_len in
     let written : n * T.size ≡ length run * T.size = ap (λ k. k * T.size) (sym size) in
     record {
       took = took_more xs run more done left g.met.W.Writer.writer_laws T.form T.size (W.state c.args.writer.now) (W.state c.loop-rest.writer) _
@@ -35,3 +36,13 @@ loop-rest-preserved g c =
       ready = omega (arith, so_far.ready, wrote.ready, written, sizes);
       is_valid = rw (done_more xs run more done left) (All-append T.is_valid (take done xs) run so_far.is_valid is_valid);
     }
+
+pub returns-clause-took : goal.returns-clause-took
+returns-clause-took g c =
+    let none : length c.loop-rest.rest.now ≡ 0 = search rules in
+    rw (take_all (length c.args.values.now - length c.loop-rest.rest.now) c.args.values.now (omega (arith, none))) at c.loop-rest.invariant.took
+
+pub returns-clause-is_valid : goal.returns-clause-is_valid
+returns-clause-is_valid g c =
+    let none : length c.loop-rest.rest.now ≡ 0 = search rules in
+    rw (take_all (length c.args.values.now - length c.loop-rest.rest.now) c.args.values.now (omega (arith, none))) at c.loop-rest.invariant.is_valid

@@ -1,7 +1,10 @@
-use Rattle.std.proofs.Common.{rules, length, ◌∙◌, ◌≡◌, [], ◌++◌, arith, ap}
+use Rattle.std.proofs.Common.{rules, ◌∙◌, ◌≡◌, [], arith}
 use Rattle.wincode_base.specs.ListLaws.{items_none, no_memory}
-use Rattle.wincode_base.proofs.Items.{cut_back, item_wanted}
+use Rattle.wincode_base.proofs.Items.{item_wanted}
 use Rattle.wincode_read.proofs.schema.SchemaRead.read_items.Goals as goal
+
+pub returns-in-Some : goal.returns-in-Some
+returns-in-Some g c = c.in-Some.ensures.done
 
 pub returns-then-is_err : goal.returns-then-is_err
 returns-then-is_err g c =

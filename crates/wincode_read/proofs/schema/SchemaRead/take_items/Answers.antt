@@ -1,4 +1,4 @@
-use Rattle.std.proofs.Common.{refl, rules, arith, ◌∙◌, ap, ◌++◌, append_assoc}
+use Rattle.std.proofs.Common.{refl, sym, true≢false, rules, arith, ◌∙◌, ap, ◌++◌, append_assoc}
 use Rattle.wincode_base.proofs.Decoding.{added_none, added_more, added_all}
 use Rattle.wincode_read.proofs.schema.SchemaRead.take_items.Goals as goal
 
@@ -6,14 +6,14 @@ pub loop-i-init : goal.loop-i-init
 loop-i-init g c = added_none g.Self.SchemaRead.reading.reads g.Self.SchemaRead.model _ _
 
 pub returns-then-rest-size : goal.returns-then-rest-size
-returns-then-rest-size g c = (c.loop-i.invariant.items, c.loop-i.invariant.is, λ t. absurd (cc t))
+returns-then-rest-size g c = (c.loop-i.invariant.items, c.loop-i.invariant.is, λ t. absurd (true≢false (sym t)))
 
 pub returns-then-not-add_decoded : goal.returns-then-not-add_decoded
 returns-then-not-add_decoded g c =
     let more = c.add_decoded.ensures in (
       c.loop-i.invariant.items ++ more.0,
       more.1 ∙ ap (λ t. t ++ more.0) c.loop-i.invariant.is ∙ append_assoc _ c.loop-i.invariant.items more.0,
-      λ t. absurd (cc t),
+      λ t. absurd (true≢false (sym t)),
     )
 
 pub loop-i-preserved : goal.loop-i-preserved

@@ -1,20 +1,14 @@
-use Rattle.std.proofs.Common.{refl, rules, arith, ◌≡◌, ◌<◌, length}
-use Rattle.wincode_base.proofs.Decoding.{decoded_none, decoded_more, decoded_all}
+use Rattle.std.proofs.Common.{refl, ap, sym, arith, ◌∙◌, ◌≡◌, ◌+◌, ◌*◌, ◌<◌, length, take, drop}
+use Rattle.std.proofs.lemmas.List.{drop-drop}
+use Rattle.wincode_base.proofs.Decoding.{decoded_more}
 use Rattle.wincode_read.proofs.schema.SchemaRead.take_over.Goals as goal
 
-pub loop-place-init : goal.loop-place-init
-loop-place-init g c = decoded_none g.Self.SchemaRead.reading.reads g.Self.SchemaRead.model _ _
-
-pub loop-place-preserved : goal.loop-place-preserved
-loop-place-preserved g c =
+pub loop-i-preserved : goal.loop-i-preserved
+loop-i-preserved g c =
     let T = g.Self.SchemaRead in
-    let within : c.loop-place.place-index < length c.loop-place.places = omega (arith, c.loop-place-test.true, c.loop-place.auto.places) in
-    decoded_more T.reading.reads T.model _ _ _ c.in-Static.size c.loop-place.places _ _ _ c.loop-place.invariant within c.split_at.ensures.front
-    c.split_at.ensures.back (c.if-not-decode.ensures refl)
-
-pub returns : goal.returns
-returns g c = λ t.
-    let T = g.Self.SchemaRead in
-    let all : c.loop-place.place-index ≡ length c.args.places.now = omega (arith, c.loop-place-test.false, c.loop-place.auto.place-index-end) in
-    let none : length c.loop-place.rest.now ≡ 0 = search rules in
-    decoded_all T.reading.reads T.model _ _ c.loop-place.place-index _ _ c.loop-place.invariant all c.loop-place.auto.places none
+    let bytes = c.if-total-le-FEW.all.now in
+    let at = c.loop-i.i * c.in-Static.size in
+    let within : c.loop-i.i < length c.loop-i.places = omega (arith, c.loop-i-test.true, c.loop-i.auto.places) in
+    let next : (c.loop-i.i + 1) * c.in-Static.size ≡ at + c.in-Static.size = grind arith in
+    decoded_more T.reading.reads T.model bytes (drop at bytes) c.loop-i.i c.in-Static.size c.loop-i.places c.decode.new.place _ _ c.loop-i.invariant within
+    (ap (λ k. take k (drop at bytes)) (omega arith)) (ap (λ k. drop k bytes) next ∙ sym (drop-drop c.in-Static.size at bytes)) (c.if-not-decode.ensures refl)

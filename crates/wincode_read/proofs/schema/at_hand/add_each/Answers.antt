@@ -1,4 +1,5 @@
-use Rattle.std.proofs.Common.{refl, rules, arith, ◌≡◌, ◌≤◌, ◌+◌, ◌∙◌, ◌++◌, ◌∷◌, [], sym, ap, append_assoc}
+use Rattle.std.proofs.Common.{refl, arith, ◌≡◌, ◌≤◌, ◌+◌, ◌∙◌, ◌++◌, ◌∷◌, []}
+use Rattle.wincode_read.proofs.Exits.{if_passed}
 use Rattle.wincode_base.specs.Lists.{items_read}
 use Rattle.wincode_base.specs.Outcomes.{SchemaReadRefused}
 use Rattle.wincode_base.specs.ListLaws.{items_refused, items_more, no_memory}
@@ -22,7 +23,8 @@ returns-in_err-item-clause-err g c =
       items_refused T.reading.reads g.met.T.SchemaRead.read_laws.one_front c.loop-i._i c.args.n T.reading.borrow T.reading.takes_no_memory c.loop-i-test.true _
           _ _ _ _ c.loop-i.invariant.gives o.refused,
       λ dynamic. item_stopped c.args.n T.reading c.loop-i._i _ _ _ _ _ c.loop-i-test.true c.loop-i.invariant.gives (o.refused, o.place),
-    ) in search (rules, h)
+    ) in
+    if_passed _ _ _ c.from_residual.ensures h
 
 pub returns-in_err-item-clause-kept : goal.returns-in_err-item-clause-kept
 returns-in_err-item-clause-kept g c = (c.loop-i.invariant.items, c.loop-i.invariant.is)

@@ -1,9 +1,9 @@
-use Rattle.std.proofs.Common.{rules, false, ◌∙◌, sym, refl, inl, inr}
+use Rattle.std.proofs.Common.{false, ◌∙◌, sym, refl, inl, inr}
 use Rattle.wincode_io.specs.Joins.{AreItems}
 use Rattle.wincode_base.specs.declared.error.ReadError.TheVariants as reading
 use Rattle.wincode_base.specs.FixedSizeLaws.{window_denied_refuses}
 use Rattle.wincode_base.specs.Lists.{items_read, run_read}
-use Rattle.wincode_base.proofs.ReadAnswers.{make_map}
+use Rattle.wincode_base.proofs.ReadAnswers.{make_refused, make_map}
 use Rattle.wincode_base.proofs.InWindow.{window_refuses}
 use Rattle.wincode_base.proofs.Runs.{known_size, run_each, run_encoding, run_placed, run_long, too_long, run_gives}
 use Rattle.wincode_read.proofs.schema.from_items.get_run.Goals as goal
@@ -21,7 +21,7 @@ returns-in_err-window-in-Some g c = let T = g.T.SchemaRead.reading in let S = g.
     let d = c.in_err-window-in-Some.ensures.err in
     let h = window_denied_refuses (AreItems c.args.n T.reads) c.in-Some.total sized T.borrow false _ _ e d in
     let p = run_placed T c.args.n c.args.size c.in-Some.total is _ _ e (inl d) in
-    record { ok = search rules; refused = search (rules, h); place = search (rules, p) }
+    make_refused (run_read c.args.n c.args.size T) S _ _ _ c.from_residual.ensures (h, p)
 
 pub returns-in_ok-window-in-Some : goal.returns-in_ok-window-in-Some
 returns-in_ok-window-in-Some g c = let T = g.T.SchemaRead.reading in let S = g.T.SchemaRead.model in

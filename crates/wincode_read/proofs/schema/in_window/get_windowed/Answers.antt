@@ -1,8 +1,9 @@
 use Rattle.wincode_base.specs.declared.error.ReadError.TheVariants as reading
 use Rattle.wincode_base.specs.FixedSizeLaws.{window_denied_refuses}
-use Rattle.std.proofs.Common.{rules, ◌∙◌, sym, inl, inr}
-use Rattle.wincode_base.proofs.ReadAnswers.{get_map}
+use Rattle.std.proofs.Common.{◌∙◌, sym, inl, inr}
+use Rattle.wincode_base.proofs.ReadAnswers.{get_refused, get_map}
 use Rattle.wincode_base.proofs.InWindow.{sized_of, window_gives, window_refuses, dynamic_place, static_place}
+use Rattle.wincode_base.specs.InWindow.{windowed_read}
 use Rattle.wincode_read.proofs.schema.in_window.get_windowed.Goals as goal
 
 pub returns-in_ok-window-in-Static : goal.returns-in_ok-window-in-Static
@@ -23,7 +24,7 @@ returns-in_err-window-in-Static g c =
     let e = reading.Io c.in_err-window-in-Static.field-0.0 in
     let d = c.in_err-window-in-Static.ensures.err in
     let h = window_denied_refuses T.reads _ sized T.borrow T.takes_no_memory _ _ e d in
-    let p = static_place T.meta _ _ e T.refused is (inl d) in search (rules, h, p)
+    let p = static_place T.meta _ _ e T.refused is (inl d) in get_refused (windowed_read T) _ _ _ c.from_residual.ensures (h, p)
 
 pub returns-in-Dynamic : goal.returns-in-Dynamic
 returns-in-Dynamic g c =

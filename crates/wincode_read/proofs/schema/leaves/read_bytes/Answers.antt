@@ -1,19 +1,23 @@
-use Rattle.std.proofs.Common.{rules}
+use Rattle.std.proofs.Common.{rules, refl}
+use Rattle.std.proofs.lemmas.Result.{err_from_is_err_and}
 use Rattle.wincode_base.proofs.Bulk.{bytes_added, bytes_refused, bytes_denied, bytes_wanted, wanted_refuses, went_well}
+use Rattle.wincode_read.proofs.Exits.{is_sized}
 use Rattle.wincode_read.proofs.schema.leaves.read_bytes.Goals as goal
 
 pub returns-in_err-bytes : goal.returns-in_err-bytes
 returns-in_err-bytes g c =
     let follows = rw c.in_err-bytes.was at c.fill_exact.follows.holds-at-none in
     let h = bytes_refused c.args.n _ _ _ follows.0 follows.2 in
-    let b = bytes_denied c.args.n _ _ _ follows.0 follows.2 in search (rules, h, b)
+    let b = bytes_denied c.args.n _ _ _ follows.0 follows.2 in
+    let p = err_from_is_err_and c.from_residual.result c.from_residual.ensures.1 in
+    rw (p.1, p.2) (record { each = record { ok = tt; refused = h; place = is_sized; same = refl }; at_once = b })
 
 pub returns-then-is_err : goal.returns-then-is_err
 returns-then-is_err g c =
     let follows = rw c.in_ok-bytes.was at c.fill_exact.follows.holds-at-none in
     let shown = c.in_ok-bytes.ensures.shown in
     record {
-      each = record { ok = tt; refused = wanted_refuses _ _ _ _ follows.0; place = search rules; same = search rules };
+      each = record { ok = tt; refused = wanted_refuses _ _ _ _ follows.0; place = is_sized; same = search rules };
       at_once =
           bytes_wanted c.args.n _ _ _ follows.0 shown.0 shown.1;
     }

@@ -1,13 +1,15 @@
-use Rattle.std.proofs.Common.{rules, sym, subst, true}
+use Rattle.std.proofs.Common.{sym, subst, true}
 use Rattle.std.specs.Prelude.{IsUtf8}
 use Rattle.wincode_base.proofs.Strings.{body_refuses, body_gives, borrow_refuses}
 use Rattle.wincode_base.specs.declared.error.ReadError.TheVariants as reading
+use Rattle.wincode_base.proofs.ReadAnswers.{get_refused}
+use Rattle.wincode_base.specs.Strings.{body_read}
 use Rattle.wincode_read.proofs.schema.strings.borrow_text.Goals as goal
 
 pub returns-in_err-bytes : goal.returns-in_err-bytes
 returns-in_err-bytes g c =
     let d = c.in_err-bytes.ensures.err in
-    let h = borrow_refuses c.args.n _ _ c.in_err-bytes.field-0.0 d in search (rules, h, d)
+    let h = borrow_refuses c.args.n _ _ c.in_err-bytes.field-0.0 d in get_refused (body_read c.args.n 1 true) _ _ _ c.from_residual.ensures (h, d)
 
 pub returns-in-Ok : goal.returns-in-Ok
 returns-in-Ok g c =

@@ -1,6 +1,6 @@
-use Rattle.std.proofs.Common.{rules, true, inr}
+use Rattle.std.proofs.Common.{true, inl, inr}
 use Rattle.wincode_base.specs.Strings.{str_read, body_read}
-use Rattle.wincode_base.proofs.ReadAnswers.{get_map}
+use Rattle.wincode_base.proofs.ReadAnswers.{get_refused, get_map}
 use Rattle.wincode_base.proofs.Strings.{text_gives, text_first, text_second}
 use Rattle.wincode_read.proofs.schema.strings.lend_text.Goals as goal
 
@@ -8,7 +8,7 @@ pub returns-in_err-n : goal.returns-in_err-n
 returns-in_err-n g c =
     let o = c.in_err-n.ensures in
     let h = text_first 16 1 true _ _ _ o.refused in
-    let p = o.place in search (rules, h, p)
+    let p = o.place in get_refused (str_read 16 1 true) _ _ _ c.from_residual.ensures (h, inl p)
 
 pub returns : goal.returns
 returns g c =

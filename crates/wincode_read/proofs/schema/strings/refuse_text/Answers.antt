@@ -1,12 +1,14 @@
-use Rattle.std.proofs.Common.{rules, refl, false, inr}
+use Rattle.std.proofs.Common.{refl, false, inl, inr}
 use Rattle.wincode_base.proofs.Strings.{body_refuses, text_first, text_second}
+use Rattle.wincode_base.proofs.ReadAnswers.{get_refused}
+use Rattle.wincode_base.specs.Strings.{str_read}
 use Rattle.wincode_read.proofs.schema.strings.refuse_text.Goals as goal
 
 pub returns-in_err-n : goal.returns-in_err-n
 returns-in_err-n g c =
     let o = c.in_err-n.ensures in
     let h = text_first 24 0 false _ _ _ o.refused in
-    let p = o.place in search (rules, h, p)
+    let p = o.place in get_refused (str_read 24 0 false) _ _ _ c.from_residual.ensures (h, inl p)
 
 pub returns : goal.returns
 returns g c =

@@ -1,4 +1,6 @@
-use Rattle.std.proofs.Common.{rules, ◌∙◌, sym}
+use Rattle.std.proofs.Common.{◌∙◌, sym}
+use Rattle.wincode_base.proofs.ReadAnswers.{get_refused}
+use Rattle.wincode_base.specs.Strings.{char_read}
 use Rattle.wincode_base.proofs.Strings.{char_refuses, char_denied, char_cut, char_not, char_gives}
 use Rattle.wincode_base.specs.declared.error.ReadError.TheVariants as reading
 use Rattle.wincode_read.proofs.schema.strings.take_char.Goals as goal
@@ -6,7 +8,7 @@ use Rattle.wincode_read.proofs.schema.strings.take_char.Goals as goal
 pub returns-in_err-lead : goal.returns-in_err-lead
 returns-in_err-lead g c =
     let r = char_denied _ _ _ c.in_err-lead.ensures.err in
-    let u = char_refuses _ _ _ r in search (rules, u, r)
+    get_refused char_read (λ x. x) _ _ c.from_residual.ensures (char_refuses _ _ _ r, r)
 
 pub returns-then-count-eq0 : goal.returns-then-count-eq0
 returns-then-count-eq0 g c =
@@ -19,7 +21,7 @@ returns-in_err-bytes g c =
     let peeked = c.in_ok-lead.ensures.ok in
     let fills = rw c.in_err-bytes.was at c.fill_exact.follows.holds-at-none in
     let r = char_cut _ _ _ c.in_ok-lead.lead _ c.in_err-bytes.field-0.0 c.announced-count.ensures peeked.0 peeked.1 fills.0 fills.2 in
-    let u = char_refuses _ _ (reading.Io c.in_err-bytes.field-0.0) r in search (rules, u, r)
+    get_refused char_read (λ x. x) _ _ c.from_residual-in_err-bytes.ensures (char_refuses _ _ (reading.Io c.in_err-bytes.field-0.0) r, r)
 
 pub returns-in_err-text : goal.returns-in_err-text
 returns-in_err-text g c =
@@ -28,7 +30,7 @@ returns-in_err-text g c =
     let shown = c.in_ok-bytes.ensures.shown in
     let r = char_not _ _ _ c.in_ok-lead.lead _ _ c.in_err-text.field-0.0 c.announced-count.ensures peeked.0 peeked.1 fills.0 shown.0 shown.1
     (c.in_err-text.ensures.cases.0, c.in_err-text.ensures.valid_len, c.in_err-text.ensures.fault) in
-    let u = char_refuses _ _ (reading.InvalidUtf8Encoding c.in_err-text.field-0.0) r in search (rules, u, r)
+    get_refused char_read (λ x. x) _ _ c.from_residual-in_err-text.ensures (char_refuses _ _ (reading.InvalidUtf8Encoding c.in_err-text.field-0.0) r, r)
 
 pub returns : goal.returns
 returns g c =

@@ -1,10 +1,19 @@
 use Rattle.std.proofs.Common.{arith, inl, inr, refl, subst, true, ◌≡◌, ◌≤◌}
 use Rattle.wincode_base.specs.Leaves.{number_read}
 use Rattle.wincode_base.specs.Outcomes.{Gives}
-use Rattle.wincode_base.specs.TagLaws.{some_bytes}
+use Rattle.wincode_base.specs.TagLaws.{some_bytes, tag_refused, option_small}
+use Rattle.wincode_base.specs.Tags.{option_tag, option_part_read, option_read}
+use Rattle.wincode_read.proofs.Exits.{tag_denied}
 use Rattle.wincode_base.proofs.ReadAnswers.{get_refused}
 use Rattle.wincode_base.proofs.Tags.{some_gives, some_refused, option_bad}
 use Rattle.wincode_read.proofs.schema.tags.get_option.Goals as goal
+
+pub returns-in_err-tag : goal.returns-in_err-tag
+returns-in_err-tag g c =
+    let k = g.Tag.TagCode.size in
+    let o = c.in_err-tag.ensures in
+    let u = tag_refused k option_tag (option_small k (some_bytes g.met.Tag.TagCode.tag_law)) (option_part_read g.T.SchemaRead.reading) _ _ _ o.refused in
+    get_refused (option_read k g.T.SchemaRead.reading) _ _ _ c.from_residual.ensures (u, inl (tag_denied k (λ t. 2 ≤ t) _ _ _ o.place))
 
 pub returns-in_err-value-in-1 : goal.returns-in_err-value-in-1
 returns-in_err-value-in-1 g c =

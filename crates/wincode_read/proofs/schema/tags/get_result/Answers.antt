@@ -1,10 +1,21 @@
 use Rattle.std.proofs.Common.{arith, inl, inr, refl, subst, true, ◌≡◌, ◌≤◌}
 use Rattle.wincode_base.specs.Leaves.{number_read}
 use Rattle.wincode_base.specs.Outcomes.{Gives}
-use Rattle.wincode_base.specs.TagLaws.{some_bytes}
+use Rattle.wincode_base.specs.TagLaws.{some_bytes, tag_refused, result_small}
+use Rattle.wincode_base.specs.Tags.{result_tag, sides_read, result_read}
+use Rattle.wincode_read.proofs.Exits.{tag_denied}
 use Rattle.wincode_base.proofs.ReadAnswers.{get_refused}
 use Rattle.wincode_base.proofs.Tags.{ok_gives, err_gives, ok_refused, err_refused, result_bad}
 use Rattle.wincode_read.proofs.schema.tags.get_result.Goals as goal
+
+pub returns-in_err-side : goal.returns-in_err-side
+returns-in_err-side g c =
+    let k = g.Tag.TagCode.size in
+    let o = c.in_err-side.ensures in
+    let T = g.T.SchemaRead.reading in
+    let E = g.E.SchemaRead.reading in
+    let u = tag_refused k result_tag (result_small k (some_bytes g.met.Tag.TagCode.tag_law)) (sides_read T E) _ _ _ o.refused in
+    get_refused (result_read k T E) _ _ _ c.from_residual.ensures (u, inl (tag_denied k (λ t. 2 ≤ t) _ _ _ o.place))
 
 pub returns-in_err-value-in-0 : goal.returns-in_err-value-in-0
 returns-in_err-value-in-0 g c =

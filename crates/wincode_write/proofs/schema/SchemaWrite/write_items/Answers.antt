@@ -35,7 +35,7 @@ returns-in_err-write g c =
     c.loop-item.invariant.0 (encoding_unwritten T.writing v bytes encoded.1 size laws _ _ _ d) in
     let s = item_place c.args.items.now c.loop-item.item-index c.item-item.result c.loop-item-test.true c.item-item.is T.model laws T.write_laws
     c.loop-item.invariant.0 stopped in
-    search (rules, u, s)
+    write_refused _ _ _ _ _ c.from_residual.ensures u s
 
 pub returns-in_err-write-2 : goal.returns-in_err-write-2
 returns-in_err-write-2 g c =

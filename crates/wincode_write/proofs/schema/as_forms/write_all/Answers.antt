@@ -1,5 +1,7 @@
-use Rattle.std.proofs.Common.{rules, length, ◌*◌}
+use Rattle.std.proofs.Common.{length, ◌*◌}
 use Rattle.wincode_base.proofs.FormRuns.{form_writes, forms_wrote, forms_unwritten, forms_halted, all_each, at_once}
+use Rattle.wincode_write.proofs.Exits.{at_once_refused, is_sized, same_error}
+use Rattle.wincode_base.specs.AsForms.{writes_form}
 use Rattle.wincode_write.proofs.schema.as_forms.write_all.Goals as goal
 
 pub returns-in_err-write_forms : goal.returns-in_err-write_forms
@@ -7,10 +9,11 @@ returns-in_err-write_forms g c =
     let T = g.T.ZeroCopy in
     let laws = g.met.W.Writer.writer_laws in
     let e = c.in_err-write_forms.ensures in
-    let u = forms_unwritten (form_writes T.is_valid T.size T.form) c.args.items.now _ _ laws _ e.err (λ v. (search rules, (e.vast v).1)) in
-    let p = forms_halted (form_writes T.is_valid T.size T.form) c.args.items.now _ _ laws _ e.err (λ v. (search rules, (e.vast v).1))
-    (λ a dynamic. absurd (cc dynamic)) in
-    let b = at_once (length c.args.items.now * T.size) _ _ _ (λ l. e.err l) (λ l. (search rules, (e.vast l).1)) in search (rules, u, p, b)
+    let u = forms_unwritten (form_writes T.is_valid T.size T.form) c.args.items.now _ _ laws _ e.err (λ v. (same_error (e.vast v).0, (e.vast v).1)) in
+    let p = forms_halted (form_writes T.is_valid T.size T.form) c.args.items.now _ _ laws _ e.err (λ v. (same_error (e.vast v).0, (e.vast v).1))
+    (λ a. is_sized) in
+    let b = at_once (length c.args.items.now * T.size) _ _ _ e.err (λ v. (same_error (e.vast v).0, (e.vast v).1)) in
+    at_once_refused T.size (length c.args.items.now) (writes_form T.size T.form) _ _ _ _ c.from_residual.ensures u p b
 
 pub returns : goal.returns
 returns g c =

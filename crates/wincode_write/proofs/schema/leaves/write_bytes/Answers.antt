@@ -1,7 +1,9 @@
-use Rattle.std.proofs.Common.{rules, ◌<◌, ◌^◌, length}
+use Rattle.std.proofs.Common.{rules, true, ◌<◌, ◌^◌, length}
 use Rattle.wincode_base.proofs.Integers.{AreSmall}
 use Rattle.wincode_base.proofs.FormRuns.{bytes_at_once}
 use Rattle.wincode_base.proofs.Bulk.{bytes_wrote, bytes_unwritten, bytes_halted, each_small}
+use Rattle.wincode_write.proofs.Exits.{at_once_refused}
+use Rattle.wincode_base.specs.Leaves.{number_write}
 use Rattle.wincode_write.proofs.schema.leaves.write_bytes.Goals as goal
 
 pub returns-in_err-write : goal.returns-in_err-write
@@ -12,7 +14,8 @@ returns-in_err-write g c =
     let u = bytes_unwritten c.args.items.now small laws _ d in
     let p = bytes_halted c.args.items.now small laws _ d in
     let few : length c.args.items.now < 2 ^ 64 = search rules in
-    let b = bytes_at_once (length c.args.items.now) _ _ _ few d in search (rules, u, p, b)
+    let b = bytes_at_once (length c.args.items.now) _ _ _ few d in
+    at_once_refused 1 (length c.args.items.now) (number_write 1 true) _ _ _ _ c.from_residual.ensures u p b
 
 pub returns : goal.returns
 returns g c =

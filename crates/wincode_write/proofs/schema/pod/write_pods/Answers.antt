@@ -1,6 +1,7 @@
 use Rattle.std.proofs.Common.{rules, true, ◌<◌, ◌*◌, length}
 use Rattle.wincode_base.proofs.FormRuns.{pod_writes, forms_wrote, forms_unwritten, forms_halted, pods_refused, all_each, at_once}
-use Rattle.wincode_base.specs.Views.{form_prealloc}
+use Rattle.wincode_base.specs.Views.{form_write, form_prealloc}
+use Rattle.wincode_write.proofs.Exits.{at_once_refused, same_error}
 use Rattle.wincode_write.proofs.schema.pod.write_pods.Goals as goal
 
 pub returns-in_err-write_forms : goal.returns-in_err-write_forms
@@ -10,10 +11,11 @@ returns-in_err-write_forms g c =
     let e = c.in_err-write_forms.ensures in
     let some : 0 < length c.args.items.now = search rules in
     let w = pod_writes g.T.ZeroCopy.byte_form true (form_prealloc T.size) in
-    let u = forms_unwritten w c.args.items.now _ _ laws _ e.err (λ v. (search rules, (e.vast v).1)) in
-    let p = forms_halted w c.args.items.now _ _ laws _ e.err (λ v. (search rules, (e.vast v).1))
+    let u = forms_unwritten w c.args.items.now _ _ laws _ e.err (λ v. (same_error (e.vast v).0, (e.vast v).1)) in
+    let p = forms_halted w c.args.items.now _ _ laws _ e.err (λ v. (same_error (e.vast v).0, (e.vast v).1))
     (λ a. pods_refused T.is_valid T.size T.form true (form_prealloc T.size) c.args.items.now _ _ some a) in
-    let b = at_once (length c.args.items.now * T.size) _ _ _ (λ l. e.err l) (λ l. (search rules, (e.vast l).1)) in search (rules, u, p, b)
+    let b = at_once (length c.args.items.now * T.size) _ _ _ e.err (λ v. (same_error (e.vast v).0, (e.vast v).1)) in
+    at_once_refused T.size (length c.args.items.now) (form_write T.is_valid T.size T.form true (form_prealloc T.size)) _ _ _ _ c.from_residual.ensures u p b
 
 pub returns : goal.returns
 returns g c =

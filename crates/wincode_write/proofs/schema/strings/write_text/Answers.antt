@@ -18,7 +18,8 @@ returns-in_err-write-2 g c =
     let o = c.in_ok-write.ensures.ok in
     let d = c.in_err-write-2.ensures.err in
     let u = text_unwritten_second laws 24 c.args.text.now _ _ small refl c.as_bytes.ensures.value o d in
-    let p = text_halted_second laws 24 c.args.text.now _ _ refl c.as_bytes.ensures.value o d in search (rules, u, p)
+    let p = text_halted_second laws 24 c.args.text.now _ _ refl c.as_bytes.ensures.value o d in
+    write_refused _ _ _ _ _ c.from_residual-in_err-write-2.ensures u p
 
 pub returns : goal.returns
 returns g c =

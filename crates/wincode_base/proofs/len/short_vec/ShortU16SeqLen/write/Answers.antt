@@ -13,8 +13,8 @@ returns-in_err-write_short g c =
     let small : c.args.len < 2 ^ 16 = search rules in
     let laws = g.met.W.Writer.writer_laws in
     let d = rw c.in_ok-value.ensures.ok at c.in_err-write_short.ensures.err in
-    let u = length_unwritten c.args.len small laws _ d in
-    let p = length_halted c.args.len small laws _ d in search (rules, u, p)
+    write_refused (length_write short_scheme) _ _ _ _ c.from_residual-in_err-write_short.ensures
+    (length_unwritten c.args.len small laws _ d) (length_halted c.args.len small laws _ d)
 
 pub returns : goal.returns
 returns g c =

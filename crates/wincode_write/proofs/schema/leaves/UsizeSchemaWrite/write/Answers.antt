@@ -1,5 +1,7 @@
-use Rattle.std.proofs.Common.{rules, false, w64}
+use Rattle.std.proofs.Common.{arith, false, w64}
 use Rattle.wincode_base.proofs.Integers.{number_wrote, number_unwritten, number_halted}
+use Rattle.wincode_base.proofs.WriteAnswers.{write_refused}
+use Rattle.wincode_base.specs.Leaves.{number_write}
 use Rattle.wincode_write.proofs.schema.leaves.UsizeSchemaWrite.write.Goals as goal
 
 pub returns-in_err-write : goal.returns-in_err-write
@@ -8,9 +10,10 @@ returns-in_err-write g c =
     let laws = g.met.W.Writer.writer_laws in
     let d = c.in_err-write.ensures.err in
     let u = number_unwritten w64 false c.args.src.now is laws _ d in
-    let p = number_halted w64 false c.args.src.now is laws _ d in search (rules, u, p)
+    let p = number_halted w64 false c.args.src.now is laws _ d in
+    write_refused (number_write 8 false) c.args.src.now _ _ _ c.from_residual.ensures u p
 
 pub returns : goal.returns
 returns g c =
     let is = c.to_le_bytes.ensures in
-    record { ok = number_wrote w64 false c.args.src.now is c.in_ok-write.ensures.ok; value = search rules; refused = tt; place = tt }
+    record { ok = number_wrote w64 false c.args.src.now is c.in_ok-write.ensures.ok; value = omega arith; refused = tt; place = tt }

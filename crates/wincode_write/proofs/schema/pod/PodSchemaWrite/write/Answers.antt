@@ -5,6 +5,7 @@ use Rattle.wincode_base.specs.WriteSequences.{nothing_stopped}
 use Rattle.wincode_base.proofs.InWindow.{room_unwritten}
 use Rattle.wincode_base.proofs.Runs.{unfit_unwritten}
 use Rattle.wincode_base.proofs.Views.{form_room_halted}
+use Rattle.wincode_base.proofs.WriteAnswers.{write_refused}
 use Rattle.wincode_write.proofs.schema.pod.PodSchemaWrite.write.Goals as goal
 
 pub returns-in_default : goal.returns-in_default
@@ -31,4 +32,4 @@ returns-in_err-make_room g c =
     let d = c.in_err-make_room.ensures.err in
     let u = room_unwritten form c.args.src.now c.in-Some.size (λ can. sym c.in-Some.ensures) _ _ writer laws _ _ _ d in
     let p = form_room_halted T.is_valid T.size T.form true (form_prealloc T.size) c.args.src.now writer c.in-Some.size c.in-Some.ensures _ d in
-    search (rules, u, p)
+    write_refused form _ _ _ _ c.from_residual.ensures u p

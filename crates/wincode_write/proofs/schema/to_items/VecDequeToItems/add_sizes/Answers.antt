@@ -1,12 +1,12 @@
-use Rattle.std.proofs.Common.{rules}
 use Rattle.std.proofs.lemmas.Result.{IfOk-weaker, IfErr-weaker}
 use Rattle.wincode_base.proofs.Walks.{sums_first, sums_second, sums_both}
+use Rattle.wincode_write.proofs.Exits.{if_passed}
 use Rattle.wincode_write.proofs.schema.to_items.VecDequeToItems.add_sizes.Goals as goal
 
 pub returns-in_err-sum-clause-err : goal.returns-in_err-sum-clause-err
 returns-in_err-sum-clause-err g c =
     let T = g.T.SchemaWrite in
-    let h = sums_first T.writing T.model c.args.before _ _ _ _ c.as_slices.ensures.items c.in_err-sum.ensures.err in search (rules, h)
+    let h = sums_first T.writing T.model c.args.before _ _ _ _ c.as_slices.ensures.items c.in_err-sum.ensures.err in if_passed _ _ _ c.from_residual.ensures h
 
 pub returns-clause-ok : goal.returns-clause-ok
 returns-clause-ok g c =

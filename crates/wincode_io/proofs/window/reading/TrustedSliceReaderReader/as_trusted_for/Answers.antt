@@ -1,0 +1,14 @@
+use Rattle.std.proofs.Common.{false, refl}
+use Rattle.wincode_io.specs.Readers.{nothing}
+use Rattle.wincode_io.proofs.WindowSteps.{refused, windowed}
+use Rattle.wincode_io.proofs.window.reading.TrustedSliceReaderReader.as_trusted_for.Goals as goal
+
+pub returns-then-n-self-clause-ok : goal.returns-then-n-self-clause-ok
+returns-then-n-self-clause-ok g c =
+    let w = c.self.inside in
+    windowed nothing false c.args.n (g.L.Lending.held w.all) c.args.self.now w.place w.end c.self.invariant c.self.view_is c.if-n-self.true _ refl
+
+pub returns-else-n-self-clause-err : goal.returns-else-n-self-clause-err
+returns-else-n-self-clause-err g c =
+    let w = c.self.inside in
+    refused nothing false c.args.n (g.L.Lending.held w.all) c.args.self.now w.place w.end c.self.invariant c.self.view_is c.if-n-self.false

@@ -1,0 +1,9 @@
+use Rattle.std.proofs.Common.{false}
+use Rattle.wincode_io.specs.Readers.{nothing}
+use Rattle.wincode_io.proofs.WindowSteps.{passed}
+use Rattle.wincode_io.proofs.window.reading.TrustedSliceReaderReader.consume_unchecked.Goals as goal
+
+pub returns : goal.returns
+returns g c =
+    let w = c.self.inside in
+    passed nothing false c.args.n (g.L.Lending.held w.all) c.args.self.now w.place w.end c.self.invariant c.self.view_is c.requires
