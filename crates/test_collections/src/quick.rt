@@ -189,6 +189,15 @@ fn arrays_of_flags_are_read_alike(rt: HostRuntime) -> Result<(), Fail> {
     Ok(())
 }
 
+/// Each is read by one look at its bytes, where these are at hand.
+#[test]
+fn options_are_read_alike(rt: HostRuntime) -> Result<(), Fail> {
+    let alloc = rt.alloc();
+    let all = lists_of(alloc, &[1, 7, 0, 0, 1, 0])?;
+    assert!(rt; are_alike::<Option<u16>, Option<Short>>(alloc, all.as_slice())?);
+    Ok(())
+}
+
 /// More bytes than are put together for one item.
 #[test]
 fn large_items_are_read_alike(rt: HostRuntime) -> Result<(), Fail> {

@@ -1,9 +1,9 @@
 //! Schemas of a tag and then what it names.
 ghost use Rattle.std.proofs.Common.{lit≤};
 ghost use Rattle.std.specs.Option.{option_map};
-ghost use Rattle.std.specs.Prelude.{Option, Result, IsTrue};
+ghost use Rattle.std.specs.Prelude.{◌≡◌, ◌≤◌, length, take, Option, Result, IsTrue, IfSome, IfNone};
 ghost use Rattle.std.specs.Result.{result_map_both};
-ghost use Rattle.wincode_base.specs.Outcomes.{GetOutcome};
+ghost use Rattle.wincode_base.specs.Outcomes.{Gives, GetOutcome};
 ghost use Rattle.wincode_base.specs.TagLaws.{option_read_laws, result_read_laws};
 ghost use Rattle.wincode_base.specs.Tags.{option_read, IfPart, result_read, IfSide};
 
@@ -33,6 +33,39 @@ pub fn get_option<Tag: TagCode, L: Lending, T: SchemaRead<L>, R: Reader<L>>(
         }
         _ => Err(invalid_tag_encoding(tag)),
     }
+}
+
+/// The option in front of the bytes, whose tag is one byte, and how many bytes it has; none where its value isn't there
+/// whole, or its schema doesn't decode it.
+#[inline(always)]
+fn decoded_option<L: Lending, T: SchemaRead<L>>(bytes: &[u8]) -> Option<(Option<T::Dst>, usize)>
+    ensures { IfSome result (λ d. (d.1 ≤ length bytes.now) × (option_read 1 T.reading).reads (take d.1 bytes.now) (option_map T.model d.0)) }
+{
+    let (tag, behind) = bytes.split_first()?;
+    match tag {
+        0 => Some((None, 1)),
+        1 => {
+            let TypeMeta::Static { size, .. } = T::type_meta() else {
+                return None;
+            };
+            let value = decoded::<L, T>(behind.get(..size)?)?;
+            Some((Some(value), 1 + size))
+        }
+        _ => None,
+    }
+}
+
+/// The option at the front, where its bytes are at hand and its schema decodes its value. Else the reader is as it was.
+#[inline(always)]
+fn option_at_hand<L: Lending, T: SchemaRead<L>, R: Reader<L>>(
+    reader: &mut R,
+) -> Option<Option<T::Dst>>
+    ensures some { IfSome result (λ d. Gives (option_read 1 T.reading).reads (R.state reader.old) (R.state reader.new) (option_map T.model d)) }
+    ensures none { IfNone result (R.state reader.new ≡ R.state reader.old) }
+{
+    let (value, size) = decoded_option::<L, T>(reader.at_hand())?;
+    reader.consume_unchecked(size);
+    Some(value)
 }
 
 /// A tag, and then the side that it names.
@@ -117,6 +150,10 @@ impl<L: Lending, T: SchemaRead<L>> SchemaRead<L> for Option<T> {
         reader: &mut R,
         dst: &mut Option<Option<T::Dst>>,
     ) -> ReadResult<()> {
+        if let Some(value) = option_at_hand::<L, T, R>(reader) {
+            *dst = Some(value);
+            return Ok(());
+        }
         *dst = Some(get_option::<u8, L, T, R>(alloc, reader)?);
         Ok(())
     }
