@@ -4,7 +4,8 @@ use example_schemas::event::{Event, EventU8, EventU32, Mark, MarkU8};
 use std::alloc::Global;
 use std::test::Fail;
 use testkit_schemas::rows::bytes_of;
-use wincode::io::Lifetime;
+use testkit_schemas::single::Single;
+use wincode::io::{Lifetime, SliceWriter};
 use wincode::serde::Serialize;
 use wincode::{SchemaRead, SchemaWrite, TypeMeta};
 
@@ -40,6 +41,52 @@ fn events_written(rt: HostRuntime) -> Result<(), Fail> {
         let text = <EventU32 as Serialize>::serialize(alloc, &event)?;
         assert!(rt; text == bytes_of(alloc, long)?, "{long}");
     }
+    Ok(())
+}
+
+/// What writing the events into so many bytes answers: what was written, and the error.
+fn written_into<S: SchemaWrite<Src = Event>>(
+    alloc: Global,
+    events: &Vec<Event>,
+    room: usize,
+) -> Result<(Vec<u8>, String), Fail> {
+    let mut bytes = vec![in alloc; 0u8; room]?;
+    let mut writer = SliceWriter::new(bytes.as_mut_slice());
+    let outcome = <Vec<S> as SchemaWrite>::write(&mut writer, events);
+    let written = Vec::from_slice(alloc, writer.written())?;
+    match outcome {
+        Ok(()) => Ok((written, String::new(alloc))),
+        Err(error) => Ok((written, format!(in alloc; "{error:?}")?)),
+    }
+}
+
+/// Whether the events are written into each room as they are one by one, and have so many bytes.
+fn are_written_alike<S: SchemaWrite<Src = Event>>(
+    alloc: Global,
+    events: &Vec<Event>,
+    size: usize,
+) -> Result<bool, Fail> {
+    for room in 0..size + 2 {
+        let one = written_into::<S>(alloc, events, room)?;
+        let other = written_into::<Single<S>>(alloc, events, room)?;
+        let is_whole = one.0.len() == size && one.1.is_empty();
+        if one.0 != other.0 || one.1 != other.1 || is_whole != (room >= size) {
+            return Ok(false);
+        }
+    }
+    Ok(true)
+}
+
+/// In a list each is put together before it is written: into each room, beside the same written part by part.
+#[test]
+fn lists_of_events_are_written_alike(rt: HostRuntime) -> Result<(), Fail> {
+    let alloc = rt.alloc();
+    let mut list = Vec::new(alloc);
+    for (event, _, _) in events(alloc)? {
+        list.push(event)?;
+    }
+    assert!(rt; are_written_alike::<EventU8>(alloc, &list, 45)?);
+    assert!(rt; are_written_alike::<EventU32>(alloc, &list, 54)?);
     Ok(())
 }
 

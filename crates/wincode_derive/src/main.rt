@@ -186,9 +186,13 @@ fn outputs_of(
         text: module,
     })?;
     for answer in answers {
-        let Answers { name, text } = answer;
+        let Answers {
+            name,
+            function,
+            text,
+        } = answer;
         let path = format!(in alloc;
-            "{folder}/proofs/{inside}schemas/{name}EnumShape/write_part/Answers.antt"
+            "{folder}/proofs/{inside}schemas/{name}EnumShape/{function}/Answers.antt"
         )?;
         outputs.push(Output { path, text })?;
     }

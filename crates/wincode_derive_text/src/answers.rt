@@ -2,49 +2,77 @@
 use crate::declarations::{Declaration, DeclaredShape, Variant};
 use crate::enums::letters_of;
 use crate::error::DeriveResult;
-use crate::module::declared_at;
-use crate::names::names_of;
-use crate::parsing::declarations_of;
-use crate::printing::{Words, fill, joined, owned, put};
-use crate::tokens::tokens_of;
+use crate::module::{declared_at, seen_of, written_of};
+use crate::printing::{Words, fill, joined, number, owned, put};
 use std::alloc::Global;
 
-const HEAD: &str = "use Rattle.@crate@.proofs.@path@schemas.@type@EnumShape.write_part.Goals as goal
+const HEAD: &str = "use Rattle.@crate@.proofs.@path@schemas.@type@EnumShape.@function@.Goals as goal
 ";
 
 const ANSWER: &str = "
 pub returns-in-@case@ : goal.returns-in-@case@
-returns-in-@case@ g c = rw c.in-@case@.is c.@call@.ensures
+returns-in-@case@ @given@ = rw c.in-@case@.is c.@call@.ensures
 ";
 
 /// The answer of an enum of one case: no question is asked of which case it is, so that it is this one is said here.
 const ONE: &str = "use Rattle.std.proofs.Common.{◌≡◌, refl}
 use @declared@.TheVariants.{@case@ as @type@-@case@}
-use Rattle.@crate@.proofs.@path@schemas.@type@EnumShape.write_part.Goals as goal
+use Rattle.@crate@.proofs.@path@schemas.@type@EnumShape.@function@.Goals as goal
 
 pub returns : goal.returns
-returns g c =
+returns @given@ =
     let e = elim c.args.src.now as (λ x. @binders@(x ≡ @type@-@case@@letters@)) [ @type@-@case@@letters@ ↦ (@parts@, refl) ] in
     let h = rw e.@count@ at c.@call@.ensures in rw e.@count@ h
 ";
 
-/// The answers of `write_part` of an enum.
+/// A function of `EnumShape` that has answers, and the call by which it passes on a case's fields.
+#[derive(Clone, Copy)]
+struct Function {
+    name: &'static str,
+    call: &'static str,
+    /// Whether it has a type parameter, so that what is given is told of it.
+    is_generic: bool,
+}
+
+const FUNCTIONS: [Function; 2] = [
+    Function {
+        name: "write_part",
+        call: "write",
+        is_generic: true,
+    },
+    Function {
+        name: "encode_part",
+        call: "encode_front",
+        is_generic: false,
+    },
+];
+
+/// The answers of a function of an enum.
 #[derive(Debug, Drop)]
 pub struct Answers {
     /// The enum.
     pub name: String,
-    /// The text of `proofs/../schemas/NAMEEnumShape/write_part/Answers.antt`.
+    /// The function.
+    pub function: &'static str,
+    /// The text of `proofs/../schemas/NAMEEnumShape/FUNCTION/Answers.antt`.
     pub text: String,
 }
 
-/// The call by which a case's fields are written: the first of so many fields by its name alone.
-fn call_of(alloc: Global, variant: &Variant, is_first: bool) -> DeriveResult<String> {
+/// The call by which a case's fields are passed on: the first of so many fields by its name alone.
+fn call_of(
+    alloc: Global,
+    function: Function,
+    variant: &Variant,
+    is_first: bool,
+) -> DeriveResult<String> {
+    let call = function.call;
     let n = variant.fields.fields.len();
-    let mut call = format!(in alloc; "write_members_{n}")?;
-    if !is_first {
-        put(&mut call, &["-in-", variant.name.as_str()])?;
-    }
-    Ok(call)
+    let (between, case) = if is_first {
+        ("", "")
+    } else {
+        ("-in-", variant.name.as_str())
+    };
+    Ok(format!(in alloc; "{call}_members_{n}{between}{case}")?)
 }
 
 /// Whether no case before this place has so many fields.
@@ -57,16 +85,32 @@ fn is_first_of(variants: &[Variant], place: usize, n: usize) -> bool {
     true
 }
 
+/// Appends the answer of a case.
+fn put_answer(
+    alloc: Global,
+    out: &mut String,
+    (function, given): (Function, &'static str),
+    (variant, is_first): (&Variant, bool),
+) -> DeriveResult<()> {
+    let mut words = Words::new(alloc);
+    words.set("given", owned(alloc, given));
+    words.set("case", owned(alloc, variant.name.as_str()));
+    words.set("call", call_of(alloc, function, variant, is_first));
+    fill(out, ANSWER, &mut words)
+}
+
 /// Appends an answer for each case of two fields or more.
-fn put_answers(alloc: Global, out: &mut String, variants: &[Variant]) -> DeriveResult<()> {
+fn put_answers(
+    alloc: Global,
+    out: &mut String,
+    function: (Function, &'static str),
+    variants: &[Variant],
+) -> DeriveResult<()> {
     for (i, variant) in variants.iter().enumerate() {
         let n = variant.fields.fields.len();
         if n >= 2 {
             let is_first = is_first_of(variants, i, n);
-            let mut words = Words::new(alloc);
-            words.set("case", owned(alloc, variant.name.as_str()));
-            words.set("call", call_of(alloc, variant, is_first));
-            fill(out, ANSWER, &mut words)?;
+            put_answer(alloc, out, function, (variant, is_first))?;
         }
     }
     Ok(())
@@ -90,17 +134,16 @@ fn put_one(
     alloc: Global,
     out: &mut String,
     words: &mut Words,
-    variant: &Variant,
+    (function, variant): (Function, &Variant),
 ) -> DeriveResult<()> {
     let letters = letters_of(alloc, variant)?;
     let letters = letters.as_slice();
-    let count = letters.len();
     words.set("case", owned(alloc, variant.name.as_str()));
-    words.set("call", call_of(alloc, variant, true));
+    words.set("call", call_of(alloc, function, variant, true));
     words.set("binders", each_between(alloc, letters, ("(", " : _) × ")));
     words.set("letters", each_between(alloc, letters, (" ", "")));
     words.set("parts", joined(alloc, letters, ", "));
-    words.set("count", Ok(format!(in alloc; "{count}")?));
+    words.set("count", number(alloc, letters.len()));
     fill(out, ONE, words)
 }
 
@@ -109,15 +152,46 @@ fn put_enum_answers(
     alloc: Global,
     out: &mut String,
     words: &mut Words,
+    (function, given): (Function, &'static str),
     variants: &[Variant],
 ) -> DeriveResult<()> {
+    words.set("function", owned(alloc, function.name));
+    words.set("given", owned(alloc, given));
     match variants {
-        [variant] => put_one(alloc, out, words, variant),
+        [variant] => put_one(alloc, out, words, (function, variant)),
         _ => {
             fill(out, HEAD, words)?;
-            put_answers(alloc, out, variants)
+            put_answers(alloc, out, (function, given), variants)
         }
     }
+}
+
+/// Whether a case has two fields or more.
+fn has_members(variants: &[Variant]) -> bool {
+    variants
+        .iter()
+        .any(|variant| variant.fields.fields.len() >= 2)
+}
+
+/// The answers of a function of an enum of these cases, which stands there as the file has it.
+fn text_of(
+    alloc: Global,
+    function: Function,
+    place: (&str, &str),
+    (written, declaration): (&Declaration, &Declaration),
+    variants: &[Variant],
+) -> DeriveResult<String> {
+    let (krate, path) = place;
+    let mut words = Words::new(alloc);
+    words.set("crate", owned(alloc, krate));
+    words.set("path", owned(alloc, path));
+    words.set("type", owned(alloc, declaration.name.as_str()));
+    words.set("declared", declared_at(alloc, place, written.src()));
+    let is_given = function.is_generic || !declaration.generics.parameters.is_empty();
+    let given = if is_given { "g c" } else { "c" };
+    let mut out = String::new(alloc);
+    put_enum_answers(alloc, &mut out, &mut words, (function, given), variants)?;
+    Ok(out)
 }
 
 /// Adds the answers of an enum that has some, which stands there as the file has it.
@@ -127,22 +201,20 @@ fn add_answers(
     place: (&str, &str),
     (written, declaration): (&Declaration, &Declaration),
 ) -> DeriveResult<()> {
-    let (krate, path) = place;
     if let DeclaredShape::Enum(cases) = &declaration.shape {
         let variants = cases.variants.as_slice();
-        if variants
-            .iter()
-            .any(|variant| variant.fields.fields.len() >= 2)
-        {
-            let mut words = Words::new(alloc);
-            words.set("crate", owned(alloc, krate));
-            words.set("path", owned(alloc, path));
-            words.set("type", owned(alloc, declaration.name.as_str()));
-            words.set("declared", declared_at(alloc, place, written.src()));
-            let mut text = String::new(alloc);
-            put_enum_answers(alloc, &mut text, &mut words, variants)?;
+        if !has_members(variants) {
+            return Ok(());
+        }
+        for function in FUNCTIONS {
+            let text = text_of(alloc, function, place, (written, declaration), variants)?;
             let name = owned(alloc, declaration.name.as_str())?;
-            all.push(Answers { name, text })?;
+            let function = function.name;
+            all.push(Answers {
+                name,
+                function,
+                text,
+            })?;
         }
     }
     Ok(())
@@ -155,11 +227,9 @@ pub fn answers_of(
     place: (&str, &str),
     names: &[String],
 ) -> DeriveResult<Vec<Answers>> {
-    let tokens = tokens_of(alloc, source)?;
+    let written = written_of(alloc, source, names)?;
+    let (declarations, _) = seen_of(alloc, source, names)?;
     let mut all = Vec::new(alloc);
-    let written = declarations_of(alloc, tokens.as_slice(), names)?;
-    let mut declarations = declarations_of(alloc, tokens.as_slice(), names)?;
-    names_of(alloc, tokens.as_slice(), &mut declarations)?;
     for (it, declaration) in written.iter().zip(declarations.iter()) {
         add_answers(alloc, &mut all, place, (it, declaration))?;
     }

@@ -1,15 +1,15 @@
 //! The schema of an enum.
-use crate::declarations::{Cases, Declaration, Fields, Generics, Naming, Variant};
+use crate::declarations::{Cases, Declaration, Field, Fields, Generics, Naming, Variant};
 use crate::error::DeriveResult;
 use crate::inside::looked_into;
 use crate::laws::{law_of, seen_by};
 use crate::lent::{own_no_memory, put_lent_enum};
 use crate::parts::Layout;
-use crate::printing::{Words, fill, joined, owned, put, put_call};
+use crate::printing::{Words, fill, joined, owned, put, put_call, put_text, put_times};
 use crate::structs::{
     OF, applied, are_plain_keys, bindings, bound_of, evidence_of, held_as, made_of, members,
-    name_words, numbered, of_members, pairs_of_all, read_head, schemas_of, takes_of, tuple_of,
-    types_of,
+    name_words, numbered, of_members, pairs_of_all, pairs_of_schemas, read_head, schemas_of,
+    takes_of, tuple_of, tuple_of_bindings, tuple_of_schemas, tuple_of_types,
 };
 use std::alloc::Global;
 
@@ -68,6 +68,11 @@ impl@writes@ EnumShape for @self@@where_src@ {
         match src {
 @write_arms@        }
     }
+
+    fn encode_part(src: &@src@, dst: &mut [u8]) -> Option<usize> {
+        match src {
+@front_arms@        }
+    }
 }
 ";
 
@@ -92,6 +97,10 @@ impl@writes@ SchemaWrite for @self@@where_src@ {
 
     fn write<W: Writer>(writer: &mut W, src: &@src@) -> WriteResult<()> {
 @write@    }
+
+    #[inline(always)]
+    fn encode_front(src: &@src@, dst: &mut [u8]) -> Option<usize> {
+@front@    }
 
     ghost write_laws = { write_laws_by ⟦<@self@ as EnumParts>⟧.parts ⟦<@fields@ as SchemaWrite>⟧.write_laws };
 }
@@ -211,17 +220,15 @@ pub fn sided(alloc: Global, (place, count): (usize, usize), inside: &str) -> Der
     } else {
         place
     };
+    let side = match (count > 1, is_last) {
+        (false, _) => "",
+        (true, true) => "Err ",
+        (true, false) => "Ok ",
+    };
     let mut out = String::new(alloc);
-    for _ in 0..errors {
-        out.push_str("Err (")?;
-    }
-    if count > 1 {
-        out.push_str(if is_last { "Err " } else { "Ok " })?;
-    }
-    out.push_str(inside)?;
-    for _ in 0..errors {
-        out.push(')')?;
-    }
+    put_times(&mut out, "Err (", errors)?;
+    put(&mut out, &[side, inside])?;
+    put_times(&mut out, ")", errors)?;
     Ok(out)
 }
 
@@ -230,33 +237,30 @@ pub fn sides_of(alloc: Global, variants: &[Variant]) -> DeriveResult<String> {
     let mut out = String::new(alloc);
     let count = variants.len();
     for (i, variant) in variants.iter().enumerate() {
-        let value = tuple_of(alloc, types_of(alloc, &variant.fields)?.as_slice())?;
-        if i.saturating_add(1) < count {
-            out.push_str("Result<")?;
-        }
-        out.push_str(value.as_str())?;
-        out.push_str(if i.saturating_add(1) < count {
-            ", "
-        } else {
-            ""
-        })?;
+        let is_last = i.saturating_add(1) >= count;
+        put_side(&mut out, tuple_of_types(alloc, &variant.fields), is_last)?;
     }
     close(&mut out, count)?;
     Ok(out)
 }
 
+/// Appends a type: the last, or one that is open to those behind it.
+pub fn put_side(out: &mut String, value: DeriveResult<String>, is_last: bool) -> DeriveResult<()> {
+    out.push_str(if is_last { "" } else { "Result<" })?;
+    put_text(out, value)?;
+    out.push_str(if is_last { "" } else { ", " })?;
+    Ok(())
+}
+
 /// Closes what was opened for each of so many but the last.
 pub fn close(out: &mut String, count: usize) -> DeriveResult<()> {
-    for _ in 1..count {
-        out.push('>')?;
-    }
-    Ok(())
+    put_times(out, ">", count.saturating_sub(1))
 }
 
 /// A case with its tag: the last, or one that is open to those behind it.
 fn case_of(alloc: Global, variant: &Variant, is_last: bool) -> DeriveResult<String> {
-    let schemas = schemas_of(alloc, &variant.fields)?;
-    let schema = tuple_of(alloc, schemas.as_slice())?;
+    let schema = tuple_of_schemas(alloc, &variant.fields, 0)?;
+    let schema = schema.as_str();
     let tag = variant.tag;
     let (name, end) = if is_last {
         ("Last", ">")
@@ -296,11 +300,15 @@ fn arm_seen(
     variant: &Variant,
     (layout, place): (Layout, usize),
 ) -> DeriveResult<String> {
-    let names = letters_of(alloc, variant)?;
-    let value = value_of(alloc, &variant.fields, names.as_slice())?;
-    let side = layout.sided(alloc, place, value.as_str())?;
     let pattern = pattern_of(alloc, name, variant, "")?;
-    Ok(format!(in alloc; "{pattern} ↦ {side}")?)
+    let value = value_of(alloc, variant)?;
+    let side = layout.sided(alloc, place, value.as_str())?;
+    mapped(alloc, pattern.as_str(), side.as_str())
+}
+
+/// An arm of a term: what it gives for values of a pattern.
+fn mapped(alloc: Global, pattern: &str, given: &str) -> DeriveResult<String> {
+    Ok(format!(in alloc; "{pattern} ↦ {given}")?)
 }
 
 /// What contracts see of each case.
@@ -317,16 +325,24 @@ fn arms_of(
     joined(alloc, arms.as_slice(), " | ")
 }
 
-/// What is seen of a case whose fields are called so, in a term.
-fn value_of(alloc: Global, fields: &Fields, names: &[String]) -> DeriveResult<String> {
-    if names.is_empty() {
+/// What is seen of a case, by the letters of its fields, in a term.
+fn value_of(alloc: Global, variant: &Variant) -> DeriveResult<String> {
+    if variant.fields.fields.is_empty() {
         return owned(alloc, "tt");
     }
     let mut values = Vec::new(alloc);
-    for (field, name) in fields.fields.iter().zip(names.iter()) {
-        values.push(held_as(alloc, field, "tt", name.as_str())?)?;
+    for (i, field) in variant.fields.fields.iter().enumerate() {
+        values.push(value_at(alloc, field, i)?)?;
     }
     tuple_of(alloc, values.as_slice())
+}
+
+/// What is seen of a field of a case, at this place.
+fn value_at(alloc: Global, field: &Field, place: usize) -> DeriveResult<String> {
+    if field.is_phantom {
+        return owned(alloc, "tt");
+    }
+    numbered(alloc, place)
 }
 
 /// A letter for each field of a case.
@@ -353,97 +369,111 @@ fn is_no_array(value: &str) -> bool {
     NO_ARRAYS.iter().any(|known| *known == name)
 }
 
-/// The arm by which a value is made of what its case holds, which stands between these: an array is taken by itself
-/// before it is made part of a value.
-fn arm_of(
+/// Whether a value is made of several parts of which one may be an array, which is taken by itself first.
+fn is_taken(fields: &Fields) -> bool {
+    fields.fields.len() >= 2
+        && !fields
+            .fields
+            .iter()
+            .all(|field| is_no_array(field.value.as_str()))
+}
+
+/// Appends the rest of an arm by which a value is made of what its case holds, which is taken by itself first.
+fn put_taken(
     alloc: Global,
-    (before, after): (&str, &str),
-    path: &str,
+    out: &mut String,
+    (after, path): (&str, &str),
     fields: &Fields,
-) -> DeriveResult<String> {
-    let names = bindings(alloc, fields)?;
-    let made = made_of(alloc, path, fields)?;
-    let is_let = !fields
-        .fields
-        .iter()
-        .all(|field| is_no_array(field.value.as_str()));
-    let mut out = owned(alloc, before)?;
-    if names.len() >= 2 && is_let {
-        let takes = takes_of(alloc, names.as_slice(), "parts")?;
-        put(
-            &mut out,
-            &[
-                "parts",
-                after,
-                " => {\n",
-                takes.as_str(),
-                made.as_str(),
-                "\n}\n",
-            ],
-        )?;
+) -> DeriveResult<()> {
+    put(out, &["parts", after, " => {\n"])?;
+    put_text(out, takes_of(alloc, fields, "parts"))?;
+    put_text(out, made_of(alloc, path, fields))?;
+    put(out, &["\n}\n"])
+}
+
+/// Appends the rest of an arm by which a value is made of what its case holds.
+fn put_whole(
+    alloc: Global,
+    out: &mut String,
+    (after, path): (&str, &str),
+    fields: &Fields,
+) -> DeriveResult<()> {
+    put_text(out, tuple_of_bindings(alloc, fields))?;
+    put(out, &[after, " => "])?;
+    put_text(out, made_of(alloc, path, fields))?;
+    put(out, &[",\n"])
+}
+
+/// Appends the arm by which a value is made of what its case holds, which stands between these: an array is taken by
+/// itself before it is made part of a value.
+fn put_made(
+    alloc: Global,
+    out: &mut String,
+    (before, after): (&str, &str),
+    (name, variant): (&str, &Variant),
+) -> DeriveResult<()> {
+    let path = path_of(alloc, name, variant)?;
+    let of = (after, path.as_str());
+    out.push_str(before)?;
+    if is_taken(&variant.fields) {
+        put_taken(alloc, out, of, &variant.fields)
     } else {
-        let parts = tuple_of(alloc, names.as_slice())?;
-        put(
-            &mut out,
-            &[parts.as_str(), after, " => ", made.as_str(), ",\n"],
-        )?;
+        put_whole(alloc, out, of, &variant.fields)
     }
-    Ok(out)
+}
+
+/// What stands before and behind what a case holds, where the case stands at this place of so many.
+pub fn side_of(place: usize, count: usize) -> (&'static str, &'static str) {
+    let is_last = place.saturating_add(1) == count;
+    match (place, is_last) {
+        (0, true) => ("", ""),
+        (_, true) => ("Err(", ")"),
+        (0, false) => ("Ok(", ")"),
+        _ => ("Err(rest) => match rest {\nOk(", ")"),
+    }
 }
 
 /// The arms by which a value is made of its parts, a `match` for each side behind the first.
 pub fn made_by_sides(alloc: Global, name: &str, variants: &[Variant]) -> DeriveResult<String> {
     let mut out = String::new(alloc);
     for (i, variant) in variants.iter().enumerate() {
-        let is_last = i.saturating_add(1) == variants.len();
-        if i > 0 && !is_last {
-            out.push_str("Err(rest) => match rest {\n")?;
-        }
-        let side = match (i, is_last) {
-            (0, true) => ("", ""),
-            (_, true) => ("Err(", ")"),
-            _ => ("Ok(", ")"),
-        };
-        let path = path_of(alloc, name, variant)?;
-        let arm = arm_of(alloc, side, path.as_str(), &variant.fields)?;
-        out.push_str(arm.as_str())?;
+        let side = side_of(i, variants.len());
+        put_made(alloc, &mut out, side, (name, variant))?;
     }
-    for _ in 2..variants.len() {
-        out.push_str("},\n")?;
-    }
+    put_times(&mut out, "},\n", variants.len().saturating_sub(2))?;
     Ok(out)
 }
 
 /// What stands for the fields of a case at which nobody looks.
 fn unseen_of(alloc: Global, fields: &Fields) -> DeriveResult<String> {
-    let mut out = String::new(alloc);
     match fields.naming {
-        Naming::Unit => return Ok(out),
-        Naming::Named => out.push_str(" { ..")?,
-        Naming::Numbered => out.push('(')?,
+        Naming::Unit => Ok(String::new(alloc)),
+        Naming::Named => owned(alloc, " { .. }"),
+        Naming::Numbered => unseen_numbered(alloc, fields.fields.len()),
     }
-    if fields.naming == Naming::Numbered {
-        for i in 0..fields.fields.len() {
-            out.push_str(if i == 0 { "_" } else { ", _" })?;
-        }
-    }
-    out.push_str(if fields.naming == Naming::Named {
-        " }"
-    } else {
-        ")"
-    })?;
+}
+
+/// What stands for so many fields without names at which nobody looks.
+fn unseen_numbered(alloc: Global, count: usize) -> DeriveResult<String> {
+    let mut out = owned(alloc, if count > 0 { "(_" } else { "(" })?;
+    put_times(&mut out, ", _", count.saturating_sub(1))?;
+    out.push(')')?;
     Ok(out)
+}
+
+/// The arm with the tag of a case.
+fn tag_arm(alloc: Global, name: &str, variant: &Variant) -> DeriveResult<String> {
+    let (case, tag) = (variant.name.as_str(), variant.tag);
+    let unseen = unseen_of(alloc, &variant.fields)?;
+    let unseen = unseen.as_str();
+    Ok(format!(in alloc; "            {name}::{case}{unseen} => {tag},\n")?)
 }
 
 /// The arms with the tag of each case.
 fn tags_of(alloc: Global, name: &str, variants: &[Variant]) -> DeriveResult<String> {
     let mut out = String::new(alloc);
     for variant in variants {
-        let case = variant.name.as_str();
-        let unseen = unseen_of(alloc, &variant.fields)?;
-        let tag = variant.tag;
-        let arm = format!(in alloc; "            {name}::{case}{unseen} => {tag},\n")?;
-        out.push_str(arm.as_str())?;
+        put_text(&mut out, tag_arm(alloc, name, variant))?;
     }
     Ok(out)
 }
@@ -458,21 +488,41 @@ fn held_of(alloc: Global, fields: &Fields) -> DeriveResult<Vec<String>> {
     Ok(held)
 }
 
-/// Appends the arm that sizes or writes what a case holds.
+/// The function of what a case holds, and these behind it.
+fn function_of(
+    alloc: Global,
+    fields: &Fields,
+    (function, more): (&str, &str),
+) -> DeriveResult<String> {
+    let schemas = schemas_of(alloc, fields)?;
+    of_members(alloc, function, schemas.as_slice(), more)
+}
+
+/// The arguments of such a function: what a case holds, with this before and behind.
+fn arguments_of(alloc: Global, fields: &Fields, around: (&str, &str)) -> DeriveResult<Vec<String>> {
+    let names = held_of(alloc, fields)?;
+    members(alloc, names.as_slice(), around)
+}
+
+/// The pattern of a case, in front of what its arm gives.
+fn arm_begin(alloc: Global, name: &str, variant: &Variant) -> DeriveResult<String> {
+    let path = path_of(alloc, name, variant)?;
+    let mut out = made_of(alloc, path.as_str(), &variant.fields)?;
+    out.push_str(" => ")?;
+    Ok(out)
+}
+
+/// Appends the arm that sizes or writes what a case holds, by a call with this before what it holds, and this behind.
 fn put_arm(
     alloc: Global,
     out: &mut String,
     (name, variant): (&str, &Variant),
-    (function, more): (&str, &str),
-    before: &[&str],
+    call: (&str, &str),
+    around: (&str, &str),
 ) -> DeriveResult<()> {
-    let path = path_of(alloc, name, variant)?;
-    let made = made_of(alloc, path.as_str(), &variant.fields)?;
-    let pattern = format!(in alloc; "{made} => ")?;
-    let schemas = schemas_of(alloc, &variant.fields)?;
-    let function = of_members(alloc, function, schemas.as_slice(), more)?;
-    let names = held_of(alloc, &variant.fields)?;
-    let arguments = members(alloc, before, names.as_slice())?;
+    let pattern = arm_begin(alloc, name, variant)?;
+    let function = function_of(alloc, &variant.fields, call)?;
+    let arguments = arguments_of(alloc, &variant.fields, around)?;
     let call = (pattern.as_str(), function.as_str(), ",");
     put_call(alloc, out, 12, call, arguments.as_slice())
 }
@@ -483,20 +533,21 @@ fn calls_of(
     name: &str,
     variants: &[Variant],
     call: (&str, &str),
-    before: &[&str],
+    around: (&str, &str),
 ) -> DeriveResult<String> {
     let mut out = String::new(alloc);
     for variant in variants {
-        put_arm(alloc, &mut out, (name, variant), call, before)?;
+        put_arm(alloc, &mut out, (name, variant), call, around)?;
     }
     Ok(out)
 }
 
 /// A case with what it holds, by the letters of its fields with this behind each.
 fn pattern_of(alloc: Global, name: &str, variant: &Variant, behind: &str) -> DeriveResult<String> {
-    let mut out = String::new(alloc);
-    put(&mut out, &[name, "-", variant.name.as_str()])?;
-    for letter in letters_of(alloc, variant)?.as_slice() {
+    let letters = letters_of(alloc, variant)?;
+    let mut out = owned(alloc, name)?;
+    put(&mut out, &["-", variant.name.as_str()])?;
+    for letter in letters.as_slice() {
         put(&mut out, &[" ", letter.as_str(), behind])?;
     }
     Ok(out)
@@ -511,12 +562,24 @@ fn primed(alloc: Global, letters: &[String]) -> DeriveResult<Vec<String>> {
     Ok(others)
 }
 
+/// The parts of a value of a case as pairs in pairs, by the letters of its fields.
+fn parts_of(alloc: Global, variant: &Variant) -> DeriveResult<String> {
+    let letters = letters_of(alloc, variant)?;
+    pairs_of_all(alloc, letters.as_slice())
+}
+
+/// The parts of another value of the same case as pairs in pairs, by the same letters with primes.
+fn parts_of_other(alloc: Global, variant: &Variant) -> DeriveResult<String> {
+    let letters = letters_of(alloc, variant)?;
+    let letters = primed(alloc, letters.as_slice())?;
+    pairs_of_all(alloc, letters.as_slice())
+}
+
 /// What a law says of two values of one case: their parts as pairs in pairs, the one's and the other's.
 fn both_of(alloc: Global, variant: &Variant) -> DeriveResult<String> {
-    let letters = letters_of(alloc, variant)?;
-    let others = primed(alloc, letters.as_slice())?;
-    let one = pairs_of_all(alloc, letters.as_slice())?;
-    let other = pairs_of_all(alloc, others.as_slice())?;
+    let one = parts_of(alloc, variant)?;
+    let other = parts_of_other(alloc, variant)?;
+    let (one, other) = (one.as_str(), other.as_str());
     Ok(format!(in alloc; "{one} {other}")?)
 }
 
@@ -525,9 +588,9 @@ fn same_of(alloc: Global, variant: &Variant, is_last: bool, same: &str) -> Deriv
     if variant.fields.fields.is_empty() {
         return owned(alloc, "refl");
     }
-    let schemas = schemas_of(alloc, &variant.fields)?;
-    let schema = pairs_of_all(alloc, schemas.as_slice())?;
+    let schema = pairs_of_schemas(alloc, &variant.fields)?;
     let both = both_of(alloc, variant)?;
+    let (schema, both) = (schema.as_str(), both.as_str());
     let (before, after) = if is_last {
         ("", "")
     } else {
@@ -539,13 +602,9 @@ fn same_of(alloc: Global, variant: &Variant, is_last: bool, same: &str) -> Deriv
 /// That the same is seen of what stands behind so many others, from that it is seen of all.
 fn behind(alloc: Global, depth: usize, all: &str) -> DeriveResult<String> {
     let mut out = String::new(alloc);
-    for _ in 0..depth {
-        out.push_str("(err_same ")?;
-    }
+    put_times(&mut out, "(err_same ", depth)?;
     out.push_str(all)?;
-    for _ in 0..depth {
-        out.push(')')?;
-    }
+    put_times(&mut out, ")", depth)?;
     Ok(out)
 }
 
@@ -568,6 +627,30 @@ fn apart_of(alloc: Global, (i, j): (usize, usize), all: &str) -> DeriveResult<St
     Ok(format!(in alloc; "{apart} {same}")?)
 }
 
+/// That the same is seen of the part in which two cases stand, this of so many, or of all where they stand together.
+fn all_of(alloc: Global, part: (usize, usize), layout: Layout) -> DeriveResult<String> {
+    if layout.is_whole() {
+        owned(alloc, "e")
+    } else {
+        behind_part(alloc, part)
+    }
+}
+
+/// Why values of two cases of one part, at these places of so many, are equal where the same is seen of them, or that
+/// it isn't.
+fn why_inside(
+    alloc: Global,
+    (one, all): (&Variant, &str),
+    (i, j): (usize, usize),
+    count: usize,
+) -> DeriveResult<String> {
+    if i != j {
+        return apart_of(alloc, (i, j), all);
+    }
+    let same = behind(alloc, i, all)?;
+    same_of(alloc, one, i.saturating_add(1) == count, same.as_str())
+}
+
 /// Why values of two cases, at these places, are equal where the same is seen of them, or that it isn't.
 fn why_of(
     alloc: Global,
@@ -578,35 +661,50 @@ fn why_of(
     if part.0 != other {
         return apart_of(alloc, (part.0, other), "e");
     }
-    let all = if layout.is_whole() {
-        owned(alloc, "e")?
-    } else {
-        behind_part(alloc, part)?
-    };
+    let all = all_of(alloc, part, layout)?;
     let ((i, count), (j, _)) = (layout.inside(i), layout.inside(j));
-    if i != j {
-        return apart_of(alloc, (i, j), all.as_str());
+    why_inside(alloc, (one, all.as_str()), (i, j), count)
+}
+
+/// Why a value of this case and one of another, at these places, are equal where the same is seen of them, for values
+/// of the other.
+fn alike_arm(
+    alloc: Global,
+    (name, layout): (&str, Layout),
+    one: (usize, &Variant),
+    (j, other): (usize, &Variant),
+) -> DeriveResult<String> {
+    let pattern = pattern_of(alloc, name, other, "'")?;
+    let why = why_of(alloc, (one, j), layout)?;
+    let (pattern, why) = (pattern.as_str(), why.as_str());
+    Ok(format!(in alloc; "{pattern} ↦ λ e. {why}")?)
+}
+
+/// Why a value of this case and one of each other one are equal where the same is seen of them.
+fn alike_arms(
+    alloc: Global,
+    name: &str,
+    (variants, layout): (&[Variant], Layout),
+    one: (usize, &Variant),
+) -> DeriveResult<String> {
+    let mut arms = Vec::new(alloc);
+    for (j, other) in variants.iter().enumerate() {
+        arms.push(alike_arm(alloc, (name, layout), one, (j, other))?)?;
     }
-    let same = behind(alloc, i, all.as_str())?;
-    same_of(alloc, one, i.saturating_add(1) == count, same.as_str())
+    joined(alloc, arms.as_slice(), " | ")
 }
 
 /// Why two values of which the same is seen are equal: of a case and of each other one.
 fn alike_of(
     alloc: Global,
     name: &str,
-    (variants, layout): (&[Variant], Layout),
+    of: (&[Variant], Layout),
     (i, one): (usize, &Variant),
 ) -> DeriveResult<String> {
-    let mut arms = Vec::new(alloc);
-    for (j, other) in variants.iter().enumerate() {
-        let why = why_of(alloc, ((i, one), j), layout)?;
-        let pattern = pattern_of(alloc, name, other, "'")?;
-        arms.push(format!(in alloc; "{pattern} ↦ λ e. {why}")?)?;
-    }
-    let arms = joined(alloc, arms.as_slice(), " | ")?;
     let pattern = pattern_of(alloc, name, one, "")?;
-    Ok(format!(in alloc; "{pattern} ↦ elim [ {arms} ]")?)
+    let arms = alike_arms(alloc, name, of, (i, one))?;
+    let (pattern, arms) = (pattern.as_str(), arms.as_str());
+    Ok(format!(in alloc; "\n      | {pattern} ↦ elim [ {arms} ]")?)
 }
 
 /// Whether an enum is a key of maps: it derives what these ask, its fields are keys by their names, and it has few
@@ -623,21 +721,30 @@ pub fn is_enum_key(declaration: &Declaration, cases: &Cases) -> bool {
             .all(|variant| are_plain_keys(&variant.fields))
 }
 
+/// Why two values of which the same is seen are equal, of each case and each other one.
+fn all_alike(
+    alloc: Global,
+    name: &str,
+    (variants, layout): (&[Variant], Layout),
+) -> DeriveResult<String> {
+    let mut out = String::new(alloc);
+    for (i, variant) in variants.iter().enumerate() {
+        let arm = alike_of(alloc, name, (variants, layout), (i, variant));
+        put_text(&mut out, arm)?;
+    }
+    Ok(out)
+}
+
 /// Appends that an enum is a key of maps.
 fn put_key(
     alloc: Global,
     out: &mut String,
     name: &str,
-    (variants, layout): (&[Variant], Layout),
+    of: (&[Variant], Layout),
 ) -> DeriveResult<()> {
-    let mut alike = String::new(alloc);
-    for (i, variant) in variants.iter().enumerate() {
-        let arm = alike_of(alloc, name, (variants, layout), (i, variant))?;
-        put(&mut alike, &["\n      | ", arm.as_str()])?;
-    }
     let mut words = Words::new(alloc);
     words.set("type", owned(alloc, name));
-    words.set("alike", Ok(alike));
+    words.set("alike", all_alike(alloc, name, of));
     fill(out, KEY, &mut words)
 }
 
@@ -647,85 +754,131 @@ fn set_cases(alloc: Global, words: &mut Words, (declaration, cases): (&Declarati
     let src = declaration.src();
     let variants = cases.variants.as_slice();
     let layout = Layout::of(declaration, variants.len());
-    let size = ("size_of", "");
-    let write = ("write", "W");
     words.set("parts", layout.types(alloc, variants));
     words.set("arms", arms_of(alloc, name, variants, layout));
     words.set("make", layout.make(alloc, (name, src), variants));
     words.set("tag", owned(alloc, cases.tag.as_str()));
     words.set("cases", cases_of(alloc, declaration, cases));
     words.set("tags", tags_of(alloc, src, variants));
-    let arms = calls_of(alloc, src, variants, size, &[]);
-    words.set("size_arms", arms);
-    let arms = calls_of(alloc, src, variants, write, &["writer"]);
-    words.set("write_arms", arms);
+    set_arms(alloc, words, src, variants);
 }
 
-/// Sets the words of what is read and written of an enum by its cases.
+/// Sets the words of the arms that size and write what each case holds.
+fn set_arms(alloc: Global, words: &mut Words, src: &str, variants: &[Variant]) {
+    let size = ("size_of", "");
+    let write = ("write", "W");
+    let front = ("encode_front", "");
+    let arms = calls_of(alloc, src, variants, size, ("", ""));
+    words.set("size_arms", arms);
+    let arms = calls_of(alloc, src, variants, write, ("writer", ""));
+    words.set("write_arms", arms);
+    let arms = calls_of(alloc, src, variants, front, ("", "dst"));
+    words.set("front_arms", arms);
+}
+
+/// What the bound on an enum's cases says of its values.
+fn bound_of_parts(alloc: Global, declaration: &Declaration, cases: &Cases) -> DeriveResult<String> {
+    let parts = types_of_parts(alloc, declaration, cases)?;
+    bound_of(alloc, &declaration.generics, parts.as_str())
+}
+
+/// The types of the parts of an enum, where its parameters have values that are written.
+fn written_parts(alloc: Global, declaration: &Declaration, cases: &Cases) -> DeriveResult<String> {
+    let parts = types_of_parts(alloc, declaration, cases)?;
+    let parameters = declaration.generics.parameters.as_slice();
+    seen_by(alloc, parts.as_str(), parameters, "Src")
+}
+
+/// The types of the parts of an enum.
+fn types_of_parts(alloc: Global, declaration: &Declaration, cases: &Cases) -> DeriveResult<String> {
+    let variants = cases.variants.as_slice();
+    Layout::of(declaration, variants.len()).types(alloc, variants)
+}
+
+/// Sets the words of what is read and written of an enum by its cases, which are these.
 fn set_enum(
     alloc: Global,
     words: &mut Words,
     (all, declaration, cases): (&[Declaration], &Declaration, &Cases),
+    sides: &str,
 ) -> DeriveResult<()> {
     let generics = &declaration.generics;
     let me = applied(alloc, declaration.name.as_str(), generics, "")?;
     let me = me.as_str();
-    let sides = cases_of(alloc, declaration, cases)?;
-    let variants = cases.variants.as_slice();
-    let parts = Layout::of(declaration, variants.len()).types(alloc, variants)?;
-    words.set("evidence", evidence_of(alloc, generics, sides.as_str(), 2));
-    words.set("bound", bound_of(alloc, generics, parts.as_str()));
-    let parameters = generics.parameters.as_slice();
-    words.set(
-        "src_parts",
-        seen_by(alloc, parts.as_str(), parameters, "Src"),
-    );
-    words.set(
-        "values",
-        Ok(format!(in alloc; "(⟦<{me} as EnumParts>⟧.parts x)")?),
-    );
-    words.set(
-        "size",
-        Ok(format!(in alloc; "        size_of_enum::<{me}>(src)\n")?),
-    );
-    words.set(
-        "write",
-        Ok(format!(in alloc; "        write_enum::<{me}, W>(writer, src)\n")?),
-    );
+    words.set("evidence", evidence_of(alloc, generics, sides, 2));
+    words.set("bound", bound_of_parts(alloc, declaration, cases));
+    words.set("src_parts", written_parts(alloc, declaration, cases));
+    words.set("values", values_of(alloc, me));
+    set_bodies(alloc, words, me);
+    if generics.is_none() {
+        set_own_cases(alloc, words, me);
+        return Ok(());
+    }
     set_schemas(
         alloc,
         words,
         (all, declaration),
-        (me, sides.as_str(), cases.tag.as_str()),
+        (cases.tag.as_str(), sides),
     )
 }
 
-/// Sets by which schema an enum goes, and its laws.
+/// What an enum is seen as, of `x`.
+fn values_of(alloc: Global, me: &str) -> DeriveResult<String> {
+    Ok(format!(in alloc; "(⟦<{me} as EnumParts>⟧.parts x)")?)
+}
+
+/// Sets the bodies by which an enum is sized and written.
+fn set_bodies(alloc: Global, words: &mut Words, me: &str) {
+    words.set("size", line(alloc, ("size_of_enum", me, ""), "src"));
+    words.set(
+        "write",
+        line(alloc, ("write_enum", me, ", W"), "writer, src"),
+    );
+    words.set("front", line(alloc, ("encode_enum", me, ""), "src, dst"));
+}
+
+/// A call of a function of an enum, on a line of its own.
+fn line(
+    alloc: Global,
+    (function, me, more): (&str, &str, &str),
+    arguments: &str,
+) -> DeriveResult<String> {
+    Ok(format!(in alloc; "        {function}::<{me}{more}>({arguments})\n")?)
+}
+
+/// Sets by which schema an enum without parameters goes, and its laws.
+fn set_own_cases(alloc: Global, words: &mut Words, me: &str) {
+    words.set("schemas", own_schemas(alloc, me));
+    words.set("laws", own_laws(alloc, me));
+}
+
+/// The schema of an enum without parameters, by its tag and its cases.
+fn own_schemas(alloc: Global, me: &str) -> DeriveResult<String> {
+    Ok(format!(in alloc; "OneOf<<{me} as EnumShape>::Tag, <{me} as EnumShape>::Cases>")?)
+}
+
+/// The laws of an enum without parameters: those of its cases.
+fn own_laws(alloc: Global, me: &str) -> DeriveResult<String> {
+    Ok(format!(in alloc; "⟦<{me}Cases as Lawful<L>>⟧.read_laws")?)
+}
+
+/// The schema of an enum with this tag and these cases.
+pub fn one_of(alloc: Global, tag: &str, sides: &str) -> DeriveResult<String> {
+    Ok(format!(in alloc; "OneOf<{tag}, {sides}>")?)
+}
+
+/// Sets by which schema an enum over parameters goes, and its laws.
 fn set_schemas(
     alloc: Global,
     words: &mut Words,
     (all, declaration): (&[Declaration], &Declaration),
-    (me, sides, tag): (&str, &str, &str),
+    (tag, sides): (&str, &str),
 ) -> DeriveResult<()> {
-    if declaration.generics.is_none() {
-        let of_tag = format!(in alloc; "<{me} as EnumShape>::Tag")?;
-        words.set(
-            "schemas",
-            Ok(format!(in alloc; "OneOf<{of_tag}, <{me} as EnumShape>::Cases>")?),
-        );
-        words.set(
-            "laws",
-            Ok(format!(in alloc; "⟦<{me}Cases as Lawful<L>>⟧.read_laws")?),
-        );
-        return Ok(());
-    }
     let parameters = declaration.generics.parameters.as_slice();
-    let schemas = format!(in alloc; "OneOf<{tag}, {sides}>")?;
+    let schemas = one_of(alloc, tag, sides)?;
     let seen = looked_into(alloc, all, (schemas.as_str(), parameters))?;
-    words.set(
-        "laws",
-        law_of(alloc, seen.as_str(), parameters, declaration.line),
-    );
+    let laws = law_of(alloc, seen.as_str(), parameters, declaration.line);
+    words.set("laws", laws);
     words.set("schemas", Ok(schemas));
     Ok(())
 }
@@ -761,6 +914,49 @@ fn is_plain(alloc: Global, variants: &[Variant]) -> DeriveResult<bool> {
     Ok(true)
 }
 
+/// The words of an enum.
+fn words_of(
+    alloc: Global,
+    (all, declaration): (&[Declaration], &Declaration),
+    cases: &Cases,
+) -> DeriveResult<Words> {
+    let sides = cases_of(alloc, declaration, cases)?;
+    let sides = sides.as_str();
+    let mut words = name_words(alloc, declaration, ("Cases", sides), true);
+    set_cases(alloc, &mut words, (declaration, cases));
+    set_enum(alloc, &mut words, (all, declaration, cases), sides)?;
+    Ok(words)
+}
+
+/// Appends how an enum is read and written that names no lifetime.
+fn put_owned(
+    alloc: Global,
+    out: &mut String,
+    words: &mut Words,
+    declaration: &Declaration,
+) -> DeriveResult<()> {
+    words.set("head", read_head(alloc, declaration));
+    fill(out, WRITING, words)?;
+    fill(out, READING, words)?;
+    fill(out, MARKERS, words)
+}
+
+/// Appends how an enum is read and written, by its words.
+fn put_body(
+    alloc: Global,
+    out: &mut String,
+    words: &mut Words,
+    (declaration, cases): (&Declaration, &Cases),
+) -> DeriveResult<()> {
+    let Some(lifetime) = &declaration.generics.lifetime else {
+        return put_owned(alloc, out, words, declaration);
+    };
+    let is_plain = is_plain(alloc, cases.variants.as_slice())?;
+    let parts = types_of_parts(alloc, declaration, cases);
+    let of = (lifetime.as_str(), is_plain);
+    put_lent_enum(alloc, out, (declaration, parts), of, words)
+}
+
 /// Appends the schema of an enum.
 pub fn put_enum(
     alloc: Global,
@@ -768,27 +964,12 @@ pub fn put_enum(
     (all, declaration): (&[Declaration], &Declaration),
     cases: &Cases,
 ) -> DeriveResult<()> {
-    let generics = &declaration.generics;
     let variants = cases.variants.as_slice();
     let layout = Layout::of(declaration, variants.len());
-    let sides = cases_of(alloc, declaration, cases)?;
-    let of = ("Cases", sides.as_str());
-    let mut words = name_words(alloc, declaration, of, true)?;
-    set_cases(alloc, &mut words, (declaration, cases));
-    set_enum(alloc, &mut words, (all, declaration, cases))?;
+    let mut words = words_of(alloc, (all, declaration), cases)?;
     layout.put(alloc, out, (declaration, variants))?;
-    put_shape(alloc, out, &mut words, generics)?;
-    if let Some(lifetime) = &generics.lifetime {
-        let parts = layout.types(alloc, variants)?;
-        let is_plain = is_plain(alloc, variants)?;
-        let kind = (lifetime.as_str(), is_plain);
-        return put_lent_enum(alloc, out, (declaration, parts), kind, &mut words);
-    }
-    let dst = applied(alloc, declaration.src(), generics, "::Dst")?;
-    words.set("head", read_head(alloc, dst.as_str()));
-    fill(out, WRITING, &mut words)?;
-    fill(out, READING, &mut words)?;
-    fill(out, MARKERS, &mut words)?;
+    put_shape(alloc, out, &mut words, &declaration.generics)?;
+    put_body(alloc, out, &mut words, (declaration, cases))?;
     if is_enum_key(declaration, cases) {
         put_key(alloc, out, declaration.name.as_str(), (variants, layout))?;
     }

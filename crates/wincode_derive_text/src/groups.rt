@@ -175,6 +175,24 @@ pub fn first_of(tokens: &[Token], (from, to): (usize, usize), signs: &[&str]) ->
     to
 }
 
+/// Closes the last of the brackets that are opened, or tells what is wrong with the one that stands there.
+fn close_last(
+    alloc: Global,
+    report: &mut Report,
+    (tokens, token): (&[Token], &Token),
+    opened: &mut Vec<usize>,
+) -> DeriveResult<()> {
+    let sign = token.text.as_str();
+    match opened.pop() {
+        Some(open) if closing_of(text_at(tokens, open)) == sign => Ok(()),
+        Some(open) => report.take(alloc, unclosed(alloc, tokens, open)?),
+        None => {
+            let message = format!(in alloc; "`{sign}` closes no bracket")?;
+            report.tell(token.spot(), message)
+        }
+    }
+}
+
 /// Refuses a bracket that is not closed, or that closes none.
 pub fn check_brackets(alloc: Global, tokens: &[Token], report: &mut Report) -> DeriveResult<()> {
     let mut opened: Vec<usize> = Vec::new(alloc);
@@ -182,15 +200,7 @@ pub fn check_brackets(alloc: Global, tokens: &[Token], report: &mut Report) -> D
         if opens(token) {
             opened.push(i)?;
         } else if closes(token) {
-            let sign = token.text.as_str();
-            match opened.pop() {
-                Some(open) if closing_of(text_at(tokens, open)) == sign => {}
-                Some(open) => report.take(alloc, unclosed(alloc, tokens, open)?)?,
-                None => {
-                    let message = format!(in alloc; "`{sign}` closes no bracket")?;
-                    report.tell(token.spot(), message)?;
-                }
-            }
+            close_last(alloc, report, (tokens, token), &mut opened)?;
         }
         if report.count() > 0 {
             return Ok(());

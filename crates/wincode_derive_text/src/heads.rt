@@ -5,6 +5,7 @@ use crate::groups::{
     type_text,
 };
 use crate::notes::{Note, note_of, said_in};
+use crate::printing::{owned, put, put_text};
 use crate::report::Report;
 use crate::tokens::{Kind, Token, tokens_of};
 use std::alloc::Global;
@@ -178,6 +179,27 @@ fn is_path(tokens: &[Token]) -> bool {
         })
 }
 
+/// A word that says nothing.
+fn no_word(alloc: Global, word: &str) -> DeriveResult<String> {
+    Ok(format!(in alloc; "`{word}` is none of `with`, `tag`, `tag_encoding`, `counts` and `from`")?)
+}
+
+/// A word that is said twice.
+fn said_twice(alloc: Global, word: &str) -> DeriveResult<String> {
+    Ok(format!(in alloc; "`{word}` is said twice")?)
+}
+
+/// A word without a value.
+fn no_value(alloc: Global, word: &str) -> DeriveResult<String> {
+    Ok(format!(in alloc; "`{word} =` wants a value")?)
+}
+
+/// A word that isn't said of this.
+fn misplaced(alloc: Global, word: &str, over: Over) -> DeriveResult<String> {
+    let (place, this) = (place_of(word), over.name());
+    Ok(format!(in alloc; "`{word}` stands over {place}, and this is {this}")?)
+}
+
 impl Said {
     fn nothing() -> Said {
         Said {
@@ -202,6 +224,47 @@ impl Said {
         }
     }
 
+    /// Takes the type that `from` says; what is wrong with it.
+    fn take_from(&mut self, alloc: Global, value: &str) -> DeriveResult<Option<&'static str>> {
+        let tokens = tokens_of(alloc, value)?;
+        if !is_path(tokens.as_slice()) {
+            return Ok(Some("`from` wants the name of a type, or its path"));
+        }
+        self.from = Some(owned(alloc, value)?);
+        Ok(None)
+    }
+
+    /// Takes the scheme of tags; what is wrong with it.
+    fn take_encoding(&mut self, alloc: Global, value: &str) -> DeriveResult<Option<&'static str>> {
+        if !matches!(value, "u8" | "u16" | "u32" | "u64") {
+            return Ok(Some("the scheme of tags is `u8`, `u16`, `u32` or `u64`"));
+        }
+        self.tag_encoding = Some(owned(alloc, value)?);
+        Ok(None)
+    }
+
+    /// Takes a tag; what is wrong with it.
+    fn take_tag(&mut self, value: &str) -> Option<&'static str> {
+        match number_of(value) {
+            Some(number) => {
+                self.tag = Some(number);
+                None
+            }
+            None => Some("a tag is a number, such as `13`"),
+        }
+    }
+
+    /// Takes what a value counts; what is wrong with it.
+    fn take_counts(&mut self, value: &str) -> Option<&'static str> {
+        match number_of(value) {
+            Some(number) if number > 0 => {
+                self.counts = Some(number);
+                None
+            }
+            _ => Some("what a value counts is a number, at least 1"),
+        }
+    }
+
     /// Takes a value; what is wrong with it.
     fn take(
         &mut self,
@@ -209,25 +272,17 @@ impl Said {
         note: Note<'_>,
         spot: Spot,
     ) -> DeriveResult<Option<&'static str>> {
-        let text = String::from_str(alloc, note.value)?;
         match note.word {
-            "with" => self.with = Some(Schema { text, spot }),
-            "tag_encoding" if matches!(note.value, "u8" | "u16" | "u32" | "u64") => {
-                self.tag_encoding = Some(text);
+            "with" => {
+                let text = owned(alloc, note.value)?;
+                self.with = Some(Schema { text, spot });
+                Ok(None)
             }
-            "tag_encoding" => return Ok(Some("the scheme of tags is `u8`, `u16`, `u32` or `u64`")),
-            "from" if is_path(tokens_of(alloc, note.value)?.as_slice()) => self.from = Some(text),
-            "from" => return Ok(Some("`from` wants the name of a type, or its path")),
-            "tag" => match number_of(note.value) {
-                Some(number) => self.tag = Some(number),
-                None => return Ok(Some("a tag is a number, such as `13`")),
-            },
-            _ => match number_of(note.value) {
-                Some(number) if number > 0 => self.counts = Some(number),
-                _ => return Ok(Some("what a value counts is a number, at least 1")),
-            },
+            "tag_encoding" => self.take_encoding(alloc, note.value),
+            "from" => self.take_from(alloc, note.value),
+            "tag" => Ok(self.take_tag(note.value)),
+            _ => Ok(self.take_counts(note.value)),
         }
-        Ok(None)
     }
 
     /// What is wrong with a comment line's word, or that it has no value.
@@ -239,20 +294,35 @@ impl Said {
     ) -> DeriveResult<Option<String>> {
         let word = note.word;
         let what = if !LINES.iter().any(|known| *known == word) {
-            format!(in alloc;
-                "`{word}` is none of `with`, `tag`, `tag_encoding`, `counts` and `from`"
-            )?
+            no_word(alloc, word)
         } else if !over.has(word) {
-            let (place, this) = (place_of(word), over.name());
-            format!(in alloc; "`{word}` stands over {place}, and this is {this}")?
+            misplaced(alloc, word, over)
         } else if self.has(word) {
-            format!(in alloc; "`{word}` is said twice")?
+            said_twice(alloc, word)
         } else if note.value.is_empty() {
-            format!(in alloc; "`{word} =` wants a value")?
+            no_value(alloc, word)
         } else {
             return Ok(None);
         };
-        Ok(Some(what))
+        Ok(Some(what?))
+    }
+
+    /// Takes what a note says of its subject, which stands there.
+    fn take_note(
+        &mut self,
+        alloc: Global,
+        (note, spot): (Note<'_>, Spot),
+        subject: Subject<'_>,
+    ) -> DeriveResult<()> {
+        if let Some(what) = self.wrong_word(alloc, note, subject.over)? {
+            return Err(wrong(alloc, spot, subject, what.as_str()));
+        }
+        let column = spot.column.saturating_add(note.offset);
+        let inside = Spot { column, ..spot };
+        match self.take(alloc, note, inside)? {
+            Some(what) => Err(wrong(alloc, inside, subject, what)),
+            None => Ok(()),
+        }
     }
 
     /// Takes what a comment line says of its subject.
@@ -266,22 +336,12 @@ impl Said {
         if said_in(token.text.as_str()).is_none() {
             return Err(wrong(alloc, spot, subject, NEARLY));
         }
-        let Some(note) = note_of(token.text.as_str()) else {
-            return Err(wrong(
-                alloc,
-                spot,
-                subject,
-                "`wincode:` wants a word, `=` and a value",
-            ));
-        };
-        if let Some(what) = self.wrong_word(alloc, note, subject.over)? {
-            return Err(wrong(alloc, spot, subject, what.as_str()));
-        }
-        let column = spot.column.saturating_add(note.offset);
-        let inside = Spot { column, ..spot };
-        match self.take(alloc, note, inside)? {
-            Some(what) => Err(wrong(alloc, inside, subject, what)),
-            None => Ok(()),
+        match note_of(token.text.as_str()) {
+            Some(note) => self.take_note(alloc, (note, spot), subject),
+            None => {
+                let what = "`wincode:` wants a word, `=` and a value";
+                Err(wrong(alloc, spot, subject, what))
+            }
         }
     }
 
@@ -368,6 +428,22 @@ pub fn filled(alloc: Global, schema: &str, held: &str) -> DeriveResult<String> {
     type_text(alloc, tokens.as_slice(), 0, count)
 }
 
+/// The value of a comment line, whose tokens stand there.
+fn value_at(
+    alloc: Global,
+    tokens: &[Token],
+    ((from, to), held): ((usize, usize), &str),
+) -> DeriveResult<String> {
+    let value = type_text(alloc, tokens, from, to)?;
+    filled(alloc, unquoted(value.as_str()), held)
+}
+
+/// Whether a word that has a comment line stands there, and `=` behind it.
+fn says(tokens: &[Token], at: usize) -> bool {
+    let word = text_at(tokens, at);
+    is_sign(tokens, next(at), "=") && LINES.iter().any(|known| *known == word)
+}
+
 /// Appends the comment line that says what stands between these commas.
 fn put_line(
     alloc: Global,
@@ -375,17 +451,31 @@ fn put_line(
     tokens: &[Token],
     ((from, to), held): ((usize, usize), &str),
 ) -> DeriveResult<bool> {
-    let word = text_at(tokens, from);
-    if !is_sign(tokens, next(from), "=") || !LINES.iter().any(|known| *known == word) {
+    if !says(tokens, from) {
         return Ok(false);
     }
-    let value = type_text(alloc, tokens, next(next(from)), to)?;
-    let value = filled(alloc, unquoted(value.as_str()), held)?;
-    let value = value.as_str();
+    let value = value_at(alloc, tokens, ((next(next(from)), to), held));
     let between = if out.is_empty() { "" } else { " and " };
-    let line = format!(in alloc; "{between}`// wincode: {word} = {value}`")?;
-    out.push_str(line.as_str())?;
+    put(
+        out,
+        &[between, "`// wincode: ", text_at(tokens, from), " = "],
+    )?;
+    put_text(out, value)?;
+    out.push('`')?;
     Ok(true)
+}
+
+/// A word that no comment line says.
+fn unsaid(alloc: Global, word: &str) -> DeriveResult<String> {
+    Ok(format!(in alloc; "no line says what `#[wincode({word})]` does: leave it out")?)
+}
+
+/// The comment lines to write over this, which has some or none.
+fn over_of(alloc: Global, lines: &str, over: &str) -> DeriveResult<String> {
+    if lines.is_empty() {
+        return Ok(String::from_str(alloc, "leave `#[wincode]` out")?);
+    }
+    Ok(format!(in alloc; "in the place of `#[wincode(..)]` write over {over} the line {lines}")?)
 }
 
 /// What to write in the place of `#[wincode(..)]`, whose bracket is opened there.
@@ -404,18 +494,11 @@ fn line_for(
         }
         let to = end_of_part(tokens, at, close);
         if !put_line(alloc, &mut lines, tokens, ((at, to), subject.held))? {
-            let word = text_at(tokens, at);
-            return Ok(format!(in alloc;
-                "no line says what `#[wincode({word})]` does: leave it out"
-            )?);
+            return unsaid(alloc, text_at(tokens, at));
         }
         at = next(to);
     }
-    if lines.is_empty() {
-        return Ok(String::from_str(alloc, "leave `#[wincode]` out")?);
-    }
-    let (lines, over) = (lines.as_str(), subject.over.name());
-    Ok(format!(in alloc; "in the place of `#[wincode(..)]` write over {over} the line {lines}")?)
+    over_of(alloc, lines.as_str(), subject.over.name())
 }
 
 /// What comment lines and attributes say of their subject; what is wrong is told.
@@ -426,6 +509,19 @@ pub fn said_of(
     (head, subject): (&Head, Subject<'_>),
 ) -> DeriveResult<Said> {
     let mut said = Said::nothing();
+    take_lines(alloc, tokens, report, (head, subject), &mut said)?;
+    take_attributes(alloc, tokens, report, (head, subject), &mut said)?;
+    Ok(said)
+}
+
+/// Takes what the comment lines say.
+fn take_lines(
+    alloc: Global,
+    tokens: &[Token],
+    report: &mut Report,
+    (head, subject): (&Head, Subject<'_>),
+    said: &mut Said,
+) -> DeriveResult<()> {
     for at in head.notes.iter() {
         if let Some(token) = tokens.get(*at) {
             report.take_note(*at)?;
@@ -433,8 +529,7 @@ pub fn said_of(
             report.keep(alloc, answer)?;
         }
     }
-    take_attributes(alloc, tokens, report, (head, subject), &mut said)?;
-    Ok(said)
+    Ok(())
 }
 
 /// Takes what the attributes say.

@@ -1,9 +1,9 @@
 //! Types over parameters in the fields of others: the schemas of what they hold in their places, whose laws are known.
 use crate::declarations::{Declaration, DeclaredShape};
-use crate::enums::cases_of;
+use crate::enums::{cases_of, one_of};
 use crate::error::DeriveResult;
 use crate::groups::{close_of, end_of_part, is_sign, next, type_text};
-use crate::printing::{owned, put};
+use crate::printing::{owned, put_text};
 use crate::structs::{schemas_of, tuple_of};
 use crate::tokens::{Kind, Token, tokens_of};
 use std::alloc::Global;
@@ -53,8 +53,7 @@ fn schemas_in(alloc: Global, declaration: &Declaration) -> DeriveResult<String> 
         }
         DeclaredShape::Enum(cases) => {
             let all = cases_of(alloc, declaration, cases)?;
-            let (tag, all) = (cases.tag.as_str(), all.as_str());
-            Ok(format!(in alloc; "OneOf<{tag}, {all}>")?)
+            one_of(alloc, cases.tag.as_str(), all.as_str())
         }
     }
 }
@@ -98,6 +97,34 @@ fn given(
     type_text(alloc, tokens.as_slice(), 0, count)
 }
 
+/// What a type holds, with its own parts in the places of its parameters.
+fn held_in(
+    alloc: Global,
+    tokens: &[Token],
+    declaration: &Declaration,
+    inside: Inside,
+) -> DeriveResult<String> {
+    let begin = next(next(inside.at));
+    let parts = parts_in(alloc, tokens, (begin, inside.close))?;
+    let schemas = schemas_in(alloc, declaration)?;
+    let over = (declaration.generics.parameters.as_slice(), parts.as_slice());
+    given(alloc, schemas.as_str(), over)
+}
+
+/// A schema with the schemas of what this type holds in its place.
+fn replaced(
+    alloc: Global,
+    tokens: &[Token],
+    declaration: &Declaration,
+    inside: Inside,
+) -> DeriveResult<String> {
+    let mut out = type_text(alloc, tokens, 0, inside.at)?;
+    put_text(&mut out, held_in(alloc, tokens, declaration, inside))?;
+    let behind = type_text(alloc, tokens, next(inside.close), tokens.len());
+    put_text(&mut out, behind)?;
+    Ok(out)
+}
+
 /// A schema with the schemas of what is held in the place of each of these types that stands in it over one of the
 /// parameters.
 pub fn looked_into(
@@ -115,18 +142,7 @@ pub fn looked_into(
         let Some(declaration) = all.get(inside.which) else {
             break;
         };
-        let begin = next(next(inside.at));
-        let parts = parts_in(alloc, tokens, (begin, inside.close))?;
-        let schemas = schemas_in(alloc, declaration)?;
-        let over = (declaration.generics.parameters.as_slice(), parts.as_slice());
-        let held = given(alloc, schemas.as_str(), over)?;
-        let before = type_text(alloc, tokens, 0, inside.at)?;
-        let behind = type_text(alloc, tokens, next(inside.close), tokens.len())?;
-        seen = String::new(alloc);
-        put(
-            &mut seen,
-            &[before.as_str(), held.as_str(), behind.as_str()],
-        )?;
+        seen = replaced(alloc, tokens, declaration, inside)?;
     }
     Ok(seen)
 }

@@ -1,7 +1,7 @@
 //! The law of reading of fields in whose types parameters stand, put together from those of their parts.
 use crate::error::{DeriveError, DeriveResult, unsupported};
 use crate::parsing::{end_of_group, end_of_part, next, text_at, type_text};
-use crate::printing::{Words, fill, owned, put};
+use crate::printing::{Words, fill, owned, put, text_of};
 use crate::tokens::{Kind, Token, tokens_of};
 use std::alloc::Global;
 
@@ -119,6 +119,37 @@ fn unknown_at(line: usize) -> DeriveError {
     )
 }
 
+/// The laws of the key that stands there.
+fn key_at(alloc: Global, tokens: &[Token], (from, to): (usize, usize)) -> DeriveResult<String> {
+    let key = type_text(alloc, tokens, from, to)?;
+    let key = key.as_str();
+    Ok(format!(in alloc; "⟦<{key} as LawfulKey<L>>⟧")?)
+}
+
+/// The laws of the value that stands there.
+fn value_at(alloc: Global, tokens: &[Token], (from, to): (usize, usize)) -> DeriveResult<String> {
+    let value = type_text(alloc, tokens, from, to)?;
+    let value = value.as_str();
+    Ok(format!(in alloc; "⟦<{value} as SchemaRead<L>>⟧")?)
+}
+
+/// The laws of the length whose scheme stands there.
+fn length_at(alloc: Global, tokens: &[Token], (from, to): (usize, usize)) -> DeriveResult<String> {
+    let scheme = type_text(alloc, tokens, from, to)?;
+    let scheme = scheme.as_str();
+    Ok(format!(in alloc; "⟦<{scheme} as SeqLen>⟧")?)
+}
+
+/// What a map's law begins with and ends in, by its name.
+fn map_of(name: &str) -> Option<(&'static str, &'static str)> {
+    for (known, before, after) in &MAPS {
+        if *known == name {
+            return Some((*before, *after));
+        }
+    }
+    None
+}
+
 impl Law {
     /// Begins a part whose own parts end there.
     fn open(
@@ -159,13 +190,11 @@ impl Law {
         (begin, close): (usize, usize),
     ) -> DeriveResult<()> {
         let end = end_of_part(tokens, begin, close);
-        let scheme = type_text(alloc, tokens, next(end), close)?;
-        let scheme = scheme.as_str();
-        let quoted = format!(in alloc; "⟦<{scheme} as SeqLen>⟧")?;
-        let quoted = quoted.as_str();
+        let length = length_at(alloc, tokens, (next(end), close))?;
+        let length = length.as_str();
         put(
             &mut self.out,
-            &["(", word, " ", quoted, ".scheme ", quoted, ".scheme_laws "],
+            &["(", word, " ", length, ".scheme ", length, ".scheme_laws "],
         )?;
         self.open(begin, (end, next(close)), owned(alloc, ")")?)
     }
@@ -195,23 +224,60 @@ impl Law {
         (begin, close): (usize, usize),
     ) -> DeriveResult<()> {
         let end = end_of_part(tokens, begin, close);
-        let key = type_text(alloc, tokens, begin, end)?;
-        let key = key.as_str();
-        let value = type_text(alloc, tokens, next(end), close)?;
-        let value = value.as_str();
         let mut words = Words::new(alloc);
-        words.set("key", Ok(format!(in alloc; "⟦<{key} as LawfulKey<L>>⟧")?));
-        words.set(
-            "value",
-            Ok(format!(in alloc; "⟦<{value} as SchemaRead<L>>⟧")?),
-        );
+        words.set("key", key_at(alloc, tokens, (begin, end)));
+        words.set("value", value_at(alloc, tokens, (next(end), close)));
         fill(&mut self.out, before, &mut words)?;
-        let mut closing = String::new(alloc);
-        fill(&mut closing, after, &mut words)?;
+        let closing = text_of(alloc, after, &mut words)?;
         self.open(next(end), (close, next(close)), closing)
     }
 
-    /// A type with parts of its own, by its name.
+    /// A type with one part or two.
+    fn open_parts(
+        &mut self,
+        alloc: Global,
+        word: &str,
+        (begin, close): (usize, usize),
+    ) -> DeriveResult<()> {
+        put(&mut self.out, &["(", word, " "])?;
+        self.open(begin, (close, next(close)), owned(alloc, ")")?)
+    }
+
+    /// A type with parts of its own, which stand there, by its name.
+    fn open_by_name(
+        &mut self,
+        alloc: Global,
+        tokens: &[Token],
+        (name, line): (&str, usize),
+        place: (usize, usize),
+    ) -> DeriveResult<()> {
+        let is_container = text_at(tokens, self.at) == "containers";
+        if let Some(word) = word_of(&CASES, name) {
+            return self.open_cases(alloc, tokens, word, place);
+        }
+        let table: &[(&'static str, &'static str)] = if is_container { &LISTS } else { &PARTS };
+        match word_of(table, name) {
+            Some(word) if is_container => self.open_list(alloc, tokens, word, place),
+            Some(word) => self.open_parts(alloc, word, place),
+            None => Err(unknown_at(line)),
+        }
+    }
+
+    /// What the law of a map begins with and ends in, if one stands there whose key names none of these.
+    fn map_at(
+        &self,
+        tokens: &[Token],
+        names: &[String],
+        (open, close): (usize, usize),
+    ) -> Option<(&'static str, &'static str)> {
+        let key = end_of_part(tokens, next(open), close);
+        if text_at(tokens, self.at) == "containers" || has_name(tokens, next(open), key, names) {
+            return None;
+        }
+        map_of(text_at(tokens, open.saturating_sub(1)))
+    }
+
+    /// A type with parts of its own.
     fn open_named(
         &mut self,
         alloc: Global,
@@ -224,24 +290,9 @@ impl Law {
         let close = end_of_group(tokens, open)?;
         let place = (next(open), close);
         let name = text_at(tokens, open.saturating_sub(1));
-        let is_container = text_at(tokens, self.at) == "containers";
-        for (map, before, after) in &MAPS {
-            let key = end_of_part(tokens, next(open), close);
-            if *map == name && !is_container && !has_name(tokens, next(open), key, names) {
-                return self.open_map(alloc, tokens, (*before, *after), place);
-            }
-        }
-        if let Some(word) = word_of(&CASES, name) {
-            return self.open_cases(alloc, tokens, word, place);
-        }
-        let table: &[(&'static str, &'static str)] = if is_container { &LISTS } else { &PARTS };
-        match word_of(table, name) {
-            Some(word) if is_container => self.open_list(alloc, tokens, word, place),
-            Some(word) => {
-                put(&mut self.out, &["(", word, " "])?;
-                self.open(next(open), (close, next(close)), owned(alloc, ")")?)
-            }
-            None => Err(unknown_at(line)),
+        match self.map_at(tokens, names, (open, close)) {
+            Some(around) => self.open_map(alloc, tokens, around, place),
+            None => self.open_by_name(alloc, tokens, (name, line), place),
         }
     }
 
@@ -272,6 +323,35 @@ impl Law {
         Ok(())
     }
 
+    /// A part without parameters, up to there.
+    fn put_whole(&mut self, alloc: Global, tokens: &[Token], end: usize) -> DeriveResult<()> {
+        let text = type_text(alloc, tokens, self.at, end)?;
+        put(
+            &mut self.out,
+            &["⟦<", text.as_str(), " as Lawful<L>>⟧.read_laws"],
+        )?;
+        self.at = end;
+        Ok(())
+    }
+
+    /// A part in which parameters stand, up to there.
+    fn open_part(
+        &mut self,
+        alloc: Global,
+        (tokens, end): (&[Token], usize),
+        of: (&[String], usize),
+    ) -> DeriveResult<()> {
+        match text_at(tokens, self.at) {
+            parameter if next(self.at) == end => {
+                self.at = end;
+                put(&mut self.out, &[parameter, ".read_laws"])
+            }
+            "(" => self.open_tuple(alloc, tokens),
+            "[" => Err(unsupported(of.1, "an array of a type parameter")),
+            _ => self.open_named(alloc, tokens, of),
+        }
+    }
+
     /// A part, from its first token.
     fn step(
         &mut self,
@@ -288,26 +368,28 @@ impl Law {
             return self.step_behind(alloc);
         }
         let is_cases = word_of(&CASES, text_at(tokens, self.at)).is_some();
-        if !is_cases && !has_name(tokens, self.at, end, of.0) {
-            let text = type_text(alloc, tokens, self.at, end)?;
-            put(
-                &mut self.out,
-                &["⟦<", text.as_str(), " as Lawful<L>>⟧.read_laws"],
-            )?;
-            self.at = end;
-            return Ok(());
-        }
-        match text_at(tokens, self.at) {
-            parameter if next(self.at) == end => {
-                put(&mut self.out, &[parameter, ".read_laws"])?;
-                self.at = end;
-                Ok(())
-            }
-            "(" => self.open_tuple(alloc, tokens),
-            "[" => Err(unsupported(of.1, "an array of a type parameter")),
-            _ => self.open_named(alloc, tokens, of),
+        if is_cases || has_name(tokens, self.at, end, of.0) {
+            self.open_part(alloc, (tokens, end), of)
+        } else {
+            self.put_whole(alloc, tokens, end)
         }
     }
+}
+
+/// The law of what these tokens say, with all its parts.
+fn whole_law(alloc: Global, tokens: &[Token], of: (&[String], usize)) -> DeriveResult<Law> {
+    let mut law = Law {
+        out: String::new(alloc),
+        frames: Vec::new(alloc),
+        at: 0,
+    };
+    for _ in 0..tokens.len().saturating_mul(2).saturating_add(2) {
+        if law.at >= tokens.len() && law.frames.is_empty() {
+            break;
+        }
+        law.step(alloc, tokens, of)?;
+    }
+    Ok(law)
 }
 
 /// The law of reading of a schema in which these parameters stand, as a term.
@@ -318,17 +400,7 @@ pub fn law_of(
     line: usize,
 ) -> DeriveResult<String> {
     let tokens = tokens_of(alloc, schema)?;
-    let mut law = Law {
-        out: String::new(alloc),
-        frames: Vec::new(alloc),
-        at: 0,
-    };
-    for _ in 0..tokens.len().saturating_mul(2).saturating_add(2) {
-        if law.at >= tokens.len() && law.frames.is_empty() {
-            break;
-        }
-        law.step(alloc, tokens.as_slice(), (parameters, line))?;
-    }
+    let law = whole_law(alloc, tokens.as_slice(), (parameters, line))?;
     Ok(law.out)
 }
 

@@ -3,8 +3,8 @@ use crate::declarations::{Declaration, Field, Fields};
 use crate::error::{DeriveResult, unsupported};
 use crate::printing::{Words, fill, owned, put};
 use crate::structs::{
-    applied, bindings, groups_of, is_plain_key, made_of, name_words, named_fields, pairs_of_all,
-    put_rests, schemas_of, set_calls, takes_of, tuple_of, types_of, values_of,
+    applied, is_plain_key, made_of, name_words, pairs_of_schemas, put_rests, set_first_calls,
+    set_sides, takes_of, tuple_of_schemas, tuple_of_types, values_of,
 };
 use crate::tokens::{Kind, tokens_of};
 use std::alloc::Global;
@@ -56,6 +56,10 @@ impl@writes@ SchemaWrite for @self@ {
 
     fn write<W: Writer>(writer: &mut W, src: &@src@) -> WriteResult<()> {
 @write@    }
+
+    #[inline(always)]
+    fn encode_front(src: &@src@, dst: &mut [u8]) -> Option<usize> {
+@front@    }
 
     ghost write_laws = { write_laws_by (λ x. @values@) ⟦<@fields@ as SchemaWrite>⟧.write_laws };
 }
@@ -197,25 +201,16 @@ fn put_lent_key(
     words: &mut Words,
     fields: &Fields,
 ) -> DeriveResult<()> {
-    let schemas = schemas_of(alloc, fields)?;
-    let one = named_fields(alloc, "x.", fields)?;
-    let other = named_fields(alloc, "y.", fields)?;
-    words.set("pairs", pairs_of_all(alloc, schemas.as_slice()));
-    words.set("one", pairs_of_all(alloc, one.as_slice()));
-    words.set("other", pairs_of_all(alloc, other.as_slice()));
+    words.set("pairs", pairs_of_schemas(alloc, fields));
+    set_sides(alloc, words, fields);
     fill(out, KEY, words)
 }
 
-/// Sets the words of what names a lifetime, which has these parts and is made of them so.
-fn set_lent(
-    words: &mut Words,
-    lifetime: String,
-    (types, take): (String, String),
-) -> DeriveResult<()> {
-    words.set("lifetime", Ok(lifetime));
-    words.set("types", Ok(types));
-    words.set("take", Ok(take));
-    Ok(())
+/// How an enum is made of its parts.
+fn take_of_enum(alloc: Global, declaration: &Declaration) -> DeriveResult<String> {
+    let me = applied(alloc, declaration.name.as_str(), &declaration.generics, "")?;
+    let me = me.as_str();
+    Ok(format!(in alloc; "        <{me} as EnumParts>::make(made_of)\n")?)
 }
 
 /// Appends the schema of an enum that names a lifetime, of which there is what it is made of. It has these parts, and
@@ -223,14 +218,13 @@ fn set_lent(
 pub fn put_lent_enum(
     alloc: Global,
     out: &mut String,
-    (declaration, parts): (&Declaration, String),
+    (declaration, parts): (&Declaration, DeriveResult<String>),
     (lifetime, is_plain): (&str, bool),
     words: &mut Words,
 ) -> DeriveResult<()> {
-    let me = applied(alloc, declaration.name.as_str(), &declaration.generics, "")?;
-    let me = me.as_str();
-    let take = format!(in alloc; "        <{me} as EnumParts>::make(made_of)\n")?;
-    set_lent(words, owned(alloc, lifetime)?, (parts, take))?;
+    words.set("lifetime", owned(alloc, lifetime));
+    words.set("types", parts);
+    words.set("take", take_of_enum(alloc, declaration));
     fill(out, WRITING, words)?;
     fill(out, READING, words)?;
     if is_plain {
@@ -241,9 +235,8 @@ pub fn put_lent_enum(
 
 /// How a struct that names a lifetime is made of what its fields are read as.
 fn take_of(alloc: Global, name: &str, fields: &Fields) -> DeriveResult<String> {
-    let bound = bindings(alloc, fields)?;
     let made = made_of(alloc, name, fields)?;
-    let mut take = takes_of(alloc, bound.as_slice(), "made_of")?;
+    let mut take = takes_of(alloc, fields, "made_of")?;
     put(&mut take, &["        ", made.as_str(), "\n"])?;
     Ok(take)
 }
@@ -254,19 +247,32 @@ fn words_of_lent(
     (declaration, lifetime): (&Declaration, &str),
     fields: &Fields,
 ) -> DeriveResult<Words> {
-    let schemas = schemas_of(alloc, fields)?;
-    let all = tuple_of(alloc, schemas.as_slice())?;
-    let mut words = name_words(alloc, declaration, ("Fields", all.as_str()), false)?;
-    let types = tuple_of(alloc, types_of(alloc, fields)?.as_slice())?;
-    let take = take_of(alloc, declaration.name.as_str(), fields)?;
-    set_lent(&mut words, owned(alloc, lifetime)?, (types, take))?;
-    words.set("schemas", Ok(all));
+    let schemas = tuple_of_schemas(alloc, fields, 0)?;
+    let name = declaration.name.as_str();
+    let mut words = name_words(alloc, declaration, ("Fields", schemas.as_str()), false);
+    words.set("lifetime", owned(alloc, lifetime));
+    words.set("types", tuple_of_types(alloc, fields));
+    words.set("take", take_of(alloc, name, fields));
+    words.set("schemas", Ok(schemas));
     words.set("values", values_of(alloc, fields, 0));
-    let groups = groups_of(alloc, declaration, fields.fields.len())?;
-    if let Some(group) = groups.first() {
-        set_calls(alloc, &mut words, (fields, group))?;
-    }
+    set_first_calls(alloc, &mut words, (declaration, fields))?;
     Ok(words)
+}
+
+/// Appends how what borrows is read back, and that it is a key, where it owns no memory and is one.
+fn put_markers(
+    alloc: Global,
+    out: &mut String,
+    words: &mut Words,
+    (declaration, fields): (&Declaration, &Fields),
+) -> DeriveResult<()> {
+    if own_no_memory(alloc, fields)? {
+        fill(out, ROUND_TRIP, words)?;
+    }
+    if is_lent_key(alloc, declaration, fields)? {
+        put_lent_key(alloc, out, words, fields)?;
+    }
+    Ok(())
 }
 
 /// Appends the schema of a struct that names a lifetime.
@@ -284,11 +290,5 @@ pub fn put_lent(
     fill(out, WRITING, &mut words)?;
     put_rests(alloc, out, (declaration, fields), (WRITING, false))?;
     fill(out, READING, &mut words)?;
-    if own_no_memory(alloc, fields)? {
-        fill(out, ROUND_TRIP, &mut words)?;
-    }
-    if is_lent_key(alloc, declaration, fields)? {
-        put_lent_key(alloc, out, &mut words, fields)?;
-    }
-    Ok(())
+    put_markers(alloc, out, &mut words, (declaration, fields))
 }

@@ -5,7 +5,7 @@ use crate::error::{DeriveError, DeriveResult, refused};
 use crate::lent::{is_lent_key, put_lent};
 use crate::names::{Names, names_of};
 use crate::parsing::declarations_of;
-use crate::printing::{Words, broken, fill, joined, owned, put, put_use};
+use crate::printing::{Words, add, broken, fill, joined, owned, put, put_text, put_use};
 use crate::structs::{is_lawful_key, put_key, put_struct};
 use crate::tokens::tokens_of;
 use std::alloc::Global;
@@ -26,8 +26,6 @@ struct Needs {
     sides: bool,
     /// Which numbers of members tuples have, a bit for each.
     members: u16,
-    /// Which numbers of fields structs have that are put together beforehand.
-    fronts: u16,
 }
 
 /// The laws of the order of a struct, and of its `==`.
@@ -116,16 +114,6 @@ fn with_cases(needs: Needs, declaration: &Declaration, cases: &Cases) -> Needs {
     all
 }
 
-/// The needs with those of how a struct is put together.
-fn with_encoding(needs: Needs, of: (&Declaration, &Fields)) -> Needs {
-    let (declaration, fields) = of;
-    let mut all = needs;
-    if declaration.generics.lifetime.is_none() {
-        all.fronts |= bits_of(fields.fields.len());
-    }
-    all
-}
-
 /// What all declarations need.
 fn needs_of(alloc: Global, declarations: &[Declaration]) -> DeriveResult<Needs> {
     let mut needs = Needs {
@@ -136,7 +124,6 @@ fn needs_of(alloc: Global, declarations: &[Declaration]) -> DeriveResult<Needs> 
         key_bounds: false,
         sides: false,
         members: 0,
-        fronts: 0,
     };
     for declaration in declarations {
         match &declaration.shape {
@@ -149,20 +136,11 @@ fn needs_of(alloc: Global, declarations: &[Declaration]) -> DeriveResult<Needs> 
                 let is_lent_key = is_lent_key(alloc, declaration, fields)?;
                 needs.keys = needs.keys || is_lent_key || is_key(declaration, fields);
                 needs.key_bounds = needs.key_bounds || (is_key(declaration, fields) && !is_lawful);
-                needs = with_encoding(needs, (declaration, fields));
             }
             DeclaredShape::Enum(cases) => needs = with_cases(needs, declaration, cases),
         }
     }
     Ok(needs)
-}
-
-/// Adds the name where it is needed.
-fn add(alloc: Global, names: &mut Vec<String>, name: &str, is_needed: bool) -> DeriveResult<()> {
-    if is_needed {
-        names.push(String::from_str(alloc, name)?)?;
-    }
-    Ok(())
 }
 
 /// Those names of these that are needed.
@@ -174,6 +152,14 @@ fn needed_of(alloc: Global, named: &[(&str, bool)]) -> DeriveResult<Vec<String>>
     Ok(names)
 }
 
+/// Appends a path, with a point in front of each word.
+fn put_path(out: &mut String, path: &str) -> DeriveResult<()> {
+    for word in path.split("::") {
+        put(out, &[".", word])?;
+    }
+    Ok(())
+}
+
 /// Where the checker has what a type is, that stands in this module or, by its path, elsewhere.
 pub fn declared_at(alloc: Global, (krate, path): (&str, &str), src: &str) -> DeriveResult<String> {
     let mut out = String::from_str(alloc, "Rattle.")?;
@@ -182,10 +168,19 @@ pub fn declared_at(alloc: Global, (krate, path): (&str, &str), src: &str) -> Der
         Some((first, rest)) => {
             let first = if first == "crate" { krate } else { first };
             put(&mut out, &[first, ".specs.declared"])?;
-            for word in rest.split("::") {
-                put(&mut out, &[".", word])?;
-            }
+            put_path(&mut out, rest)?;
         }
+    }
+    Ok(out)
+}
+
+/// The cases of an enum, each with the name that has that of the schema in front.
+fn case_names(alloc: Global, name: &str, variants: &[Variant]) -> DeriveResult<String> {
+    let mut out = String::new(alloc);
+    for (i, variant) in variants.iter().enumerate() {
+        let case = variant.name.as_str();
+        out.push_str(if i > 0 { ", " } else { "" })?;
+        put(&mut out, &[case, " as ", name, "-", case])?;
     }
     Ok(out)
 }
@@ -198,25 +193,28 @@ fn put_cases(
     (name, src): (&str, &str),
     variants: &[Variant],
 ) -> DeriveResult<()> {
-    let mut cases = String::new(alloc);
-    for (i, variant) in variants.iter().enumerate() {
-        if i > 0 {
-            cases.push_str(", ")?;
+    out.push_str("ghost use ")?;
+    put_text(out, declared_at(alloc, place, src))?;
+    out.push_str(".TheVariants.{")?;
+    put_text(out, case_names(alloc, name, variants))?;
+    out.push_str("};\n")?;
+    Ok(())
+}
+
+/// Appends these lines for each enum that is declared.
+fn put_all_cases(
+    alloc: Global,
+    out: &mut String,
+    place: (&str, &str),
+    (written, declarations): (&[Declaration], &[Declaration]),
+) -> DeriveResult<()> {
+    for (it, declaration) in written.iter().zip(declarations.iter()) {
+        if let DeclaredShape::Enum(cases) = &declaration.shape {
+            let called = (declaration.name.as_str(), it.src());
+            put_cases(alloc, out, place, called, cases.variants.as_slice())?;
         }
-        put(
-            &mut cases,
-            &[
-                variant.name.as_str(),
-                " as ",
-                name,
-                "-",
-                variant.name.as_str(),
-            ],
-        )?;
     }
-    let module = declared_at(alloc, place, src)?;
-    put(out, &["ghost use ", module.as_str()])?;
-    put(out, &[".TheVariants.{", cases.as_str(), "};\n"])
+    Ok(())
 }
 
 /// Whether its order and its `==` are those of a key.
@@ -227,24 +225,48 @@ fn is_ordered_key(declaration: &Declaration) -> bool {
     }
 }
 
-/// Appends the lines that bring in the laws of the order of a type that is a key, and of its `==`.
-fn put_orders(
+/// Appends the lines that bring in the laws of the order of a type, and of its `==`.
+fn put_order(
     alloc: Global,
     out: &mut String,
     (krate, path): (&str, &str),
+    (written, declaration): (&Declaration, &Declaration),
+) -> DeriveResult<()> {
+    let mut words = Words::new(alloc);
+    words.set("crate", owned(alloc, krate));
+    words.set("path", owned(alloc, path));
+    words.set("type", owned(alloc, written.name.as_str()));
+    words.set("called", owned(alloc, declaration.name.as_str()));
+    fill(out, ORDERS, &mut words)
+}
+
+/// Appends these lines for each type that is a key.
+fn put_orders(
+    alloc: Global,
+    out: &mut String,
+    place: (&str, &str),
     (written, declarations): (&[Declaration], &[Declaration]),
 ) -> DeriveResult<()> {
     for (it, declaration) in written.iter().zip(declarations.iter()) {
         if is_ordered_key(declaration) {
-            let mut words = Words::new(alloc);
-            words.set("crate", owned(alloc, krate));
-            words.set("path", owned(alloc, path));
-            words.set("type", owned(alloc, it.name.as_str()));
-            words.set("called", owned(alloc, declaration.name.as_str()));
-            fill(out, ORDERS, &mut words)?;
+            put_order(alloc, out, place, (it, declaration))?;
         }
     }
     Ok(())
+}
+
+/// Those of these names that stand in the module's body, each with this before it.
+fn found_in(
+    alloc: Global,
+    names: &[&str],
+    (before, body): (&str, &str),
+) -> DeriveResult<Vec<String>> {
+    let mut found = Vec::new(alloc);
+    for name in names {
+        let word = format!(in alloc; "{before}{name} ")?;
+        add(alloc, &mut found, *name, body.contains(word.as_str()))?;
+    }
+    Ok(found)
 }
 
 /// Appends the import of those of these names that stand in the module's body, each with this before it.
@@ -252,21 +274,27 @@ fn put_ghosts(
     alloc: Global,
     out: &mut String,
     (module, names): (&str, &[&str]),
-    (before, body): (&str, &str),
+    around: (&str, &str),
 ) -> DeriveResult<()> {
-    let mut found = Vec::new(alloc);
-    for name in names {
-        let word = format!(in alloc; "{before}{name} ")?;
-        add(alloc, &mut found, *name, body.contains(word.as_str()))?;
+    let found = found_in(alloc, names, around)?;
+    put_ghost_use(alloc, out, module, found.as_slice())
+}
+
+/// Appends the import of these names for terms, if there are some.
+fn put_ghost_use(
+    alloc: Global,
+    out: &mut String,
+    module: &str,
+    names: &[String],
+) -> DeriveResult<()> {
+    if names.is_empty() {
+        return Ok(());
     }
-    if !found.is_empty() {
-        let list = joined(alloc, found.as_slice(), ", ")?;
-        put(
-            out,
-            &["ghost use Rattle.", module, ".{", list.as_str(), "};\n"],
-        )?;
-    }
-    Ok(())
+    let list = joined(alloc, names, ", ")?;
+    put(
+        out,
+        &["ghost use Rattle.", module, ".{", list.as_str(), "};\n"],
+    )
 }
 
 /// Appends the import of what results and keys are made of.
@@ -278,12 +306,19 @@ fn put_prelude(alloc: Global, out: &mut String, needs: Needs, body: &str) -> Der
         ("refl", body.contains("λ e. refl")),
     ];
     let names = needed_of(alloc, &named)?;
-    if !names.is_empty() {
-        let list = joined(alloc, names.as_slice(), ", ")?;
-        let module = "ghost use Rattle.std.specs.Prelude.{";
-        put(out, &[module, list.as_str(), "};\n"])?;
-    }
-    Ok(())
+    put_ghost_use(alloc, out, "std.specs.Prelude", names.as_slice())
+}
+
+/// Appends the import of the laws that the terms of the module name.
+fn put_law_uses(alloc: Global, out: &mut String, body: &str) -> DeriveResult<()> {
+    let pairs = ("wincode_base.specs.PairLaws", PAIRS.as_slice());
+    put_ghosts(alloc, out, pairs, ("", body))?;
+    let sides = ("wincode_derive_support.specs.Keys", SIDES.as_slice());
+    put_ghosts(alloc, out, sides, ("", body))?;
+    let laws = ("wincode_derive_support.specs.PartLaws", LAWS.as_slice());
+    put_ghosts(alloc, out, laws, ("(", body))?;
+    let cases = ("wincode_derive_support.specs.SumLaws", CASES.as_slice());
+    put_ghosts(alloc, out, cases, ("(", body))
 }
 
 /// Appends what the terms of the module name.
@@ -292,28 +327,33 @@ fn put_ghost_uses(
     out: &mut String,
     (place, body): ((&str, &str), &str),
     needs: Needs,
-    (written, declarations): (&[Declaration], &[Declaration]),
+    both: (&[Declaration], &[Declaration]),
 ) -> DeriveResult<()> {
     put_prelude(alloc, out, needs, body)?;
-    if needs.lent {
-        out.push_str("ghost use Rattle.wincode_base.specs.Outcomes.{ReadOutcome};\n")?;
-    }
-    let pairs = ("wincode_base.specs.PairLaws", PAIRS.as_slice());
-    put_ghosts(alloc, out, pairs, ("", body))?;
-    let sides = ("wincode_derive_support.specs.Keys", SIDES.as_slice());
-    put_ghosts(alloc, out, sides, ("", body))?;
-    let laws = ("wincode_derive_support.specs.PartLaws", LAWS.as_slice());
-    put_ghosts(alloc, out, laws, ("(", body))?;
-    let cases = ("wincode_derive_support.specs.SumLaws", CASES.as_slice());
-    put_ghosts(alloc, out, cases, ("(", body))?;
-    put_orders(alloc, out, place, (written, declarations))?;
-    for (it, declaration) in written.iter().zip(declarations.iter()) {
-        if let DeclaredShape::Enum(cases) = &declaration.shape {
-            let called = (declaration.name.as_str(), it.src());
-            put_cases(alloc, out, place, called, cases.variants.as_slice())?;
-        }
+    let outcomes = "ghost use Rattle.wincode_base.specs.Outcomes.{ReadOutcome};\n";
+    put_if(out, outcomes, needs.lent)?;
+    put_law_uses(alloc, out, body)?;
+    put_orders(alloc, out, place, both)?;
+    put_all_cases(alloc, out, place, both)
+}
+
+/// Appends the line where it is needed.
+fn put_if(out: &mut String, line: &str, is_needed: bool) -> DeriveResult<()> {
+    if is_needed {
+        out.push_str(line)?;
     }
     Ok(())
+}
+
+/// Appends the import of those of these names that are needed.
+fn put_needed(
+    alloc: Global,
+    out: &mut String,
+    path: &str,
+    named: &[(&str, bool)],
+) -> DeriveResult<()> {
+    let names = needed_of(alloc, named)?;
+    put_use(alloc, out, path, names.as_slice())
 }
 
 /// Adds the functions of so many members.
@@ -334,7 +374,7 @@ fn add_members(
 /// Appends the import of the functions of members.
 fn put_members(alloc: Global, out: &mut String, needs: Needs) -> DeriveResult<()> {
     let mut names = Vec::new(alloc);
-    add_members(alloc, &mut names, "encode_front", needs.fronts)?;
+    add_members(alloc, &mut names, "encode_front", needs.members)?;
     add_members(alloc, &mut names, "size_of", needs.members)?;
     add_members(alloc, &mut names, "write", needs.members)?;
     put_use(alloc, out, "wincode::schema::tuples", names.as_slice())
@@ -348,8 +388,7 @@ fn put_io(alloc: Global, out: &mut String, needs: Needs) -> DeriveResult<()> {
         ("Reader", true),
         ("Writer", true),
     ];
-    let names = needed_of(alloc, &named)?;
-    put_use(alloc, out, "wincode::io", names.as_slice())
+    put_needed(alloc, out, "wincode::io", &named)
 }
 
 /// Appends what the code of the module names.
@@ -362,15 +401,19 @@ fn put_uses(
     out.push('\n')?;
     names.put_uses(alloc, out)?;
     out.push_str("use std::alloc::Global;\n")?;
-    if body.contains("PhantomData") {
-        out.push_str("use std::marker::PhantomData;\n")?;
-    }
+    let marker = "use std::marker::PhantomData;\n";
+    put_if(out, marker, body.contains("PhantomData"))?;
     names.put_shadowed(out)?;
     put_io(alloc, out, needs)?;
-    if body.contains(" as SeqLen>") {
-        out.push_str("use wincode::len::SeqLen;\n")?;
-    }
+    let lengths = "use wincode::len::SeqLen;\n";
+    put_if(out, lengths, body.contains(" as SeqLen>"))?;
     put_members(alloc, out, needs)?;
+    put_schema_uses(alloc, out, needs, body)?;
+    put_derived_uses(alloc, out, needs, body)
+}
+
+/// Appends what the code of the module names of `wincode` itself.
+fn put_schema_uses(alloc: Global, out: &mut String, needs: Needs, body: &str) -> DeriveResult<()> {
     let named = [
         ("Key", needs.keys),
         ("OneText", true),
@@ -383,44 +426,48 @@ fn put_uses(
         ("TypeMeta", true),
         ("WriteResult", true),
     ];
-    let names = needed_of(alloc, &named)?;
-    put_use(alloc, out, "wincode", names.as_slice())?;
-    put_derived_uses(alloc, out, needs, body)
+    put_needed(alloc, out, "wincode", &named)
 }
 
 /// Appends what the module names of `wincode_derive_support`.
 fn put_derived_uses(alloc: Global, out: &mut String, needs: Needs, body: &str) -> DeriveResult<()> {
-    let reads = needs.owned;
+    put_enums_uses(alloc, out, needs, body)?;
+    let keys = "use wincode_derive_support::keys::LawfulKey;\n";
+    put_if(out, keys, body.contains("LawfulKey<L>"))?;
+    put_laws_uses(alloc, out, needs, body)?;
+    let lent = "use wincode_derive_support::lent::Lends;\n";
+    put_if(out, lent, needs.lent)?;
+    put_parts_uses(alloc, out, body)?;
+    put_sums_uses(alloc, out, needs, body)
+}
+
+/// Appends what enums name.
+fn put_enums_uses(alloc: Global, out: &mut String, needs: Needs, body: &str) -> DeriveResult<()> {
     let named = [
         ("EnumParts", body.contains("EnumParts for")),
         ("EnumShape", needs.enums),
+        ("encode_enum", needs.enums),
         ("read_enum", body.contains("read_enum::<")),
         ("size_of_enum", needs.enums),
         ("write_enum", needs.enums),
     ];
-    let names = needed_of(alloc, &named)?;
-    put_use(
-        alloc,
-        out,
-        "wincode_derive_support::enums",
-        names.as_slice(),
-    )?;
-    if body.contains("LawfulKey<L>") {
-        out.push_str("use wincode_derive_support::keys::LawfulKey;\n")?;
-    }
+    put_needed(alloc, out, "wincode_derive_support::enums", &named)
+}
+
+/// Appends what the bounds on fields and cases name.
+fn put_laws_uses(alloc: Global, out: &mut String, needs: Needs, body: &str) -> DeriveResult<()> {
     let named = [
         ("FieldsKey", needs.key_bounds),
-        ("FieldsOneText", reads),
-        ("FieldsReadOwned", reads),
-        ("Lawful", reads),
+        ("FieldsOneText", needs.owned),
+        ("FieldsReadOwned", needs.owned),
+        ("Lawful", needs.owned),
         ("LawfulCases", body.contains("LawfulCases<L> for")),
     ];
-    let names = needed_of(alloc, &named)?;
-    put_use(alloc, out, "wincode_derive_support::laws", names.as_slice())?;
-    if needs.lent {
-        out.push_str("use wincode_derive_support::lent::Lends;\n")?;
-    }
-    put_parts_uses(alloc, out, body)?;
+    put_needed(alloc, out, "wincode_derive_support::laws", &named)
+}
+
+/// Appends what the schemas of cases name.
+fn put_sums_uses(alloc: Global, out: &mut String, needs: Needs, body: &str) -> DeriveResult<()> {
     let is_split = body.contains("LawfulCases<L> for");
     let named = [
         ("Case", needs.sides),
@@ -433,8 +480,7 @@ fn put_derived_uses(alloc: Global, out: &mut String, needs: Needs, body: &str) -
         ("Last", needs.enums),
         ("OneOf", needs.enums),
     ];
-    let names = needed_of(alloc, &named)?;
-    put_use(alloc, out, "wincode_derive_support::sums", names.as_slice())
+    put_needed(alloc, out, "wincode_derive_support::sums", &named)
 }
 
 /// Appends what the parts of enums of many cases name.
@@ -445,13 +491,21 @@ fn put_parts_uses(alloc: Global, out: &mut String, body: &str) -> DeriveResult<(
         ("PartReadOwned", is_split),
         ("Split", is_split),
     ];
-    let names = needed_of(alloc, &named)?;
-    put_use(
-        alloc,
-        out,
-        "wincode_derive_support::splits",
-        names.as_slice(),
-    )
+    put_needed(alloc, out, "wincode_derive_support::splits", &named)
+}
+
+/// Appends the schema of a struct that names no lifetime, and that it is a key, if it is one.
+fn put_owned_struct(
+    alloc: Global,
+    out: &mut String,
+    (all, declaration): (&[Declaration], &Declaration),
+    fields: &Fields,
+) -> DeriveResult<()> {
+    put_struct(alloc, out, (all, declaration), fields)?;
+    if is_key(declaration, fields) {
+        put_key(alloc, out, declaration, fields)?;
+    }
+    Ok(())
 }
 
 /// Appends the schema of one declaration.
@@ -461,17 +515,12 @@ fn put_schema(
     all: &[Declaration],
     declaration: &Declaration,
 ) -> DeriveResult<()> {
-    let name = declaration.name.as_str();
     match (&declaration.shape, &declaration.generics.lifetime) {
         (DeclaredShape::Struct(fields), Some(lifetime)) => {
             put_lent(alloc, out, (declaration, lifetime.as_str()), fields)
         }
         (DeclaredShape::Struct(fields), None) => {
-            put_struct(alloc, out, (all, declaration), fields)?;
-            if is_key(declaration, fields) {
-                put_key(alloc, out, declaration, fields)?;
-            }
-            Ok(())
+            put_owned_struct(alloc, out, (all, declaration), fields)
         }
         (DeclaredShape::Enum(cases), _) => put_enum(alloc, out, (all, declaration), cases),
     }
@@ -489,6 +538,78 @@ fn named(alloc: Global, declaration: &Declaration, answer: DeriveResult<()>) -> 
     }
 }
 
+/// The declarations of a source file, as it has them: these, or all.
+pub fn written_of(alloc: Global, source: &str, names: &[String]) -> DeriveResult<Vec<Declaration>> {
+    let tokens = tokens_of(alloc, source)?;
+    declarations_of(alloc, tokens.as_slice(), names)
+}
+
+/// The same declarations as the module has them, and what it calls their names.
+pub fn seen_of(
+    alloc: Global,
+    source: &str,
+    names: &[String],
+) -> DeriveResult<(Vec<Declaration>, Names)> {
+    let tokens = tokens_of(alloc, source)?;
+    let mut declarations = declarations_of(alloc, tokens.as_slice(), names)?;
+    let called = names_of(alloc, tokens.as_slice(), &mut declarations)?;
+    Ok((declarations, called))
+}
+
+/// Refuses a name of which nothing is declared, and a file that declares nothing.
+fn check_declared(alloc: Global, written: &[Declaration], names: &[String]) -> DeriveResult<()> {
+    for name in names {
+        if written
+            .iter()
+            .all(|declaration| declaration.name.as_str() != name.as_str())
+        {
+            return Err(DeriveError::Undeclared(owned(alloc, name.as_str())?));
+        }
+    }
+    if written.is_empty() {
+        return Err(DeriveError::Empty);
+    }
+    Ok(())
+}
+
+/// The schemas of all declarations.
+fn body_of(alloc: Global, declarations: &[Declaration]) -> DeriveResult<String> {
+    let mut body = String::new(alloc);
+    for declaration in declarations {
+        let answer = put_schema(alloc, &mut body, declarations, declaration);
+        named(alloc, declaration, answer)?;
+    }
+    Ok(body)
+}
+
+/// The first line of the module, which says the names that were asked for.
+fn head_line(alloc: Global, names: &[String]) -> DeriveResult<String> {
+    let mut out = owned(alloc, "//! Written by `wincode_derive`")?;
+    for name in names {
+        put(&mut out, &[" ", name.as_str()])?;
+    }
+    out.push_str(": the schemas of what the module above declares.\n")?;
+    Ok(out)
+}
+
+/// The module's text, with lines of any width.
+fn unbroken(
+    alloc: Global,
+    (place, names): ((&str, &str), &[String]),
+    (written, declarations): (&[Declaration], &[Declaration]),
+    called: &Names,
+) -> DeriveResult<String> {
+    let needs = needs_of(alloc, declarations)?;
+    let body = body_of(alloc, declarations)?;
+    let body = body.as_str();
+    let mut out = head_line(alloc, names)?;
+    let both = (written, declarations);
+    put_ghost_uses(alloc, &mut out, (place, body), needs, both)?;
+    put_uses(alloc, &mut out, (needs, called), body)?;
+    out.push_str(body)?;
+    Ok(out)
+}
+
 /// The module with the schemas of what a source file declares, of these types or of all. `krate` is the crate's name,
 /// and `path` the path of the file's module in it, each word with a point behind it.
 pub fn module_of(
@@ -497,42 +618,10 @@ pub fn module_of(
     (krate, path): (&str, &str),
     names: &[String],
 ) -> DeriveResult<String> {
-    let tokens = tokens_of(alloc, source)?;
-    let written = declarations_of(alloc, tokens.as_slice(), names)?;
-    for name in names {
-        if written
-            .iter()
-            .all(|declaration| declaration.name.as_str() != name.as_str())
-        {
-            return Err(DeriveError::Undeclared(String::from_str(alloc, name.as_str())?));
-        }
-    }
-    if written.is_empty() {
-        return Err(DeriveError::Empty);
-    }
-    let mut declarations = declarations_of(alloc, tokens.as_slice(), names)?;
-    let called = names_of(alloc, tokens.as_slice(), &mut declarations)?;
-    let needs = needs_of(alloc, declarations.as_slice())?;
-    let mut body = String::new(alloc);
-    for declaration in declarations.as_slice() {
-        let answer = put_schema(alloc, &mut body, declarations.as_slice(), declaration);
-        named(alloc, declaration, answer)?;
-    }
-    let body = body.as_str();
-    let mut out = String::from_str(alloc, "//! Written by `wincode_derive`")?;
-    for name in names {
-        put(&mut out, &[" ", name.as_str()])?;
-    }
-    out.push_str(": the schemas of what the module above declares.\n")?;
-    let place = (krate, path);
-    put_ghost_uses(
-        alloc,
-        &mut out,
-        (place, body),
-        needs,
-        (written.as_slice(), declarations.as_slice()),
-    )?;
-    put_uses(alloc, &mut out, (needs, &called), body)?;
-    out.push_str(body)?;
-    broken(alloc, out.as_str())
+    let written = written_of(alloc, source, names)?;
+    check_declared(alloc, written.as_slice(), names)?;
+    let (declarations, called) = seen_of(alloc, source, names)?;
+    let both = (written.as_slice(), declarations.as_slice());
+    let text = unbroken(alloc, ((krate, path), names), both, &called)?;
+    broken(alloc, text.as_str())
 }

@@ -1,6 +1,6 @@
 //! Names that the written module has for itself, where a source file has them too: the module calls the file's own
 //! otherwise, with a word behind that no word of the file has in it.
-use crate::declarations::{Declaration, DeclaredShape, Fields, Variant};
+use crate::declarations::{Declaration, DeclaredShape, Fields, Generics, Variant};
 use crate::error::DeriveResult;
 use crate::groups::type_text;
 use crate::imports::{Origin, imports_of};
@@ -52,6 +52,9 @@ const OURS: [&str; 40] = [
     "WriteResult",
     "Writer",
 ];
+
+/// Those of std's names that the module takes from std where the file has them too.
+const STD: [&str; 2] = ["Option", "Result"];
 
 /// The names that the module has for itself, and what it calls the file's own.
 #[derive(Drop)]
@@ -138,6 +141,12 @@ impl Names {
         Ok(())
     }
 
+    /// One of the file's own names with what stands behind it in the module.
+    fn own(&self, alloc: Global, name: &str) -> DeriveResult<String> {
+        let behind = self.behind.as_str();
+        Ok(format!(in alloc; "{name}{behind}")?)
+    }
+
     /// What the module calls a name that begins a path, where it calls it otherwise.
     fn called(
         &mut self,
@@ -145,13 +154,10 @@ impl Names {
         name: &str,
         parameters: &[String],
     ) -> DeriveResult<Option<String>> {
-        if matches!(name, "self" | "super") {
-            let path = if name == "self" {
-                "super"
-            } else {
-                "super::super"
-            };
-            return Ok(Some(owned(alloc, path)?));
+        match name {
+            "self" => return Ok(Some(owned(alloc, "super")?)),
+            "super" => return Ok(Some(owned(alloc, "super::super")?)),
+            _ => {}
         }
         if !self.is_ours(name) {
             return Ok(None);
@@ -159,8 +165,7 @@ impl Names {
         if parameters.iter().all(|known| known.as_str() != name) {
             self.bring(alloc, name)?;
         }
-        let behind = self.behind.as_str();
-        Ok(Some(format!(in alloc; "{name}{behind}")?))
+        Ok(Some(self.own(alloc, name)?))
     }
 
     /// A type as the module has it: its own names called otherwise, and paths from the file's module from there.
@@ -220,24 +225,35 @@ impl Names {
         Ok(())
     }
 
+    /// What is declared, and over what, as the module has it.
+    fn see_shape(
+        &mut self,
+        alloc: Global,
+        shape: &mut DeclaredShape,
+        generics: &Generics,
+    ) -> DeriveResult<()> {
+        let parameters = generics.parameters.as_slice();
+        match shape {
+            DeclaredShape::Struct(fields) => self.see_fields(alloc, fields, parameters),
+            DeclaredShape::Enum(cases) => {
+                self.see_cases(alloc, &mut cases.variants, parameters)?;
+                if generics.lifetime.is_some() {
+                    gather_borrowed(&mut cases.variants);
+                } else if parameters.is_empty() {
+                    order_by_tags(&mut cases.variants);
+                }
+                Ok(())
+            }
+        }
+    }
+
     /// A declaration as the module has it.
     fn see(&mut self, alloc: Global, declaration: &mut Declaration) -> DeriveResult<()> {
         declaration.name = self.seen(alloc, declaration.name.as_str(), &[])?;
         if let Some(from) = &declaration.from {
             declaration.from = Some(self.seen(alloc, from.as_str(), &[])?);
         }
-        let parameters = declaration.generics.parameters.as_slice();
-        match &mut declaration.shape {
-            DeclaredShape::Struct(fields) => self.see_fields(alloc, fields, parameters)?,
-            DeclaredShape::Enum(cases) => {
-                self.see_cases(alloc, &mut cases.variants, parameters)?;
-                if declaration.generics.lifetime.is_some() {
-                    gather_borrowed(&mut cases.variants);
-                } else if declaration.generics.parameters.is_empty() {
-                    order_by_tags(&mut cases.variants);
-                }
-            }
-        }
+        self.see_shape(alloc, &mut declaration.shape, &declaration.generics)?;
         self.see_parameters(alloc, &mut declaration.generics.parameters)
     }
 
@@ -265,30 +281,47 @@ impl Names {
     }
 }
 
+/// Those of std's names that a file has for its own.
+fn shadowed_in(alloc: Global, tokens: &[Token]) -> DeriveResult<Vec<&'static str>> {
+    let imports = imports_of(alloc, tokens)?;
+    let mut shadowed = Vec::new(alloc);
+    for name in &STD {
+        if imports.origin(*name) == Origin::Own {
+            shadowed.push(*name)?;
+        }
+    }
+    Ok(shadowed)
+}
+
+/// The names of what is declared.
+fn declared_in(alloc: Global, declarations: &[Declaration]) -> DeriveResult<Vec<String>> {
+    let mut declared = Vec::new(alloc);
+    for declaration in declarations {
+        declared.push(owned(alloc, declaration.name.as_str())?)?;
+    }
+    Ok(declared)
+}
+
+/// The names of the module that is written of these declarations of a file, before it is known what they bring in.
+fn own_names(alloc: Global, tokens: &[Token], declarations: &[Declaration]) -> DeriveResult<Names> {
+    let behind = behind_of(alloc, tokens)?;
+    let shadowed = shadowed_in(alloc, tokens)?;
+    let declared = declared_in(alloc, declarations)?;
+    Ok(Names {
+        behind,
+        declared,
+        shadowed,
+        imports: Vec::new(alloc),
+    })
+}
+
 /// The names of the module that is written of these declarations of a file, which are then as it has them.
 pub fn names_of(
     alloc: Global,
     tokens: &[Token],
     declarations: &mut Vec<Declaration>,
 ) -> DeriveResult<Names> {
-    let mut names = Names {
-        behind: behind_of(alloc, tokens)?,
-        declared: Vec::new(alloc),
-        shadowed: Vec::new(alloc),
-        imports: Vec::new(alloc),
-    };
-    let imports = imports_of(alloc, tokens)?;
-    if imports.origin("Option") == Origin::Own {
-        names.shadowed.push("Option")?;
-    }
-    if imports.origin("Result") == Origin::Own {
-        names.shadowed.push("Result")?;
-    }
-    for declaration in declarations.iter() {
-        names
-            .declared
-            .push(owned(alloc, declaration.name.as_str())?)?;
-    }
+    let mut names = own_names(alloc, tokens, declarations.as_slice())?;
     see_all(alloc, &mut names, declarations)?;
     names.imports.sort()?;
     Ok(names)

@@ -1,9 +1,9 @@
 //! Enums of many cases, which stand in parts: each has some cases whose tags follow each other, and laws of its own, so
 //! that no term has more than a few cases in it.
 use crate::declarations::{Declaration, Variant};
-use crate::enums::{case_sides_of, close, made_by_sides, sided, sides_of};
+use crate::enums::{case_sides_of, close, made_by_sides, put_side, side_of, sided, sides_of};
 use crate::error::DeriveResult;
-use crate::printing::{Words, fill, owned, put};
+use crate::printing::{Words, fill, owned, put, put_text, put_times};
 use std::alloc::Global;
 
 /// How many cases a part has at most.
@@ -193,32 +193,35 @@ impl Layout {
         &variants[from..to]
     }
 
+    /// A case in brackets, where its part has others.
+    fn bracketed(self, alloc: Global, place: usize, case: &str) -> DeriveResult<String> {
+        if self.inside(place).1 > 1 {
+            Ok(format!(in alloc; "({case})")?)
+        } else {
+            owned(alloc, case)
+        }
+    }
+
     /// What stands behind so many layers of results: which part it is, and which case there.
     pub fn sided(self, alloc: Global, place: usize, inside: &str) -> DeriveResult<String> {
         let case = sided(alloc, self.inside(place), inside)?;
         if self.is_whole() {
             return Ok(case);
         }
-        let case = case.as_str();
-        let case = if self.inside(place).1 > 1 {
-            format!(in alloc; "({case})")?
-        } else {
-            owned(alloc, case)?
-        };
+        let case = self.bracketed(alloc, place, case.as_str())?;
         sided(alloc, self.part(place), case.as_str())
     }
 
     /// The types of the parts, from the last to the first: each but the last as `Result<A, ..>`.
     pub fn types(self, alloc: Global, variants: &[Variant]) -> DeriveResult<String> {
         let mut out = String::new(alloc);
-        for part in 0..self.parts() {
-            let is_last = part.saturating_add(1) >= self.parts();
-            let sides = sides_of(alloc, self.slice(variants, part))?;
-            out.push_str(if is_last { "" } else { "Result<" })?;
-            out.push_str(sides.as_str())?;
-            out.push_str(if is_last { "" } else { ", " })?;
+        let count = self.parts();
+        for part in 0..count {
+            let is_last = part.saturating_add(1) >= count;
+            let sides = sides_of(alloc, self.slice(variants, part));
+            put_side(&mut out, sides, is_last)?;
         }
-        close(&mut out, self.parts())?;
+        close(&mut out, count)?;
         Ok(out)
     }
 
@@ -228,21 +231,30 @@ impl Layout {
         Ok(format!(in alloc; "{name}From{place}")?)
     }
 
+    /// A part by its name, behind the tag from which on others have the cases, if there are others behind it.
+    fn split_at(
+        self,
+        alloc: Global,
+        (name, part): (&str, usize),
+        variants: &[Variant],
+    ) -> DeriveResult<String> {
+        let behind = self.slice(variants, part.saturating_add(1));
+        let part = self.name(alloc, name, part)?;
+        match behind.first() {
+            Some(variant) => {
+                let (tag, part) = (variant.tag, part.as_str());
+                Ok(format!(in alloc; "Split<{tag}, {part}, ")?)
+            }
+            None => Ok(part),
+        }
+    }
+
     /// The parts with the tags from which on each other one has the cases.
     fn split(self, alloc: Global, name: &str, variants: &[Variant]) -> DeriveResult<String> {
         let mut out = String::new(alloc);
         for part in 0..self.parts() {
-            let behind = self.slice(variants, part.saturating_add(1));
-            let part = self.name(alloc, name, part)?;
-            let part = part.as_str();
-            let text = match behind.first() {
-                Some(variant) => {
-                    let tag = variant.tag;
-                    format!(in alloc; "Split<{tag}, {part}, ")?
-                }
-                None => owned(alloc, part)?,
-            };
-            out.push_str(text.as_str())?;
+            let text = self.split_at(alloc, (name, part), variants);
+            put_text(&mut out, text)?;
         }
         close(&mut out, self.parts())?;
         Ok(out)
@@ -257,6 +269,21 @@ impl Layout {
         }
     }
 
+    /// Appends the arm by which a value is made of this part.
+    fn put_made(
+        self,
+        alloc: Global,
+        out: &mut String,
+        (name, part): (&str, usize),
+    ) -> DeriveResult<()> {
+        let (before, _) = side_of(part, self.parts());
+        let part = self.name(alloc, name, part)?;
+        put(
+            out,
+            &[before, "parts) => ", part.as_str(), "::make(parts),\n"],
+        )
+    }
+
     /// The arms by which a value is made of its parts.
     pub fn make(
         self,
@@ -269,20 +296,9 @@ impl Layout {
         }
         let mut out = String::new(alloc);
         for part in 0..self.parts() {
-            let is_last = part.saturating_add(1) >= self.parts();
-            if part > 0 && !is_last {
-                out.push_str("Err(rest) => match rest {\n")?;
-            }
-            let part = self.name(alloc, name, part)?;
-            out.push_str(if is_last { "Err" } else { "Ok" })?;
-            put(
-                &mut out,
-                &["(parts) => ", part.as_str(), "::make(parts),\n"],
-            )?;
+            self.put_made(alloc, &mut out, (name, part))?;
         }
-        for _ in 2..self.parts() {
-            out.push_str("},\n")?;
-        }
+        put_times(&mut out, "},\n", self.parts().saturating_sub(2))?;
         Ok(out)
     }
 
@@ -292,7 +308,7 @@ impl Layout {
         alloc: Global,
         (declaration, variants): (&Declaration, &[Variant]),
         part: usize,
-    ) -> DeriveResult<Words> {
+    ) -> Words {
         let name = declaration.name.as_str();
         let place = part.saturating_mul(self.each).saturating_add(1);
         let slice = self.slice(variants, part);
@@ -305,7 +321,7 @@ impl Layout {
         words.set("cases", case_sides_of(alloc, slice));
         words.set("side", sided(alloc, (part, self.parts()), "made_of"));
         words.set("make", made_by_sides(alloc, declaration.src(), slice));
-        Ok(words)
+        words
     }
 
     /// Appends the parts of an enum, where it has some.
@@ -319,7 +335,7 @@ impl Layout {
             return Ok(());
         }
         for part in 0..self.parts() {
-            let mut words = self.words(alloc, of, part)?;
+            let mut words = self.words(alloc, of, part);
             fill(out, PART, &mut words)?;
         }
         Ok(())

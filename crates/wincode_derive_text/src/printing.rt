@@ -22,6 +22,13 @@ pub fn put(out: &mut String, texts: &[&str]) -> DeriveResult<()> {
     Ok(())
 }
 
+/// Appends the text, if it could be said.
+pub fn put_text(out: &mut String, text: DeriveResult<String>) -> DeriveResult<()> {
+    let text = text?;
+    out.push_str(text.as_str())?;
+    Ok(())
+}
+
 /// A word of a template, and what it stands for.
 #[derive(Drop)]
 pub struct Word {
@@ -82,9 +89,21 @@ pub fn fill(out: &mut String, template: &str, words: &mut Words) -> DeriveResult
     Ok(())
 }
 
+/// The template with what its words stand for, as a text of its own.
+pub fn text_of(alloc: Global, template: &str, words: &mut Words) -> DeriveResult<String> {
+    let mut out = String::new(alloc);
+    fill(&mut out, template, words)?;
+    Ok(out)
+}
+
 /// A text of one's own.
 pub fn owned(alloc: Global, text: &str) -> DeriveResult<String> {
     Ok(String::from_str(alloc, text)?)
+}
+
+/// A number in decimals.
+pub fn number(alloc: Global, n: usize) -> DeriveResult<String> {
+    Ok(format!(in alloc; "{n}")?)
 }
 
 /// The texts, with this between each two.
@@ -131,33 +150,65 @@ pub fn broken(alloc: Global, text: &str) -> DeriveResult<String> {
     Ok(out)
 }
 
-fn spaces(out: &mut String, n: usize) -> DeriveResult<()> {
-    for _ in 0..n {
-        out.push(' ')?;
+/// Appends the text so many times.
+pub fn put_times(out: &mut String, text: &str, times: usize) -> DeriveResult<()> {
+    for _ in 0..times {
+        out.push_str(text)?;
     }
     Ok(())
 }
 
-/// Appends the arguments on lines of their own, behind so many spaces.
-fn put_lines(
+/// Adds the text where it is wanted.
+pub fn add(
     alloc: Global,
-    out: &mut String,
-    indent: usize,
-    arguments: &[String],
+    texts: &mut Vec<String>,
+    text: &str,
+    is_wanted: bool,
 ) -> DeriveResult<()> {
-    let line = joined(alloc, arguments, ", ")?;
-    let is_short = arguments.iter().all(|argument| argument.len() <= SHORT)
-        && line.len().saturating_add(indent) < WIDTH;
-    let between = if is_short { " " } else { "\n" };
-    for (i, argument) in arguments.iter().enumerate() {
-        if i == 0 || !is_short {
-            spaces(out, indent)?;
-        }
-        put(out, &[argument.as_str(), ","])?;
-        let is_last = i.saturating_add(1) == arguments.len();
-        out.push_str(if is_last { "\n" } else { between })?;
+    if is_wanted {
+        texts.push(String::from_str(alloc, text)?)?;
     }
     Ok(())
+}
+
+/// Whether the arguments, which take so many columns, stand on one line of their own behind so many spaces.
+fn are_short(arguments: &[String], (width, indent): (usize, usize)) -> bool {
+    arguments.iter().all(|argument| argument.len() <= SHORT) && width.saturating_add(indent) < WIDTH
+}
+
+/// Appends the arguments on lines of their own, behind so many spaces. On one line they take so many columns.
+fn put_lines(
+    out: &mut String,
+    (width, indent): (usize, usize),
+    arguments: &[String],
+) -> DeriveResult<()> {
+    let is_short = are_short(arguments, (width, indent));
+    let (between, later) = if is_short { (" ", 0) } else { ("\n", indent) };
+    for (i, argument) in arguments.iter().enumerate() {
+        let is_last = i.saturating_add(1) == arguments.len();
+        put_times(out, " ", if i == 0 { indent } else { later })?;
+        put(
+            out,
+            &[argument.as_str(), ",", if is_last { "\n" } else { between }],
+        )?;
+    }
+    Ok(())
+}
+
+/// Appends the arguments of a call, which stand as this line if they stand on its line, and else below it.
+fn put_arguments(
+    out: &mut String,
+    indent: usize,
+    (line, is_below): (&str, bool),
+    arguments: &[String],
+) -> DeriveResult<()> {
+    if !is_below {
+        return put(out, &[line]);
+    }
+    out.push('\n')?;
+    let inside = indent.saturating_add(4);
+    put_lines(out, (line.len(), inside), arguments)?;
+    put_times(out, " ", indent)
 }
 
 /// Appends a call, which stands behind so many spaces and `before`: on one line where it is short enough, else its
@@ -170,50 +221,58 @@ pub fn put_call(
     arguments: &[String],
 ) -> DeriveResult<()> {
     let line = joined(alloc, arguments, ", ")?;
+    let line = line.as_str();
     let width = indent
         .saturating_add(before.len())
         .saturating_add(name.len())
         .saturating_add(line.len())
         .saturating_add(after.len())
         .saturating_add(2);
-    spaces(out, indent)?;
+    let is_below = width > WIDTH || line.len() > ARGUMENTS;
+    put_times(out, " ", indent)?;
     put(out, &[before, name, "("])?;
-    if width <= WIDTH && line.len() <= ARGUMENTS {
-        out.push_str(line.as_str())?;
-    } else {
-        out.push('\n')?;
-        put_lines(alloc, out, indent.saturating_add(4), arguments)?;
-        spaces(out, indent)?;
-    }
+    put_arguments(out, indent, (line, is_below), arguments)?;
     put(out, &[")", after, "\n"])
+}
+
+/// Appends the names, with a comma behind each, on lines that are as long as they may be.
+fn put_folded(out: &mut String, names: &[String]) -> DeriveResult<()> {
+    let mut width = 4usize;
+    for (i, name) in names.iter().enumerate() {
+        let next = width.saturating_add(name.len()).saturating_add(2);
+        let is_begun = i > 0 && next > WIDTH.saturating_add(1);
+        let between = if is_begun {
+            "\n    "
+        } else if i > 0 {
+            " "
+        } else {
+            ""
+        };
+        let before = if is_begun {
+            4
+        } else {
+            width.saturating_add(between.len())
+        };
+        put(out, &[between, name.as_str(), ","])?;
+        width = before.saturating_add(name.len()).saturating_add(1);
+    }
+    Ok(())
 }
 
 /// Appends an import of these names.
 pub fn put_use(alloc: Global, out: &mut String, path: &str, names: &[String]) -> DeriveResult<()> {
-    let line = joined(alloc, names, ", ")?;
     if names.is_empty() {
         return Ok(());
     }
+    let line = joined(alloc, names, ", ")?;
+    let line = line.as_str();
     if names.len() == 1 {
-        return put(out, &["use ", path, "::", line.as_str(), ";\n"]);
+        return put(out, &["use ", path, "::", line, ";\n"]);
     }
     if line.len().saturating_add(path.len()).saturating_add(9) <= WIDTH {
-        return put(out, &["use ", path, "::{", line.as_str(), "};\n"]);
+        return put(out, &["use ", path, "::{", line, "};\n"]);
     }
     put(out, &["use ", path, "::{\n    "])?;
-    let mut width = 4usize;
-    for (i, name) in names.iter().enumerate() {
-        let next = width.saturating_add(name.len()).saturating_add(2);
-        if i > 0 && next > WIDTH.saturating_add(1) {
-            out.push_str("\n    ")?;
-            width = 4;
-        } else if i > 0 {
-            out.push(' ')?;
-            width = width.saturating_add(1);
-        }
-        put(out, &[name.as_str(), ","])?;
-        width = width.saturating_add(name.len()).saturating_add(1);
-    }
-    out.push_str("\n};\n")?;
-    Ok(())
+    put_folded(out, names)?;
+    put(out, &["\n};\n"])
 }

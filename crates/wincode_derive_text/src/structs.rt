@@ -3,7 +3,7 @@ use crate::declarations::{Declaration, Field, Fields, Generics, Naming};
 use crate::error::DeriveResult;
 use crate::inside::looked_into;
 use crate::laws::{law_of, seen_by};
-use crate::printing::{Words, fill, joined, owned, put, put_call};
+use crate::printing::{Words, add, fill, joined, number, owned, put, put_call, put_times, text_of};
 use crate::tokens::tokens_of;
 use std::alloc::Global;
 
@@ -313,67 +313,72 @@ pub fn bindings(alloc: Global, fields: &Fields) -> DeriveResult<Vec<String>> {
     Ok(names)
 }
 
+/// Whether a tuple of so many ends in front of this place, and those from there on stand in brackets of their own.
+fn is_split(place: usize, count: usize) -> bool {
+    place > 0 && place % EACH == 0 && count.saturating_sub(place) > 1
+}
+
 /// One text, or several in brackets. Of more than 12 the last in the brackets stands for all from the 12th on, in
 /// brackets of their own.
 pub fn tuple_of(alloc: Global, texts: &[String]) -> DeriveResult<String> {
-    let mut out = String::new(alloc);
     if texts.len() == 1 {
         return joined(alloc, texts, ", ");
     }
-    out.push('(')?;
+    let mut out = owned(alloc, "(")?;
     let mut depth = 1usize;
     for (i, text) in texts.iter().enumerate() {
-        if i > 0 {
-            out.push_str(", ")?;
-        }
-        if i > 0 && i % EACH == 0 && texts.len().saturating_sub(i) > 1 {
-            out.push('(')?;
+        let is_split = is_split(i, texts.len());
+        let before = if is_split { "(" } else { "" };
+        if is_split {
             depth = depth.saturating_add(1);
         }
-        out.push_str(text.as_str())?;
+        put(
+            &mut out,
+            &[if i > 0 { ", " } else { "" }, before, text.as_str()],
+        )?;
     }
-    for _ in 0..depth {
-        out.push(')')?;
-    }
+    put_times(&mut out, ")", depth)?;
     Ok(out)
 }
 
-/// Appends what the parts are taken from: the first from what is called so, the others from what is left.
-fn put_source(out: &mut String, from: &str, is_first: bool) -> DeriveResult<()> {
-    if is_first {
-        out.push_str(from)?;
+/// Appends what stands between the names in front of this place and the one there, of so many: a comma, or the end of
+/// a line and the beginning of the next, which takes the others from what is left.
+fn put_between(out: &mut String, (place, count): (usize, usize), from: &str) -> DeriveResult<()> {
+    if is_split(place, count) {
+        let from = if place == EACH { from } else { "rest" };
+        put(out, &[", rest) = ", from, ";\n        let ("])
     } else {
-        out.push_str("rest")?;
+        put(out, &[if place > 0 { ", " } else { "" }])
     }
-    Ok(())
+}
+
+/// The names, each tuple's on a line of its own, which takes them from what is called so.
+fn taken_names(alloc: Global, names: &[String], from: &str) -> DeriveResult<String> {
+    let mut out = String::new(alloc);
+    for (i, name) in names.iter().enumerate() {
+        put_between(&mut out, (i, names.len()), from)?;
+        out.push_str(name.as_str())?;
+    }
+    Ok(out)
 }
 
 /// The lines that take the parts of fields from what is called so, one for each tuple: a part of a part is not
 /// moved at once.
-pub fn takes_of(alloc: Global, names: &[String], from: &str) -> DeriveResult<String> {
-    let is_alone = names.len() == 1;
-    let mut is_first = true;
-    let mut out = String::new(alloc);
-    out.push_str(if is_alone {
-        "        let "
+pub fn takes_of(alloc: Global, fields: &Fields, from: &str) -> DeriveResult<String> {
+    let names = bindings(alloc, fields)?;
+    let (begin, end) = if names.len() == 1 {
+        ("", "")
     } else {
-        "        let ("
-    })?;
-    for (i, name) in names.iter().enumerate() {
-        if i > 0 && i % EACH == 0 && names.len().saturating_sub(i) > 1 {
-            out.push_str(", rest) = ")?;
-            put_source(&mut out, from, is_first)?;
-            out.push_str(";\n        let (")?;
-            is_first = false;
-        } else if i > 0 {
-            out.push_str(", ")?;
-        }
-        out.push_str(name.as_str())?;
-    }
-    out.push_str(if is_alone { " = " } else { ") = " })?;
-    put_source(&mut out, from, is_first)?;
-    out.push_str(";\n")?;
-    Ok(out)
+        ("(", ")")
+    };
+    let last = if is_split(EACH, names.len()) {
+        "rest"
+    } else {
+        from
+    };
+    let list = taken_names(alloc, names.as_slice(), from)?;
+    let list = list.as_str();
+    Ok(format!(in alloc; "        let {begin}{list}{end} = {last};\n")?)
 }
 
 /// Some of a struct's fields, and the schema of those behind them, or none.
@@ -432,16 +437,21 @@ pub fn schemas_of(alloc: Global, fields: &Fields) -> DeriveResult<Vec<String>> {
     Ok(schemas)
 }
 
+/// A field behind such a beginning, or what stands for one that holds nothing.
+fn named_field(alloc: Global, before: &str, field: &Field) -> DeriveResult<String> {
+    if field.is_phantom {
+        return owned(alloc, if before.starts_with('&') { "&()" } else { "tt" });
+    }
+    let mut name = owned(alloc, before)?;
+    name.push_str(field.name.as_str())?;
+    Ok(name)
+}
+
 /// Each field behind such a beginning, as `x.` or `&src.`.
 pub fn named_fields(alloc: Global, before: &str, fields: &Fields) -> DeriveResult<Vec<String>> {
     let mut names = Vec::new(alloc);
     for field in fields.fields.as_slice() {
-        let mut name = String::from_str(alloc, before)?;
-        name.push_str(field.name.as_str())?;
-        if field.is_phantom {
-            name = owned(alloc, if before.starts_with('&') { "&()" } else { "tt" })?;
-        }
-        names.push(name)?;
+        names.push(named_field(alloc, before, field)?)?;
     }
     Ok(names)
 }
@@ -509,87 +519,106 @@ pub fn of_members(
     schemas: &[String],
     more: &str,
 ) -> DeriveResult<String> {
-    let mut out = String::new(alloc);
     if schemas.len() >= 2 {
-        let n = schemas.len();
-        let list = joined(alloc, schemas, ", ")?;
-        let count = format!(in alloc; "{n}")?;
-        put(
-            &mut out,
-            &[function, "_members_", count.as_str(), "::<", list.as_str()],
-        )?;
-        if !more.is_empty() {
-            put(&mut out, &[", ", more])?;
-        }
-        put(&mut out, &[">"])?;
-        return Ok(out);
+        of_many(alloc, function, schemas, more)
+    } else {
+        of_one(alloc, function, schemas, more)
     }
-    let schema = tuple_of(alloc, schemas)?;
-    put(
-        &mut out,
-        &["<", schema.as_str(), " as SchemaWrite>::", function],
-    )?;
-    if !more.is_empty() {
-        put(&mut out, &["::<", more, ">"])?;
-    }
-    Ok(out)
 }
 
-/// The arguments of such a function: these, and `&()` where there are no fields.
-pub fn members(alloc: Global, before: &[&str], names: &[String]) -> DeriveResult<Vec<String>> {
+/// A function of the tuple of these schemas, with these behind it.
+fn of_many(alloc: Global, function: &str, schemas: &[String], more: &str) -> DeriveResult<String> {
+    let n = schemas.len();
+    let list = joined(alloc, schemas, ", ")?;
+    let list = list.as_str();
+    let between = if more.is_empty() { "" } else { ", " };
+    Ok(format!(in alloc; "{function}_members_{n}::<{list}{between}{more}>")?)
+}
+
+/// A function of the one of these schemas, or of nothing, with these behind it.
+fn of_one(alloc: Global, function: &str, schemas: &[String], more: &str) -> DeriveResult<String> {
+    let schema = tuple_of(alloc, schemas)?;
+    let schema = schema.as_str();
+    let (before, after) = if more.is_empty() {
+        ("", "")
+    } else {
+        ("::<", ">")
+    };
+    Ok(format!(in alloc; "<{schema} as SchemaWrite>::{function}{before}{more}{after}")?)
+}
+
+/// The arguments of such a function: this before and that behind, if they are something, and between them the members, or
+/// `&()` where there are none.
+pub fn members(
+    alloc: Global,
+    names: &[String],
+    (before, after): (&str, &str),
+) -> DeriveResult<Vec<String>> {
     let mut arguments = Vec::new(alloc);
-    for text in before {
-        arguments.push(String::from_str(alloc, *text)?)?;
-    }
+    add(alloc, &mut arguments, before, !before.is_empty())?;
     for name in names {
-        arguments.push(String::from_str(alloc, name.as_str())?)?;
+        add(alloc, &mut arguments, name.as_str(), true)?;
     }
-    if names.is_empty() {
-        arguments.push(String::from_str(alloc, "&()")?)?;
-    }
+    add(alloc, &mut arguments, "&()", names.is_empty())?;
+    add(alloc, &mut arguments, after, !after.is_empty())?;
     Ok(arguments)
 }
 
 /// The first lines of `read`.
-pub fn read_head(alloc: Global, name: &str) -> DeriveResult<String> {
+pub fn read_head(alloc: Global, declaration: &Declaration) -> DeriveResult<String> {
+    let dst = applied(alloc, declaration.src(), &declaration.generics, "::Dst")?;
+    let template = if dst.len() > 4 { LONG_HEAD } else { SHORT_HEAD };
     let mut words = Words::new(alloc);
-    words.set("type", owned(alloc, name));
-    let mut out = String::new(alloc);
-    if name.len() > 4 {
-        fill(&mut out, LONG_HEAD, &mut words)?;
-    } else {
-        fill(&mut out, SHORT_HEAD, &mut words)?;
-    }
-    Ok(out)
+    words.set("type", Ok(dst));
+    text_of(alloc, template, &mut words)
 }
 
-/// The texts of the fields of a group.
-fn part_of(alloc: Global, texts: Vec<String>, group: &Group) -> DeriveResult<Vec<String>> {
+/// The texts of the fields of a group, and this for those behind them, if there are some.
+fn part_of(
+    alloc: Global,
+    texts: &[String],
+    group: &Group,
+    rest: &str,
+) -> DeriveResult<Vec<String>> {
     let mut part = Vec::new(alloc);
     for text in texts.iter().take(group.to).skip(group.from) {
-        part.push(owned(alloc, text.as_str())?)?;
+        add(alloc, &mut part, text.as_str(), true)?;
     }
+    add(alloc, &mut part, rest, !group.rest.is_empty())?;
     Ok(part)
+}
+
+/// A function of the schema of the fields of a group.
+fn function_of(
+    alloc: Global,
+    (function, more): (&str, &str),
+    (fields, group): (&Fields, &Group),
+) -> DeriveResult<String> {
+    let schemas = schemas_of(alloc, fields)?;
+    let part = part_of(alloc, schemas.as_slice(), group, group.rest.as_str())?;
+    of_members(alloc, function, part.as_slice(), more)
+}
+
+/// The arguments of such a function: the fields of a group of `src`.
+fn arguments_of(
+    alloc: Global,
+    around: (&str, &str),
+    (fields, group): (&Fields, &Group),
+) -> DeriveResult<Vec<String>> {
+    let names = named_fields(alloc, "&src.", fields)?;
+    let part = part_of(alloc, names.as_slice(), group, "src")?;
+    members(alloc, part.as_slice(), around)
 }
 
 /// A call of a function of the schema of these fields, on a line of its own.
 fn call_of(
     alloc: Global,
-    (function, more): (&str, &str),
-    (before, after): (&[&str], &[&str]),
-    (fields, group): (&Fields, &Group),
+    call: (&str, &str),
+    around: (&str, &str),
+    of: (&Fields, &Group),
 ) -> DeriveResult<String> {
-    let mut schemas = part_of(alloc, schemas_of(alloc, fields)?, group)?;
-    let mut names = part_of(alloc, named_fields(alloc, "&src.", fields)?, group)?;
-    if !group.rest.is_empty() {
-        schemas.push(owned(alloc, group.rest.as_str())?)?;
-        names.push(owned(alloc, "src")?)?;
-    }
-    let function = of_members(alloc, function, schemas.as_slice(), more)?;
-    let mut arguments = members(alloc, before, names.as_slice())?;
-    for text in after {
-        arguments.push(owned(alloc, *text)?)?;
-    }
+    let function = function_of(alloc, call, of)?;
+    let arguments = arguments_of(alloc, around, of)?;
     let mut out = String::new(alloc);
     let call = ("", function.as_str(), "");
     put_call(alloc, &mut out, 8, call, arguments.as_slice())?;
@@ -605,30 +634,61 @@ pub fn values_of(alloc: Global, fields: &Fields, from: usize) -> DeriveResult<St
     tuple_of(alloc, &values.as_slice()[from.min(values.len())..])
 }
 
+/// The tuple of the schemas of the fields from this place on.
+pub fn tuple_of_schemas(alloc: Global, fields: &Fields, from: usize) -> DeriveResult<String> {
+    let schemas = schemas_of(alloc, fields)?;
+    tuple_of(alloc, &schemas.as_slice()[from.min(schemas.len())..])
+}
+
+/// The tuple of the types of fields.
+pub fn tuple_of_types(alloc: Global, fields: &Fields) -> DeriveResult<String> {
+    let types = types_of(alloc, fields)?;
+    tuple_of(alloc, types.as_slice())
+}
+
+/// The tuple of what all fields are called where they stand by themselves.
+pub fn tuple_of_bindings(alloc: Global, fields: &Fields) -> DeriveResult<String> {
+    let names = bindings(alloc, fields)?;
+    tuple_of(alloc, names.as_slice())
+}
+
+/// The fields behind such a beginning, as pairs in pairs.
+pub fn pairs_of_fields(alloc: Global, before: &str, fields: &Fields) -> DeriveResult<String> {
+    let names = named_fields(alloc, before, fields)?;
+    pairs_of_all(alloc, names.as_slice())
+}
+
+/// The schemas of fields, as pairs in pairs.
+pub fn pairs_of_schemas(alloc: Global, fields: &Fields) -> DeriveResult<String> {
+    let schemas = schemas_of(alloc, fields)?;
+    pairs_of_all(alloc, schemas.as_slice())
+}
+
+/// The types of fields, as pairs in pairs.
+fn pairs_of_types(alloc: Global, fields: &Fields) -> DeriveResult<String> {
+    let types = types_of(alloc, fields)?;
+    pairs_of_all(alloc, types.as_slice())
+}
+
 /// What takes the fields that were read.
 fn bind_of(alloc: Global, fields: &Fields) -> DeriveResult<String> {
-    let mut bind = String::new(alloc);
-    if !fields.fields.is_empty() {
-        let names = bindings(alloc, fields)?;
-        let bound = tuple_of(alloc, names.as_slice())?;
-        put(&mut bind, &["let ", bound.as_str(), " = "])?;
+    if fields.fields.is_empty() {
+        return Ok(String::new(alloc));
     }
-    Ok(bind)
+    let bound = tuple_of_bindings(alloc, fields)?;
+    let bound = bound.as_str();
+    Ok(format!(in alloc; "let {bound} = ")?)
 }
 
 /// One text, or several as pairs in pairs.
 pub fn pairs_of_all(alloc: Global, texts: &[String]) -> DeriveResult<String> {
     let mut out = String::new(alloc);
     for (i, text) in texts.iter().enumerate() {
-        if i.saturating_add(1) < texts.len() {
-            put(&mut out, &["(", text.as_str(), ", "])?;
-        } else {
-            out.push_str(text.as_str())?;
-        }
+        let is_last = i.saturating_add(1) == texts.len();
+        let (before, after) = if is_last { ("", "") } else { ("(", ", ") };
+        put(&mut out, &[before, text.as_str(), after])?;
     }
-    for _ in 1..texts.len() {
-        out.push(')')?;
-    }
+    put_times(&mut out, ")", texts.len().saturating_sub(1))?;
     Ok(out)
 }
 
@@ -655,30 +715,44 @@ pub fn applied(
     Ok(out)
 }
 
+/// A parameter with its bound, in which `@` stands for its name.
+fn bounded(alloc: Global, name: &str, bound: &str) -> DeriveResult<String> {
+    let mut out = owned(alloc, name)?;
+    out.push_str(": ")?;
+    for (i, part) in bound.split('@').enumerate() {
+        put(&mut out, &[if i == 0 { "" } else { name }, part])?;
+    }
+    Ok(out)
+}
+
+/// What an `impl` is over: a lifetime, this, and each parameter with this bound.
+fn parameters_of(
+    alloc: Global,
+    first: &str,
+    generics: &Generics,
+    bound: &str,
+) -> DeriveResult<Vec<String>> {
+    let mut all = Vec::new(alloc);
+    if let Some(lifetime) = &generics.lifetime {
+        add(alloc, &mut all, lifetime.as_str(), true)?;
+    }
+    add(alloc, &mut all, first, !first.is_empty())?;
+    for parameter in generics.parameters.as_slice() {
+        all.push(bounded(alloc, parameter.as_str(), bound)?)?;
+    }
+    Ok(all)
+}
+
 /// The parameters of an `impl`: these, and each that the type is declared over with this bound, in which `@` stands
 /// for its name.
 fn over(alloc: Global, first: &str, generics: &Generics, bound: &str) -> DeriveResult<String> {
-    let mut all = Vec::new(alloc);
-    if let Some(lifetime) = &generics.lifetime {
-        all.push(owned(alloc, lifetime.as_str())?)?;
+    let all = parameters_of(alloc, first, generics, bound)?;
+    if all.is_empty() {
+        return Ok(String::new(alloc));
     }
-    if !first.is_empty() {
-        all.push(owned(alloc, first)?)?;
-    }
-    for parameter in generics.parameters.as_slice() {
-        let name = parameter.as_str();
-        let mut text = format!(in alloc; "{name}: ")?;
-        for (i, part) in bound.split('@').enumerate() {
-            put(&mut text, &[if i == 0 { "" } else { name }, part])?;
-        }
-        all.push(text)?;
-    }
-    let mut out = String::new(alloc);
-    if !all.is_empty() {
-        let list = joined(alloc, all.as_slice(), ", ")?;
-        put(&mut out, &["<", list.as_str(), ">"])?;
-    }
-    Ok(out)
+    let list = joined(alloc, all.as_slice(), ", ")?;
+    let list = list.as_str();
+    Ok(format!(in alloc; "<{list}>")?)
 }
 
 /// The one field of a struct that holds nothing and names what it is declared over.
@@ -779,22 +853,23 @@ fn where_of(alloc: Global, generics: &Generics, member: &str) -> DeriveResult<St
     Ok(out)
 }
 
-/// Sets the words of what values are made of: the type itself has its parts, or, where types are parameters, another
-/// type over these as those of values.
-fn set_of(
-    alloc: Global,
-    words: &mut Words,
-    (declaration, is_bound): (&Declaration, bool),
-) -> DeriveResult<()> {
+/// The type that has the parts of a declared one: itself, or, where types are parameters, another over these. Behind
+/// each parameter stands `member`.
+fn of_parts(alloc: Global, declaration: &Declaration, member: &str) -> DeriveResult<String> {
     let generics = &declaration.generics;
     let mut of = owned(alloc, declaration.name.as_str())?;
     if !generics.parameters.is_empty() {
         of.push_str("Of")?;
     }
-    let of = of.as_str();
-    words.set("of", applied(alloc, of, generics, ""));
-    words.set("of_src", applied(alloc, of, generics, "::Src"));
-    words.set("of_dst", applied(alloc, of, generics, "::Dst"));
+    applied(alloc, of.as_str(), generics, member)
+}
+
+/// Sets the words of what values are made of. Where it is bound, values of the parameters' schemas are to be let go.
+fn set_of(alloc: Global, words: &mut Words, (declaration, is_bound): (&Declaration, bool)) {
+    let generics = &declaration.generics;
+    words.set("of", of_parts(alloc, declaration, ""));
+    words.set("of_src", of_parts(alloc, declaration, "::Src"));
+    words.set("of_dst", of_parts(alloc, declaration, "::Dst"));
     words.set("phantom", phantom_of(alloc, generics));
     words.set("any", over(alloc, "", generics, "Drop"));
     words.set("any_src", applied(alloc, declaration.src(), generics, ""));
@@ -803,30 +878,61 @@ fn set_of(
         words.set("where_src", where_of(alloc, generics, "::Src"));
         words.set("where_dst", where_of(alloc, generics, "::Dst"));
     }
-    Ok(())
+}
+
+/// Those parameters that stand in this.
+fn parameters_in(alloc: Global, parameters: &[String], text: &str) -> DeriveResult<Vec<String>> {
+    let tokens = tokens_of(alloc, text)?;
+    let mut used = Vec::new(alloc);
+    for name in parameters {
+        let is_used = tokens
+            .iter()
+            .any(|token| token.text.as_str() == name.as_str());
+        add(alloc, &mut used, name.as_str(), is_used)?;
+    }
+    Ok(used)
+}
+
+/// The lifetime, if there is one and it stands in this.
+fn lifetime_in(alloc: Global, generics: &Generics, text: &str) -> DeriveResult<Option<String>> {
+    match &generics.lifetime {
+        Some(lifetime) if text.contains(lifetime.as_str()) => {
+            Ok(Some(owned(alloc, lifetime.as_str())?))
+        }
+        _ => Ok(None),
+    }
 }
 
 /// What stands in this of what a type is declared over.
 fn used_of(alloc: Global, generics: &Generics, text: &str) -> DeriveResult<Generics> {
-    let tokens = tokens_of(alloc, text)?;
-    let mut used = Generics {
-        lifetime: None,
-        parameters: Vec::new(alloc),
-    };
-    for name in generics.parameters.as_slice() {
-        if tokens
-            .iter()
-            .any(|token| token.text.as_str() == name.as_str())
-        {
-            used.parameters.push(owned(alloc, name.as_str())?)?;
-        }
-    }
-    if let Some(lifetime) = &generics.lifetime {
-        if text.contains(lifetime.as_str()) {
-            used.lifetime = Some(owned(alloc, lifetime.as_str())?);
-        }
-    }
-    Ok(used)
+    let lifetime = lifetime_in(alloc, generics, text)?;
+    let parameters = parameters_in(alloc, generics.parameters.as_slice(), text)?;
+    Ok(Generics {
+        lifetime,
+        parameters,
+    })
+}
+
+/// A name that begins with that of a declared type, over what stands of its parameters in these schemas.
+fn name_over(
+    alloc: Global,
+    declaration: &Declaration,
+    (behind, schemas): (&str, &str),
+) -> DeriveResult<String> {
+    let name = declaration.name.as_str();
+    let used = used_of(alloc, &declaration.generics, schemas)?;
+    let name = format!(in alloc; "{name}{behind}")?;
+    applied(alloc, name.as_str(), &used, "")
+}
+
+/// Sets the words of the parameters of each `impl`.
+fn set_over(alloc: Global, words: &mut Words, generics: &Generics) {
+    let lending = "L: Lending";
+    words.set("writes", over(alloc, "", generics, "SchemaWrite"));
+    words.set("reads", over(alloc, lending, generics, "SchemaRead<L>"));
+    words.set("lawful", over(alloc, lending, generics, "Lawful<L>"));
+    let both = "SchemaWrite + SchemaRead<L, Dst = @::Src>";
+    words.set("backs", over(alloc, lending, generics, both));
 }
 
 /// The words of a type's name and of what it is declared over. Behind the name of its parts' schemas, which are these,
@@ -834,27 +940,20 @@ fn used_of(alloc: Global, generics: &Generics, text: &str) -> DeriveResult<Gener
 pub fn name_words(
     alloc: Global,
     declaration: &Declaration,
-    (behind, schemas): (&str, &str),
+    of: (&str, &str),
     is_bound: bool,
-) -> DeriveResult<Words> {
+) -> Words {
     let mut words = Words::new(alloc);
     let name = declaration.name.as_str();
     let generics = &declaration.generics;
-    let fields = format!(in alloc; "{name}{behind}")?;
-    let lending = "L: Lending";
     words.set("type", owned(alloc, name));
     words.set("self", applied(alloc, name, generics, ""));
     words.set("src", applied(alloc, declaration.src(), generics, "::Src"));
     words.set("dst", applied(alloc, declaration.src(), generics, "::Dst"));
-    let used = used_of(alloc, generics, schemas)?;
-    words.set("fields", applied(alloc, fields.as_str(), &used, ""));
-    words.set("writes", over(alloc, "", generics, "SchemaWrite"));
-    words.set("reads", over(alloc, lending, generics, "SchemaRead<L>"));
-    words.set("lawful", over(alloc, lending, generics, "Lawful<L>"));
-    let both = "SchemaWrite + SchemaRead<L, Dst = @::Src>";
-    words.set("backs", over(alloc, lending, generics, both));
-    set_of(alloc, &mut words, (declaration, is_bound))?;
-    Ok(words)
+    words.set("fields", name_over(alloc, declaration, of));
+    set_over(alloc, &mut words, generics);
+    set_of(alloc, &mut words, (declaration, is_bound));
+    words
 }
 
 /// What the bound on a tuple of fields says of its values, where types are parameters: `, Src = (A::Src, u8)`; of a
@@ -892,6 +991,40 @@ fn laws_of(alloc: Global, declaration: &Declaration, seen: &str) -> DeriveResult
     law_of(alloc, seen, parameters, declaration.line)
 }
 
+/// Sets the words of two values of a struct that is a key: the fields of each, as pairs in pairs.
+pub fn set_sides(alloc: Global, words: &mut Words, fields: &Fields) {
+    words.set("one", pairs_of_fields(alloc, "x.", fields));
+    words.set("other", pairs_of_fields(alloc, "y.", fields));
+}
+
+/// Sets the words of the bound on a key's fields, whose schemas are these pairs in pairs, and their types these.
+fn set_key_bound(
+    alloc: Global,
+    words: &mut Words,
+    generics: &Generics,
+    (schemas, types): (&str, &str),
+) {
+    words.set("evidence", evidence_of(alloc, generics, schemas, 4));
+    words.set("schemas", owned(alloc, schemas));
+    words.set("bound", bound_of(alloc, generics, types));
+    let drop = ("::Src", "Drop + Eq");
+    words.set("eq_drops", drops_of(alloc, generics, drop));
+}
+
+/// The words of a key that is a struct.
+fn key_words(alloc: Global, declaration: &Declaration, fields: &Fields) -> DeriveResult<Words> {
+    let schemas = pairs_of_schemas(alloc, fields)?;
+    let types = pairs_of_types(alloc, fields)?;
+    let schemas = schemas.as_str();
+    let mut words = name_words(alloc, declaration, ("Fields", schemas), false);
+    words.set("pairs", name_over(alloc, declaration, ("Pairs", schemas)));
+    words.set("values", values_of(alloc, fields, 0));
+    set_sides(alloc, &mut words, fields);
+    let of = (schemas, types.as_str());
+    set_key_bound(alloc, &mut words, &declaration.generics, of);
+    Ok(words)
+}
+
 /// Appends that a struct with fields is a key of maps where these are.
 pub fn put_key(
     alloc: Global,
@@ -899,33 +1032,7 @@ pub fn put_key(
     declaration: &Declaration,
     fields: &Fields,
 ) -> DeriveResult<()> {
-    let generics = &declaration.generics;
-    let schemas = schemas_of(alloc, fields)?;
-    let values = types_of(alloc, fields)?;
-    let values = pairs_of_all(alloc, values.as_slice())?;
-    let one = named_fields(alloc, "x.", fields)?;
-    let other = named_fields(alloc, "y.", fields)?;
-    let list = joined(alloc, schemas.as_slice(), ", ")?;
-    let of = ("Fields", list.as_str());
-    let mut words = name_words(alloc, declaration, of, false)?;
-    let name = declaration.name.as_str();
-    let pairs = format!(in alloc; "{name}Pairs")?;
-    let used = used_of(alloc, generics, list.as_str())?;
-    words.set("pairs", applied(alloc, pairs.as_str(), &used, ""));
-    let schemas = pairs_of_all(alloc, schemas.as_slice())?;
-    words.set(
-        "evidence",
-        evidence_of(alloc, generics, schemas.as_str(), 4),
-    );
-    words.set("schemas", Ok(schemas));
-    words.set("values", values_of(alloc, fields, 0));
-    words.set("one", pairs_of_all(alloc, one.as_slice()));
-    words.set("other", pairs_of_all(alloc, other.as_slice()));
-    words.set(
-        "eq_drops",
-        drops_of(alloc, generics, ("::Src", "Drop + Eq")),
-    );
-    words.set("bound", bound_of(alloc, generics, values.as_str()));
+    let mut words = key_words(alloc, declaration, fields)?;
     let template = if is_lawful_key(declaration, fields) {
         LAWFUL_KEY
     } else {
@@ -935,42 +1042,49 @@ pub fn put_key(
 }
 
 /// Sets the words of how these fields are sized and written.
-pub fn set_calls(alloc: Global, words: &mut Words, of: (&Fields, &Group)) -> DeriveResult<()> {
-    words.set("size", Ok(call_of(alloc, ("size_of", ""), (&[], &[]), of)?));
-    words.set(
-        "write",
-        Ok(call_of(alloc, ("write", "W"), (&["writer"], &[]), of)?),
-    );
-    let front = call_of(alloc, ("encode_front", ""), (&[], &["dst"]), of)?;
-    words.set("front", Ok(front));
+fn set_calls(alloc: Global, words: &mut Words, of: (&Fields, &Group)) {
+    words.set("size", call_of(alloc, ("size_of", ""), ("", ""), of));
+    words.set("write", call_of(alloc, ("write", "W"), ("writer", ""), of));
+    let front = call_of(alloc, ("encode_front", ""), ("", "dst"), of);
+    words.set("front", front);
+}
+
+/// Sets the words of how a struct is sized and written, by its first fields.
+pub fn set_first_calls(
+    alloc: Global,
+    words: &mut Words,
+    (declaration, fields): (&Declaration, &Fields),
+) -> DeriveResult<()> {
+    let groups = groups_of(alloc, declaration, fields.fields.len())?;
+    if let Some(group) = groups.first() {
+        set_calls(alloc, words, (fields, group));
+    }
     Ok(())
 }
 
-/// Sets the words of how a struct is read.
-fn set_read(alloc: Global, words: &mut Words, of: (&Declaration, &Fields)) -> DeriveResult<()> {
-    let (declaration, fields) = of;
-    let names = bindings(alloc, fields)?;
-    words.set("bound_fields", tuple_of(alloc, names.as_slice()));
-    words.set("bind", bind_of(alloc, fields));
-    words.set("made", made_of(alloc, declaration.src(), fields));
-    words.set("takes", takes_of(alloc, names.as_slice(), "made_of"));
-    words.set("takes_parts", takes_of(alloc, names.as_slice(), "parts"));
-    let template = if is_long(fields) {
+/// By which template a struct is read.
+fn template_of(declaration: &Declaration, fields: &Fields) -> &'static str {
+    if is_long(fields) {
         GET_PARTS
     } else if declaration.generics.parameters.is_empty() {
         GET
     } else {
         GET_BY_ARMS
-    };
-    let mut read = String::new(alloc);
-    fill(&mut read, template, words)?;
-    words.set("read", Ok(read));
-    let mut decoding = String::new(alloc);
-    if has_plain(fields) && !is_long(fields) {
-        fill(&mut decoding, DECODING, words)?;
     }
-    words.set("decoding", Ok(decoding));
-    Ok(())
+}
+
+/// Sets the words of how a struct is read.
+fn set_read(alloc: Global, words: &mut Words, (declaration, fields): (&Declaration, &Fields)) {
+    words.set("bound_fields", tuple_of_bindings(alloc, fields));
+    words.set("bind", bind_of(alloc, fields));
+    words.set("made", made_of(alloc, declaration.src(), fields));
+    words.set("takes", takes_of(alloc, fields, "made_of"));
+    words.set("takes_parts", takes_of(alloc, fields, "parts"));
+    let read = text_of(alloc, template_of(declaration, fields), words);
+    words.set("read", read);
+    let is_decoded = has_plain(fields) && !is_long(fields);
+    let decoding = text_of(alloc, if is_decoded { DECODING } else { "" }, words);
+    words.set("decoding", decoding);
 }
 
 /// Whether there are more fields than a tuple has.
@@ -987,21 +1101,18 @@ fn has_plain(fields: &Fields) -> bool {
             .all(|field| may_have_one_size(field.schema.as_str()))
 }
 
-/// The words of the schema that stands for the fields of a later group, and those behind it.
+/// The words of the schema that stands for the fields of a later group, and those behind it, whose schemas are these.
 fn rest_words(
     alloc: Global,
     (declaration, fields): (&Declaration, &Fields),
-    group: &Group,
+    (group, schemas): (&Group, &str),
     is_bound: bool,
 ) -> DeriveResult<Words> {
     let generics = &declaration.generics;
     let from = group.from;
-    let place = from.saturating_add(1);
-    let schemas = schemas_of(alloc, fields)?;
-    let schemas = tuple_of(alloc, &schemas.as_slice()[from.min(schemas.len())..])?;
-    let used = used_of(alloc, generics, schemas.as_str())?;
+    let used = used_of(alloc, generics, schemas)?;
     let mut words = Words::new(alloc);
-    words.set("place", Ok(format!(in alloc; "{place}")?));
+    words.set("place", number(alloc, from.saturating_add(1)));
     words.set("self", rest_of(alloc, (declaration, generics), from, ""));
     if is_bound {
         words.set("where_src", where_of(alloc, generics, "::Src"));
@@ -1013,10 +1124,25 @@ fn rest_words(
     words.set("phantom", phantom_of(alloc, generics));
     words.set("src", applied(alloc, declaration.src(), generics, "::Src"));
     words.set("writes", over(alloc, "", generics, "SchemaWrite"));
-    words.set("schemas", Ok(schemas));
+    words.set("schemas", owned(alloc, schemas));
     words.set("values", values_of(alloc, fields, from));
-    set_calls(alloc, &mut words, (fields, group))?;
+    set_calls(alloc, &mut words, (fields, group));
     Ok(words)
+}
+
+/// Appends the schema that stands for the fields of a later group, and those behind it, by this template.
+fn put_rest(
+    alloc: Global,
+    out: &mut String,
+    (declaration, fields): (&Declaration, &Fields),
+    group: &Group,
+    (template, is_bound): (&str, bool),
+) -> DeriveResult<()> {
+    let schemas = tuple_of_schemas(alloc, fields, group.from)?;
+    let of = (group, schemas.as_str());
+    let mut words = rest_words(alloc, (declaration, fields), of, is_bound)?;
+    fill(out, REST, &mut words)?;
+    fill(out, template, &mut words)
 }
 
 /// Appends the schemas that stand for the fields behind those of the first group, by this template.
@@ -1024,13 +1150,11 @@ pub fn put_rests(
     alloc: Global,
     out: &mut String,
     (declaration, fields): (&Declaration, &Fields),
-    (template, is_bound): (&str, bool),
+    by: (&str, bool),
 ) -> DeriveResult<()> {
     let groups = groups_of(alloc, declaration, fields.fields.len())?;
     for group in groups.iter().skip(1) {
-        let mut words = rest_words(alloc, (declaration, fields), group, is_bound)?;
-        fill(out, REST, &mut words)?;
-        fill(out, template, &mut words)?;
+        put_rest(alloc, out, (declaration, fields), group, by)?;
     }
     Ok(())
 }
@@ -1043,17 +1167,22 @@ fn words_of(
     fields: &Fields,
 ) -> DeriveResult<(Words, bool)> {
     let generics = &declaration.generics;
-    let schemas = schemas_of(alloc, fields)?;
-    let schemas = tuple_of(alloc, schemas.as_slice())?;
+    let schemas = tuple_of_schemas(alloc, fields, 0)?;
     let schemas = schemas.as_str();
     let seen = looked_into(alloc, all, (schemas, generics.parameters.as_slice()))?;
     let is_bound = seen.as_str() != schemas;
-    let mut words = name_words(alloc, declaration, ("Fields", schemas), is_bound)?;
+    let mut words = name_words(alloc, declaration, ("Fields", schemas), is_bound);
     words.set("laws", laws_of(alloc, declaration, seen.as_str()));
     words.set("evidence", evidence_of(alloc, generics, schemas, 2));
     words.set("schemas", owned(alloc, schemas));
     words.set("values", values_of(alloc, fields, 0));
     Ok((words, is_bound))
+}
+
+/// What the bound on a struct's fields says of its values.
+fn bound_of_types(alloc: Global, generics: &Generics, fields: &Fields) -> DeriveResult<String> {
+    let types = tuple_of_types(alloc, fields)?;
+    bound_of(alloc, generics, types.as_str())
 }
 
 /// The words of a struct, and whether its schema's bound says what its values are.
@@ -1062,18 +1191,15 @@ fn all_words_of(
     (all, declaration): (&[Declaration], &Declaration),
     fields: &Fields,
 ) -> DeriveResult<(Words, bool)> {
-    let generics = &declaration.generics;
-    let types = tuple_of(alloc, types_of(alloc, fields)?.as_slice())?;
     let (mut words, is_bound) = words_of(alloc, (all, declaration), fields)?;
-    let groups = groups_of(alloc, declaration, fields.fields.len())?;
-    if let Some(group) = groups.first() {
-        set_calls(alloc, &mut words, (fields, group))?;
-    }
-    set_read(alloc, &mut words, (declaration, fields))?;
-    let dst = applied(alloc, declaration.src(), generics, "::Dst")?;
-    words.set("head", read_head(alloc, dst.as_str()));
-    words.set("bound", bound_of(alloc, generics, types.as_str()));
-    words.set("types", Ok(types));
+    set_first_calls(alloc, &mut words, (declaration, fields))?;
+    set_read(alloc, &mut words, (declaration, fields));
+    words.set("head", read_head(alloc, declaration));
+    words.set(
+        "bound",
+        bound_of_types(alloc, &declaration.generics, fields),
+    );
+    words.set("types", tuple_of_types(alloc, fields));
     Ok((words, is_bound))
 }
 

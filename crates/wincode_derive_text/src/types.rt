@@ -5,6 +5,7 @@ use crate::groups::{
     close_of, end_of_part, first_of, is_sign, is_word, kind_at, next, spot_at, text_at, type_text,
 };
 use crate::imports::{Imports, Origin, is_std};
+use crate::printing::put_text;
 use crate::tokens::{Kind, Token};
 use std::alloc::Global;
 
@@ -515,6 +516,33 @@ impl Walk<'_> {
         }
     }
 
+    /// A part that begins with a sign, or a word that stands for no type's name.
+    fn take_other(&mut self, alloc: Global, part: Part) -> DeriveResult<()> {
+        match text_at(self.tokens, part.from) {
+            "<" => Err(self.none(alloc, part, Some("name it by a `type`"))),
+            "_" => {
+                let what = "`_` stands for no type here: write the type";
+                Err(self.wrong(alloc, part.from, what))
+            }
+            "fn" | "dyn" | "impl" | "for" | "unsafe" | "extern" | "*" | "!" => {
+                if self.is_strict() {
+                    Err(self.none(alloc, part, None))
+                } else {
+                    Ok(())
+                }
+            }
+            _ => Err(self.no_type(alloc, part.from)),
+        }
+    }
+
+    /// Something stands there that is no type.
+    fn no_type(&self, alloc: Global, at: usize) -> DeriveError {
+        match unexpected(alloc, self.tokens, at, "a type") {
+            Ok(what) => self.wrong(alloc, at, what.as_str()),
+            Err(error) => error,
+        }
+    }
+
     /// Looks at a part, and takes its own.
     fn step(&mut self, alloc: Global, part: Part) -> DeriveResult<()> {
         let at = part.from;
@@ -525,25 +553,11 @@ impl Walk<'_> {
             (Kind::Sign, "(") => self.take_tuple(alloc, part),
             (Kind::Sign, "[") => self.take_array(alloc, part),
             (Kind::Sign, "&") => self.take_borrowed(alloc, part),
-            (Kind::Word, "_") => {
-                let what = "`_` stands for no type here: write the type";
-                Err(self.wrong(alloc, at, what))
-            }
-            (Kind::Word, "fn" | "dyn" | "impl" | "for" | "unsafe" | "extern")
-            | (Kind::Sign, "*" | "!") => {
-                if self.is_strict() {
-                    Err(self.none(alloc, part, None))
-                } else {
-                    Ok(())
-                }
-            }
-            (Kind::Sign, "<") => Err(self.none(alloc, part, Some("name it by a `type`"))),
+            (Kind::Word, "_" | "fn" | "dyn" | "impl" | "for" | "unsafe" | "extern")
+            | (Kind::Sign, _) => self.take_other(alloc, part),
             (Kind::Word, _) => self.take_named(alloc, part),
             (Kind::Note, _) => Ok(()),
-            _ => {
-                let what = unexpected(alloc, self.tokens, at, "a type")?;
-                Err(self.wrong(alloc, at, what.as_str()))
-            }
+            _ => Err(self.no_type(alloc, at)),
         }
     }
 }
@@ -598,16 +612,42 @@ fn is_slice(tokens: &[Token], (from, to): (usize, usize), name: &str) -> bool {
         && first_of(tokens, (next(from), to.saturating_sub(1)), &[";"]) == to.saturating_sub(1)
 }
 
-/// What to write for a slice that is owned.
-fn slice_advice(alloc: Global, kind: &str, item: &str, is_renamed: bool) -> DeriveResult<String> {
-    let line = format!(in alloc;
-        "`// wincode: with = containers::{kind}<{item}, BincodeLen<4194304>>`"
-    )?;
-    let line = line.as_str();
+/// The comment line that says the schema of a slice that is owned.
+fn slice_line(alloc: Global, kind: &str, item: &str) -> DeriveResult<String> {
+    Ok(format!(in alloc; "`// wincode: with = containers::{kind}<{item}, BincodeLen<4194304>>`")?)
+}
+
+/// What the advice begins with: to write a line over a slice, or first to give it another name.
+fn renamed(alloc: Global, kind: &str, item: &str, is_renamed: bool) -> DeriveResult<String> {
     if is_renamed {
-        Ok(format!(in alloc; "take `{kind}<{item}>`, and over it {line}")?)
+        Ok(format!(in alloc; "take `{kind}<{item}>`, and over it ")?)
     } else {
-        Ok(format!(in alloc; "write over it {line}")?)
+        Ok(String::from_str(alloc, "write over it ")?)
+    }
+}
+
+/// What to write for a slice that is owned, by another name or by its own.
+fn slice_advice(alloc: Global, kind: &str, item: &str, is_renamed: bool) -> DeriveResult<String> {
+    let mut out = renamed(alloc, kind, item, is_renamed)?;
+    put_text(&mut out, slice_line(alloc, kind, item))?;
+    Ok(out)
+}
+
+/// What is said of a name that isn't of ASCII letters.
+fn not_ascii(alloc: Global, text: &str) -> DeriveResult<String> {
+    Ok(format!(in alloc; "`{text}`: names are of ASCII letters, digits and `_`")?)
+}
+
+/// What is said of a name that is a keyword.
+fn keyword(alloc: Global, name: &str) -> DeriveResult<String> {
+    Ok(format!(in alloc; "`r#{name}`: choose a name that is no keyword")?)
+}
+
+/// That something else is wanted than this, or than the end of the file.
+fn wanted_text(alloc: Global, wanted: &str, text: Option<&str>) -> DeriveResult<String> {
+    match text {
+        Some(text) => Ok(format!(in alloc; "{wanted} is wanted, and here is `{text}`")?),
+        None => Ok(format!(in alloc; "{wanted} is wanted, and the file ends")?),
     }
 }
 
@@ -620,16 +660,13 @@ pub fn unexpected(
 ) -> DeriveResult<String> {
     let text = text_at(tokens, at);
     if kind_at(tokens, at) == Kind::Sign && !text.is_ascii() {
-        return Ok(format!(in alloc; "`{text}`: names are of ASCII letters, digits and `_`")?);
+        return not_ascii(alloc, text);
     }
     if is_raw(tokens, at) {
-        let name = text_at(tokens, next(at));
-        return Ok(format!(in alloc; "`r#{name}`: choose a name that is no keyword")?);
+        return keyword(alloc, text_at(tokens, next(at)));
     }
-    if at >= tokens.len() {
-        return Ok(format!(in alloc; "{wanted} is wanted, and the file ends")?);
-    }
-    Ok(format!(in alloc; "{wanted} is wanted, and here is `{text}`")?)
+    let here = if at < tokens.len() { Some(text) } else { None };
+    wanted_text(alloc, wanted, here)
 }
 
 /// Whether the `#` of a name such as `r#type` stands there.

@@ -9,7 +9,9 @@ use wincode::io::{Lending, Reader, Writer};
 use wincode::{
     OneText, ReadResult, RoundTrip, SchemaRead, SchemaReadOwned, SchemaWrite, TypeMeta, WriteResult,
 };
-use wincode_derive_support::enums::{EnumParts, EnumShape, read_enum, size_of_enum, write_enum};
+use wincode_derive_support::enums::{
+    EnumParts, EnumShape, encode_enum, read_enum, size_of_enum, write_enum,
+};
 use wincode_derive_support::laws::{FieldsOneText, FieldsReadOwned, Lawful};
 use wincode_derive_support::sums::{Case, Last, OneOf};
 
@@ -55,6 +57,13 @@ impl EnumShape for Change {
             Change::Named(a) => <String as SchemaWrite>::write::<W>(writer, a),
         }
     }
+
+    fn encode_part(src: &Change, dst: &mut [u8]) -> Option<usize> {
+        match src {
+            Change::Closed(a) => <u64 as SchemaWrite>::encode_front(a, dst),
+            Change::Named(a) => <String as SchemaWrite>::encode_front(a, dst),
+        }
+    }
 }
 
 impl SchemaWrite for Change {
@@ -78,6 +87,11 @@ impl SchemaWrite for Change {
 
     fn write<W: Writer>(writer: &mut W, src: &Change) -> WriteResult<()> {
         write_enum::<Change, W>(writer, src)
+    }
+
+    #[inline(always)]
+    fn encode_front(src: &Change, dst: &mut [u8]) -> Option<usize> {
+        encode_enum::<Change>(src, dst)
     }
 
     ghost write_laws = { write_laws_by ⟦<Change as EnumParts>⟧.parts ⟦<ChangeCases as SchemaWrite>⟧.write_laws };

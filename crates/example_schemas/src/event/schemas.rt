@@ -8,11 +8,13 @@ ghost use Rattle.example_schemas.specs.declared.event.Mark.TheVariants.{A as Mar
 use super::*;
 use std::alloc::Global;
 use wincode::io::{Lending, Reader, Writer};
-use wincode::schema::tuples::{size_of_members_2, write_members_2};
+use wincode::schema::tuples::{encode_front_members_2, size_of_members_2, write_members_2};
 use wincode::{
     OneText, ReadResult, RoundTrip, SchemaRead, SchemaReadOwned, SchemaWrite, TypeMeta, WriteResult,
 };
-use wincode_derive_support::enums::{EnumParts, EnumShape, read_enum, size_of_enum, write_enum};
+use wincode_derive_support::enums::{
+    EnumParts, EnumShape, encode_enum, read_enum, size_of_enum, write_enum,
+};
 use wincode_derive_support::laws::{FieldsOneText, FieldsReadOwned, Lawful};
 use wincode_derive_support::sums::{Case, Counted, Last, OneOf};
 
@@ -64,6 +66,14 @@ impl EnumShape for EventU8 {
             Event::Empty => <() as SchemaWrite>::write::<W>(writer, &()),
         }
     }
+
+    fn encode_part(src: &Event, dst: &mut [u8]) -> Option<usize> {
+        match src {
+            Event::Named { name, id } => encode_front_members_2::<String, u64>(name, id, dst),
+            Event::Blob(a, b) => encode_front_members_2::<String, Vec<u8>>(a, b, dst),
+            Event::Empty => <() as SchemaWrite>::encode_front(&(), dst),
+        }
+    }
 }
 
 impl SchemaWrite for EventU8 {
@@ -87,6 +97,11 @@ impl SchemaWrite for EventU8 {
 
     fn write<W: Writer>(writer: &mut W, src: &Event) -> WriteResult<()> {
         write_enum::<EventU8, W>(writer, src)
+    }
+
+    #[inline(always)]
+    fn encode_front(src: &Event, dst: &mut [u8]) -> Option<usize> {
+        encode_enum::<EventU8>(src, dst)
     }
 
     ghost write_laws = { write_laws_by ⟦<EventU8 as EnumParts>⟧.parts ⟦<EventU8Cases as SchemaWrite>⟧.write_laws };
@@ -205,6 +220,14 @@ impl EnumShape for EventU32 {
             Event::Empty => <() as SchemaWrite>::write::<W>(writer, &()),
         }
     }
+
+    fn encode_part(src: &Event, dst: &mut [u8]) -> Option<usize> {
+        match src {
+            Event::Named { name, id } => encode_front_members_2::<String, u64>(name, id, dst),
+            Event::Blob(a, b) => encode_front_members_2::<String, Vec<u8>>(a, b, dst),
+            Event::Empty => <() as SchemaWrite>::encode_front(&(), dst),
+        }
+    }
 }
 
 impl SchemaWrite for EventU32 {
@@ -228,6 +251,11 @@ impl SchemaWrite for EventU32 {
 
     fn write<W: Writer>(writer: &mut W, src: &Event) -> WriteResult<()> {
         write_enum::<EventU32, W>(writer, src)
+    }
+
+    #[inline(always)]
+    fn encode_front(src: &Event, dst: &mut [u8]) -> Option<usize> {
+        encode_enum::<EventU32>(src, dst)
     }
 
     ghost write_laws = { write_laws_by ⟦<EventU32 as EnumParts>⟧.parts ⟦<EventU32Cases as SchemaWrite>⟧.write_laws };
@@ -346,6 +374,14 @@ impl EnumShape for MarkU8 {
             Mark::C => <() as SchemaWrite>::write::<W>(writer, &()),
         }
     }
+
+    fn encode_part(src: &Mark, dst: &mut [u8]) -> Option<usize> {
+        match src {
+            Mark::A => <() as SchemaWrite>::encode_front(&(), dst),
+            Mark::B => <() as SchemaWrite>::encode_front(&(), dst),
+            Mark::C => <() as SchemaWrite>::encode_front(&(), dst),
+        }
+    }
 }
 
 impl SchemaWrite for MarkU8 {
@@ -369,6 +405,11 @@ impl SchemaWrite for MarkU8 {
 
     fn write<W: Writer>(writer: &mut W, src: &Mark) -> WriteResult<()> {
         write_enum::<MarkU8, W>(writer, src)
+    }
+
+    #[inline(always)]
+    fn encode_front(src: &Mark, dst: &mut [u8]) -> Option<usize> {
+        encode_enum::<MarkU8>(src, dst)
     }
 
     ghost write_laws = { write_laws_by ⟦<MarkU8 as EnumParts>⟧.parts ⟦<MarkU8Cases as SchemaWrite>⟧.write_laws };

@@ -6,7 +6,7 @@ ghost use Rattle.wincode_base.specs.PairLaws.{write_laws_by, reads_back_by};
 use super::*;
 use std::alloc::Global;
 use wincode::io::{Lifetime, Reader, Writer};
-use wincode::schema::tuples::{size_of_members_2, write_members_2};
+use wincode::schema::tuples::{encode_front_members_2, size_of_members_2, write_members_2};
 use wincode::{
     OneText, ReadResult, RoundTrip, SchemaGet, SchemaRead, SchemaWrite, TypeMeta, WriteResult,
 };
@@ -37,6 +37,11 @@ impl<'a> SchemaWrite for Label<'a> {
 
     fn write<W: Writer>(writer: &mut W, src: &Label<'a>) -> WriteResult<()> {
         write_members_2::<u64, &'a str, W>(writer, &src.number, &src.name)
+    }
+
+    #[inline(always)]
+    fn encode_front(src: &Label<'a>, dst: &mut [u8]) -> Option<usize> {
+        encode_front_members_2::<u64, &'a str>(&src.number, &src.name, dst)
     }
 
     ghost write_laws = { write_laws_by (λ x. (x.number, x.name)) ⟦<LabelFields<'a> as SchemaWrite>⟧.write_laws };

@@ -10,13 +10,16 @@ use super::*;
 use std::alloc::Global;
 use wincode::io::{Lending, Reader, Writer};
 use wincode::schema::tuples::{
-    encode_front_members_5, size_of_members_3, size_of_members_5, write_members_3, write_members_5,
+    encode_front_members_3, encode_front_members_5, size_of_members_3, size_of_members_5,
+    write_members_3, write_members_5,
 };
 use wincode::{
     Key, OneText, ReadResult, RoundTrip, SchemaGet, SchemaRead, SchemaReadOwned, SchemaWrite,
     TypeMeta, WriteResult,
 };
-use wincode_derive_support::enums::{EnumParts, EnumShape, read_enum, size_of_enum, write_enum};
+use wincode_derive_support::enums::{
+    EnumParts, EnumShape, encode_enum, read_enum, size_of_enum, write_enum,
+};
 use wincode_derive_support::keys::LawfulKey;
 use wincode_derive_support::laws::{FieldsOneText, FieldsReadOwned, Lawful};
 use wincode_derive_support::sums::{Case, Last, OneOf};
@@ -81,6 +84,18 @@ impl EnumShape for Kind {
             } => write_members_3::<i16, i16, bool, W>(writer, east, north, is_high),
         }
     }
+
+    fn encode_part(src: &Kind, dst: &mut [u8]) -> Option<usize> {
+        match src {
+            Kind::Plain => <() as SchemaWrite>::encode_front(&(), dst),
+            Kind::Written(a) => <String as SchemaWrite>::encode_front(a, dst),
+            Kind::Placed {
+                east,
+                north,
+                is_high,
+            } => encode_front_members_3::<i16, i16, bool>(east, north, is_high, dst),
+        }
+    }
 }
 
 impl SchemaWrite for Kind {
@@ -104,6 +119,11 @@ impl SchemaWrite for Kind {
 
     fn write<W: Writer>(writer: &mut W, src: &Kind) -> WriteResult<()> {
         write_enum::<Kind, W>(writer, src)
+    }
+
+    #[inline(always)]
+    fn encode_front(src: &Kind, dst: &mut [u8]) -> Option<usize> {
+        encode_enum::<Kind>(src, dst)
     }
 
     ghost write_laws = { write_laws_by ⟦<Kind as EnumParts>⟧.parts ⟦<KindCases as SchemaWrite>⟧.write_laws };

@@ -7,7 +7,8 @@ use super::*;
 use std::alloc::Global;
 use wincode::io::{Lifetime, Reader, Writer};
 use wincode::schema::tuples::{
-    size_of_members_2, size_of_members_7, write_members_2, write_members_7,
+    encode_front_members_2, encode_front_members_7, size_of_members_2, size_of_members_7,
+    write_members_2, write_members_7,
 };
 use wincode::{
     Key, OneText, ReadResult, RoundTrip, SchemaGet, SchemaRead, SchemaWrite, TypeMeta, WriteResult,
@@ -39,6 +40,11 @@ impl<'a> SchemaWrite for Label<'a> {
 
     fn write<W: Writer>(writer: &mut W, src: &Label<'a>) -> WriteResult<()> {
         write_members_2::<u64, &'a str, W>(writer, &src.number, &src.name)
+    }
+
+    #[inline(always)]
+    fn encode_front(src: &Label<'a>, dst: &mut [u8]) -> Option<usize> {
+        encode_front_members_2::<u64, &'a str>(&src.number, &src.name, dst)
     }
 
     ghost write_laws = { write_laws_by (λ x. (x.number, x.name)) ⟦<LabelFields<'a> as SchemaWrite>⟧.write_laws };
@@ -187,6 +193,28 @@ impl<'a> SchemaWrite for Sheet<'a> {
             &src.last,
             &src.counts,
             &src.left_out,
+        )
+    }
+
+    #[inline(always)]
+    fn encode_front(src: &Sheet<'a>, dst: &mut [u8]) -> Option<usize> {
+        encode_front_members_7::<
+            Label<'a>,
+            Vec<Label<'a>>,
+            BTreeMap<u16, Label<'a>>,
+            &'a [u8],
+            Option<Label<'a>>,
+            BTreeMap<Label<'a>, u32>,
+            BTreeSet<Label<'a>>,
+        >(
+            &src.title,
+            &src.labels,
+            &src.by_number,
+            &src.picture,
+            &src.last,
+            &src.counts,
+            &src.left_out,
+            dst,
         )
     }
 

@@ -17,7 +17,9 @@ use wincode::{
     Key, OneText, ReadResult, RoundTrip, SchemaGet, SchemaRead, SchemaReadOwned, SchemaWrite,
     TypeMeta, WriteResult,
 };
-use wincode_derive_support::enums::{EnumParts, EnumShape, read_enum, size_of_enum, write_enum};
+use wincode_derive_support::enums::{
+    EnumParts, EnumShape, encode_enum, read_enum, size_of_enum, write_enum,
+};
 use wincode_derive_support::keys::LawfulKey;
 use wincode_derive_support::laws::{FieldsKey, FieldsOneText, FieldsReadOwned, Lawful};
 use wincode_derive_support::sums::{Case, Last, OneOf};
@@ -445,6 +447,14 @@ impl EnumShape for Mark {
             Mark::Other => <() as SchemaWrite>::write::<W>(writer, &()),
         }
     }
+
+    fn encode_part(src: &Mark, dst: &mut [u8]) -> Option<usize> {
+        match src {
+            Mark::Plus => <() as SchemaWrite>::encode_front(&(), dst),
+            Mark::Minus => <() as SchemaWrite>::encode_front(&(), dst),
+            Mark::Other => <() as SchemaWrite>::encode_front(&(), dst),
+        }
+    }
 }
 
 impl SchemaWrite for Mark {
@@ -468,6 +478,11 @@ impl SchemaWrite for Mark {
 
     fn write<W: Writer>(writer: &mut W, src: &Mark) -> WriteResult<()> {
         write_enum::<Mark, W>(writer, src)
+    }
+
+    #[inline(always)]
+    fn encode_front(src: &Mark, dst: &mut [u8]) -> Option<usize> {
+        encode_enum::<Mark>(src, dst)
     }
 
     ghost write_laws = { write_laws_by ⟦<Mark as EnumParts>⟧.parts ⟦<MarkCases as SchemaWrite>⟧.write_laws };
@@ -606,6 +621,12 @@ impl EnumShape for Only {
             Only::Marked(a) => <Mark as SchemaWrite>::write::<W>(writer, a),
         }
     }
+
+    fn encode_part(src: &Only, dst: &mut [u8]) -> Option<usize> {
+        match src {
+            Only::Marked(a) => <Mark as SchemaWrite>::encode_front(a, dst),
+        }
+    }
 }
 
 impl SchemaWrite for Only {
@@ -629,6 +650,11 @@ impl SchemaWrite for Only {
 
     fn write<W: Writer>(writer: &mut W, src: &Only) -> WriteResult<()> {
         write_enum::<Only, W>(writer, src)
+    }
+
+    #[inline(always)]
+    fn encode_front(src: &Only, dst: &mut [u8]) -> Option<usize> {
+        encode_enum::<Only>(src, dst)
     }
 
     ghost write_laws = { write_laws_by ⟦<Only as EnumParts>⟧.parts ⟦<OnlyCases as SchemaWrite>⟧.write_laws };

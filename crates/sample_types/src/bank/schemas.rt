@@ -25,12 +25,15 @@ use super::*;
 use std::alloc::Global;
 use wincode::io::{Lending, Reader, Writer};
 use wincode::schema::tuples::{
-    size_of_members_2, size_of_members_3, write_members_2, write_members_3,
+    encode_front_members_2, encode_front_members_3, size_of_members_2, size_of_members_3,
+    write_members_2, write_members_3,
 };
 use wincode::{
     OneText, ReadResult, RoundTrip, SchemaRead, SchemaReadOwned, SchemaWrite, TypeMeta, WriteResult,
 };
-use wincode_derive_support::enums::{EnumParts, EnumShape, read_enum, size_of_enum, write_enum};
+use wincode_derive_support::enums::{
+    EnumParts, EnumShape, encode_enum, read_enum, size_of_enum, write_enum,
+};
 use wincode_derive_support::laws::{FieldsOneText, FieldsReadOwned, Lawful, LawfulCases};
 use wincode_derive_support::splits::{PartOneText, PartReadOwned, Split};
 use wincode_derive_support::sums::{
@@ -413,6 +416,23 @@ impl EnumShape for Request {
             Request::Ended => <() as SchemaWrite>::write::<W>(writer, &()),
         }
     }
+
+    fn encode_part(src: &Request, dst: &mut [u8]) -> Option<usize> {
+        match src {
+            Request::Status => <() as SchemaWrite>::encode_front(&(), dst),
+            Request::Open {
+                lamports,
+                space,
+                owner,
+            } => encode_front_members_3::<u64, u64, [u8; 32]>(lamports, space, owner, dst),
+            Request::Sealed(a, b) => encode_front_members_2::<[u8; 32], u8>(a, b, dst),
+            Request::Named(a) => <String as SchemaWrite>::encode_front(a, dst),
+            Request::Limited(a) => <Option<u64> as SchemaWrite>::encode_front(a, dst),
+            Request::Close => <() as SchemaWrite>::encode_front(&(), dst),
+            Request::Paid(a, b) => encode_front_members_2::<u64, String>(a, b, dst),
+            Request::Ended => <() as SchemaWrite>::encode_front(&(), dst),
+        }
+    }
 }
 
 impl SchemaWrite for Request {
@@ -436,6 +456,11 @@ impl SchemaWrite for Request {
 
     fn write<W: Writer>(writer: &mut W, src: &Request) -> WriteResult<()> {
         write_enum::<Request, W>(writer, src)
+    }
+
+    #[inline(always)]
+    fn encode_front(src: &Request, dst: &mut [u8]) -> Option<usize> {
+        encode_enum::<Request>(src, dst)
     }
 
     ghost write_laws = { write_laws_by ⟦<Request as EnumParts>⟧.parts ⟦<RequestCases as SchemaWrite>⟧.write_laws };
@@ -842,6 +867,18 @@ impl EnumShape for Refusal {
             Refusal::Other(a) => <String as SchemaWrite>::write::<W>(writer, a),
         }
     }
+
+    fn encode_part(src: &Refusal, dst: &mut [u8]) -> Option<usize> {
+        match src {
+            Refusal::NotFound => <() as SchemaWrite>::encode_front(&(), dst),
+            Refusal::Denied => <() as SchemaWrite>::encode_front(&(), dst),
+            Refusal::Busy => <() as SchemaWrite>::encode_front(&(), dst),
+            Refusal::Timeout => <() as SchemaWrite>::encode_front(&(), dst),
+            Refusal::Closed => <() as SchemaWrite>::encode_front(&(), dst),
+            Refusal::Invalid(a) => <u32 as SchemaWrite>::encode_front(a, dst),
+            Refusal::Other(a) => <String as SchemaWrite>::encode_front(a, dst),
+        }
+    }
 }
 
 impl SchemaWrite for Refusal {
@@ -865,6 +902,11 @@ impl SchemaWrite for Refusal {
 
     fn write<W: Writer>(writer: &mut W, src: &Refusal) -> WriteResult<()> {
         write_enum::<Refusal, W>(writer, src)
+    }
+
+    #[inline(always)]
+    fn encode_front(src: &Refusal, dst: &mut [u8]) -> Option<usize> {
+        encode_enum::<Refusal>(src, dst)
     }
 
     ghost write_laws = { write_laws_by ⟦<Refusal as EnumParts>⟧.parts ⟦<RefusalCases as SchemaWrite>⟧.write_laws };

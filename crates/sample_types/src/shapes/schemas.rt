@@ -16,7 +16,9 @@ use wincode::{
     OneText, ReadResult, RoundTrip, SchemaGet, SchemaRead, SchemaReadOwned, SchemaWrite, TypeMeta,
     WriteResult,
 };
-use wincode_derive_support::enums::{EnumParts, EnumShape, read_enum, size_of_enum, write_enum};
+use wincode_derive_support::enums::{
+    EnumParts, EnumShape, encode_enum, read_enum, size_of_enum, write_enum,
+};
 use wincode_derive_support::laws::{FieldsOneText, FieldsReadOwned, Lawful};
 use wincode_derive_support::lent::Lends;
 use wincode_derive_support::sums::{Case, Last, OneOf};
@@ -90,6 +92,14 @@ where
             Found::Many { items, more } => write_members_2::<Vec<T>, bool, W>(writer, items, more),
         }
     }
+
+    fn encode_part(src: &Found<T::Src>, dst: &mut [u8]) -> Option<usize> {
+        match src {
+            Found::Nothing => <() as SchemaWrite>::encode_front(&(), dst),
+            Found::One(a) => <T as SchemaWrite>::encode_front(a, dst),
+            Found::Many { items, more } => encode_front_members_2::<Vec<T>, bool>(items, more, dst),
+        }
+    }
 }
 
 impl<T: SchemaWrite> SchemaWrite for Found<T>
@@ -116,6 +126,11 @@ where
 
     fn write<W: Writer>(writer: &mut W, src: &Found<T::Src>) -> WriteResult<()> {
         write_enum::<Found<T>, W>(writer, src)
+    }
+
+    #[inline(always)]
+    fn encode_front(src: &Found<T::Src>, dst: &mut [u8]) -> Option<usize> {
+        encode_enum::<Found<T>>(src, dst)
     }
 
     ghost write_laws = { write_laws_by ⟦<Found<T> as EnumParts>⟧.parts ⟦<FoundCases<T> as SchemaWrite>⟧.write_laws };
@@ -241,6 +256,14 @@ impl<'a> EnumShape for Token<'a> {
             Token::End => <() as SchemaWrite>::write::<W>(writer, &()),
         }
     }
+
+    fn encode_part(src: &Token<'a>, dst: &mut [u8]) -> Option<usize> {
+        match src {
+            Token::Word(a) => <&'a str as SchemaWrite>::encode_front(a, dst),
+            Token::Number(a) => <u64 as SchemaWrite>::encode_front(a, dst),
+            Token::End => <() as SchemaWrite>::encode_front(&(), dst),
+        }
+    }
 }
 
 type TokenCases<'a> = OneOf<u32, Case<0, &'a str, Case<1, u64, Last<2, ()>>>>;
@@ -268,6 +291,11 @@ impl<'a> SchemaWrite for Token<'a> {
 
     fn write<W: Writer>(writer: &mut W, src: &Token<'a>) -> WriteResult<()> {
         write_enum::<Token<'a>, W>(writer, src)
+    }
+
+    #[inline(always)]
+    fn encode_front(src: &Token<'a>, dst: &mut [u8]) -> Option<usize> {
+        encode_enum::<Token<'a>>(src, dst)
     }
 
     ghost write_laws = { write_laws_by (λ x. (⟦<Token<'a> as EnumParts>⟧.parts x)) ⟦<TokenCases<'a> as SchemaWrite>⟧.write_laws };

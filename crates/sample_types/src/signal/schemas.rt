@@ -12,12 +12,15 @@ use super::*;
 use std::alloc::Global;
 use wincode::io::{Lending, Reader, Writer};
 use wincode::schema::tuples::{
-    size_of_members_2, size_of_members_3, write_members_2, write_members_3,
+    encode_front_members_2, encode_front_members_3, size_of_members_2, size_of_members_3,
+    write_members_2, write_members_3,
 };
 use wincode::{
     OneText, ReadResult, RoundTrip, SchemaRead, SchemaReadOwned, SchemaWrite, TypeMeta, WriteResult,
 };
-use wincode_derive_support::enums::{EnumParts, EnumShape, read_enum, size_of_enum, write_enum};
+use wincode_derive_support::enums::{
+    EnumParts, EnumShape, encode_enum, read_enum, size_of_enum, write_enum,
+};
 use wincode_derive_support::laws::{FieldsOneText, FieldsReadOwned, Lawful};
 use wincode_derive_support::sums::{Case, Last, OneOf};
 
@@ -101,6 +104,19 @@ impl EnumShape for Signal {
             >(writer, name, marks, at),
         }
     }
+
+    fn encode_part(src: &Signal, dst: &mut [u8]) -> Option<usize> {
+        match src {
+            Signal::Start => <() as SchemaWrite>::encode_front(&(), dst),
+            Signal::Noted(a) => <Note as SchemaWrite>::encode_front(a, dst),
+            Signal::Moved(a, b) => encode_front_members_2::<u32, i16>(a, b, dst),
+            Signal::Named { name, marks, at } => encode_front_members_3::<
+                String,
+                containers::Vec<u16, ShortU16Len>,
+                u64,
+            >(name, marks, at, dst),
+        }
+    }
 }
 
 impl SchemaWrite for Signal {
@@ -124,6 +140,11 @@ impl SchemaWrite for Signal {
 
     fn write<W: Writer>(writer: &mut W, src: &Signal) -> WriteResult<()> {
         write_enum::<Signal, W>(writer, src)
+    }
+
+    #[inline(always)]
+    fn encode_front(src: &Signal, dst: &mut [u8]) -> Option<usize> {
+        encode_enum::<Signal>(src, dst)
     }
 
     ghost write_laws = { write_laws_by ⟦<Signal as EnumParts>⟧.parts ⟦<SignalCases as SchemaWrite>⟧.write_laws };
