@@ -1,5 +1,5 @@
 -- What reads answer, made of what they answer in parts.
-use Rattle.std.proofs.Common.{◌≡◌, ℕ, false, List, map, sym, subst, Option, Result, Ok, Err}
+use Rattle.std.proofs.Common.{◌≡◌, ℕ, Bool, false, List, map, sym, subst, Option, Result, Ok, Err}
 use Rattle.std.specs.Prelude.{OnOk, OnErr, IfErr}
 use Rattle.std.specs.Result.{IsErr, IsErrAnd}
 use Rattle.wincode_io.specs.Joins.{AreItems}
@@ -8,11 +8,20 @@ use Rattle.wincode_base.specs.Grammar.{ReadGrammar}
 use Rattle.wincode_base.specs.Lists.{items_read, AddOutcome}
 use Rattle.wincode_base.specs.Outcomes.{Gives, Adds, ReadRefused, SchemaReadRefused, ReadOutcome, GetOutcome, MakeOutcome}
 use Rattle.wincode_base.specs.declared.error.ReadError.{ReadError}
-use Rattle.wincode_base.specs.declared.meta.TypeMeta.TheVariants.{Dynamic}
+use Rattle.wincode_base.specs.declared.meta.TypeMeta.TheVariants.{Static, Dynamic}
 
 -- an error that a `?` passes on
 abbrev pub IsPassed : {T E : Type 0} → Result T E → E → Type 0
 IsPassed r e = IsErr r × IsErrAnd r (λ x. x ≡ e)
+
+-- an error that a `?` passes on, of which this holds
+pub if_passed : {A E : Type 0} (P : E → Type 0) (r : Result A E) (e : E) → IsPassed r e → P e → IfErr r P
+if_passed P (Ok x) e h p = tt
+if_passed P (Err x) e h p = subst P (sym h.1) p
+
+-- what has one size is not of any size
+pub is_sized : {P : Type 0} {s : ℕ} {z : Bool} → Static s z ≡ Dynamic → P
+is_sized h = absurd (cc h)
 
 module _ {A V D : Type 0} (g : ReadGrammar V) (model : D → V) {old new : ReaderState} (before after : Option D) where
   pub read_refused : (r : Result A ReadError) (e : ReadError) → IsPassed r e → after ≡ before → SchemaReadRefused g old new e

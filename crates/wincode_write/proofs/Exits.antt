@@ -1,28 +1,18 @@
 -- What exits answer.
-use Rattle.std.proofs.Common.{◌≡◌, refl, sym, subst, ℕ, ◌*◌, Bool, List, Result, Ok, Err}
+use Rattle.std.proofs.Common.{◌≡◌, refl, sym, subst, ℕ, ◌*◌, List, Result, Err}
 use Rattle.std.specs.Prelude.{IfErr}
 use Rattle.wincode_io.specs.Writers.{WriterState}
 use Rattle.wincode_base.specs.AsForms.{WrittenAtOnce, BulkWriteRefused}
 use Rattle.wincode_base.specs.Grammar.{WriteGrammar}
 use Rattle.wincode_base.specs.Lists.{items_write}
 use Rattle.wincode_base.specs.Outcomes.{WriteRefused, Stopped}
-use Rattle.wincode_base.specs.declared.meta.TypeMeta.TheVariants.{Static, Dynamic}
 use Rattle.wincode_base.specs.declared.error.WriteError.{WriteError}
-use Rattle.wincode_base.proofs.ReadAnswers.{IsPassed}
+use Rattle.wincode_base.proofs.ReadAnswers.{IsPassed, if_passed}
 use Rattle.wincode_base.proofs.WriteAnswers.{write_refused}
-
--- an error that a `?` passes on, of which this holds
-pub if_passed : {A E : Type 0} (P : E → Type 0) (r : Result A E) (e : E) → IsPassed r e → P e → IfErr r P
-if_passed P (Ok x) e h p = tt
-if_passed P (Err x) e h p = subst P (sym h.1) p
 
 -- the error of what is this error
 pub same_error : {A E : Type 0} {r : Result A E} {x : E} → r ≡ Err x → IfErr r (λ y. y ≡ x)
 same_error {x = x} h = subst (λ s. IfErr s (λ y. y ≡ x)) (sym h) refl
-
--- what has one size is not of any size
-pub is_sized : {P : Type 0} {s : ℕ} {z : Bool} → Static s z ≡ Dynamic → P
-is_sized h = absurd (cc h)
 
 -- values that were to be written at once were refused
 pub at_once_refused : {A S K V : Type 0} {put : S → List ℕ → S} {room : S → ℕ} (s n : ℕ) (g : WriteGrammar V) {old new : WriterState put room K}

@@ -1,9 +1,9 @@
 use Rattle.std.proofs.Common.{ap, length, length-take, arith}
-use Rattle.wincode_read.proofs.Exits.{if_passed}
 use Rattle.wincode_base.proofs.Bulk.{wanted_refuses, went_well}
 use Rattle.wincode_base.proofs.Integers.{are_bytes}
 use Rattle.wincode_base.proofs.FormRuns.{forms_added, forms_refused, forms_vast}
 use Rattle.wincode_read.proofs.schema.as_forms.read_all.Goals as goal
+use Rattle.wincode_base.proofs.ReadAnswers.{if_passed}
 
 pub returns-in_default-clause-err : goal.returns-in_default-clause-err
 returns-in_default-clause-err g c = rw c.read_length_encoding_overflow.ensures (forms_vast g.T.ZeroCopy.byte_form c.args.n _ _ c.in_default.ensures)

@@ -1,10 +1,10 @@
 use Rattle.std.proofs.Common.{refl, arith, ◌≡◌, ◌≤◌, ◌+◌, ◌∙◌, ◌++◌, ◌∷◌, []}
-use Rattle.wincode_read.proofs.Exits.{if_passed}
 use Rattle.wincode_base.specs.Lists.{items_read}
 use Rattle.wincode_base.specs.Outcomes.{SchemaReadRefused}
 use Rattle.wincode_base.specs.ListLaws.{items_refused, items_more, no_memory}
 use Rattle.wincode_base.proofs.Items.{adds_none, adds_more, item_stopped, item_wanted}
 use Rattle.wincode_read.proofs.schema.at_hand.add_each.Goals as goal
+use Rattle.wincode_base.proofs.ReadAnswers.{if_passed}
 
 pub loop-i-init : goal.loop-i-init
 loop-i-init g c = adds_none g.T.SchemaRead.reading.reads g.T.SchemaRead.model _ _ _ refl

@@ -1,8 +1,8 @@
 use Rattle.std.proofs.Common.{rules, refl}
 use Rattle.std.proofs.lemmas.Result.{err_from_is_err_and}
 use Rattle.wincode_base.proofs.Bulk.{bytes_added, bytes_refused, bytes_denied, bytes_wanted, wanted_refuses, went_well}
-use Rattle.wincode_read.proofs.Exits.{is_sized}
 use Rattle.wincode_read.proofs.schema.leaves.read_bytes.Goals as goal
+use Rattle.wincode_base.proofs.ReadAnswers.{is_sized}
 
 pub returns-in_err-bytes : goal.returns-in_err-bytes
 returns-in_err-bytes g c =

@@ -1,6 +1,6 @@
 use Rattle.std.proofs.Common.{ap, length, length-take, arith}
-use Rattle.wincode_read.proofs.Exits.{if_passed}
 use Rattle.wincode_read.proofs.schema.strings.copy_bytes.Goals as goal
+use Rattle.wincode_base.proofs.ReadAnswers.{if_passed}
 
 pub returns-in_err-bytes-clause-err : goal.returns-in_err-bytes-clause-err
 returns-in_err-bytes-clause-err g c =

@@ -1,8 +1,9 @@
 use Rattle.std.proofs.Common.{length, ◌*◌}
 use Rattle.wincode_base.proofs.FormRuns.{form_writes, forms_wrote, forms_unwritten, forms_halted, all_each, at_once}
-use Rattle.wincode_write.proofs.Exits.{at_once_refused, is_sized, same_error}
+use Rattle.wincode_write.proofs.Exits.{at_once_refused, same_error}
 use Rattle.wincode_base.specs.AsForms.{writes_form}
 use Rattle.wincode_write.proofs.schema.as_forms.write_all.Goals as goal
+use Rattle.wincode_base.proofs.ReadAnswers.{is_sized}
 
 pub returns-in_err-write_forms : goal.returns-in_err-write_forms
 returns-in_err-write_forms g c =

@@ -1,8 +1,8 @@
 use Rattle.std.proofs.Common.{rules, ◌≡◌, refl, sym, ◌∙◌, length}
 use Rattle.wincode_base.specs.WriteSequences.{encoding_unwritten}
 use Rattle.wincode_base.proofs.InWindow.{short_halted, room_halted}
-use Rattle.wincode_write.proofs.Exits.{if_passed}
 use Rattle.wincode_write.proofs.schema.encoded.write_encoded.Goals as goal
+use Rattle.wincode_base.proofs.ReadAnswers.{if_passed}
 
 pub returns-in_err-write-clause-refused : goal.returns-in_err-write-clause-refused
 returns-in_err-write-clause-refused g c =

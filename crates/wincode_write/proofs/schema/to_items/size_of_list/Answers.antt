@@ -1,22 +1,17 @@
-use Rattle.std.proofs.Common.{rules, map, subst, sym, Result, Ok, Err}
+use Rattle.std.proofs.Common.{rules, map}
 use Rattle.std.proofs.lemmas.Result.{IfOk-weaker, IfErr-weaker}
-use Rattle.std.specs.Prelude.{IfErr}
 use Rattle.wincode_base.proofs.Lists.{size_without_encoding, size_summed, size_unsummed}
-use Rattle.wincode_base.proofs.ReadAnswers.{IsPassed}
+use Rattle.wincode_base.proofs.ReadAnswers.{if_passed}
 use Rattle.wincode_base.specs.Lists.{list_write}
 use Rattle.wincode_base.specs.Outcomes.{SizeRefused}
 use Rattle.wincode_write.proofs.schema.to_items.size_of_list.Goals as goal
-
-passed : {A E : Type 0} (P : E → Type 0) (r : Result A E) (e : E) → IsPassed r e → P e → IfErr r P
-passed P (Ok x) e h p = tt
-passed P (Err x) e h p = subst P (sym h.1) p
 
 pub returns-in_err-length-clause-err : goal.returns-in_err-length-clause-err
 returns-in_err-length-clause-err g c =
     let T = g.T.SchemaWrite in
     let xs = g.C.ToItems.listed c.args.src.now in
     let h = size_without_encoding g.Len.SeqLen.scheme g.row.COUNT T.writing T.model xs _ (rw c.count.ensures.count at c.in_err-length.ensures.err) in
-    passed (SizeRefused (list_write g.Len.SeqLen.scheme g.row.COUNT T.writing) (map T.model xs)) _ _ c.from_residual.ensures h
+    if_passed (SizeRefused (list_write g.Len.SeqLen.scheme g.row.COUNT T.writing) (map T.model xs)) _ _ c.from_residual.ensures h
 
 pub returns-clause-ok : goal.returns-clause-ok
 returns-clause-ok g c = IfOk-weaker c.add_sizes.result _ _ (λ n p. size_summed g.Len.SeqLen.scheme g.row.COUNT g.T.SchemaWrite.writing g.T.SchemaWrite.model

@@ -2,9 +2,9 @@ use Rattle.std.proofs.Common.{[], sym, arith}
 use Rattle.wincode_collect.specs.Seen.{sees}
 use Rattle.wincode_base.specs.Pairs.{pair_write}
 use Rattle.wincode_base.proofs.Walks.{sum_joined, sum_unjoined}
-use Rattle.wincode_write.proofs.Exits.{if_passed}
 use Rattle.wincode_write.proofs.Walked.{summed}
 use Rattle.wincode_write.proofs.schema.to_items.BTreeMapToItemsMembers2.add_sizes.Goals as goal
+use Rattle.wincode_base.proofs.ReadAnswers.{if_passed}
 
 pub returns-in_err-sum-clause-err : goal.returns-in_err-sum-clause-err
 returns-in_err-sum-clause-err g c =

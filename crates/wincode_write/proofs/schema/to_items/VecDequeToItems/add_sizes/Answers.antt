@@ -1,7 +1,7 @@
 use Rattle.std.proofs.lemmas.Result.{IfOk-weaker, IfErr-weaker}
 use Rattle.wincode_base.proofs.Walks.{sums_first, sums_second, sums_both}
-use Rattle.wincode_write.proofs.Exits.{if_passed}
 use Rattle.wincode_write.proofs.schema.to_items.VecDequeToItems.add_sizes.Goals as goal
+use Rattle.wincode_base.proofs.ReadAnswers.{if_passed}
 
 pub returns-in_err-sum-clause-err : goal.returns-in_err-sum-clause-err
 returns-in_err-sum-clause-err g c =
