@@ -2,8 +2,8 @@
 //! `&[u8]`: what has one size is copied at once, each length is looked at before memory is asked for, and what is cut off
 //! or is no value is refused. Prints a row for each measurement, named as there: the least time of 40 runs in nanoseconds.
 //!
-//! `tools/compare` builds it by `rustc` alone and runs it beside the bench. An argument is the number that the values are
-//! made of, which no compiler knows.
+//! `tools/compare` builds it by `rustc` alone and runs it beside the bench. Arguments are words, as the bench's: only cases
+//! whose names have one are timed. Their number is what the values are made of, which no compiler knows.
 mod coded;
 mod made;
 
@@ -15,7 +15,13 @@ use std::time::Instant;
 
 const RUNS: u32 = 40;
 
+/// Whether a case of this name is to be timed: where no words were given, each is.
+fn is_asked(name: &str) -> bool {
+    std::env::args().len() < 2 || std::env::args().skip(1).any(|word| name.contains(&word))
+}
+
 /// The least time of the runs, in nanoseconds.
+#[inline(never)]
 fn least<T>(mut run: impl FnMut() -> T) -> u128 {
     let mut least = u128::MAX;
     for _ in 0..RUNS {
@@ -42,6 +48,9 @@ fn serialize<T: Coded>(value: &T) -> Result<Vec<u8>, Refused> {
 
 /// Times a value's reading and writing.
 fn time_value<T: Made + Coded, const MAX: usize>(name: &str, first: u64, lengths: &[u64]) -> Result<(), Refused> {
+    if !is_asked(name) {
+        return Ok(());
+    }
     let value = T::made(first, lengths);
     let text = serialize(&value)?;
     row(name, "copied", least(|| black_box(&text[..]).to_vec()));
@@ -85,6 +94,9 @@ fn time_parts(first: u64) -> Result<(), Refused> {
 /// Records that are read one after another from one slice, and written one after another to one vector.
 fn time_records(first: u64) -> Result<(), Refused> {
     let name = "records one by one";
+    if !is_asked(name) {
+        return Ok(());
+    }
     let records = Vec::<Record>::made(first, &[50_000]);
     let join = |records: &[Record]| {
         let mut bytes = Vec::with_capacity(records.len() * 41);

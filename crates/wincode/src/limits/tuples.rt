@@ -1,5 +1,17 @@
 //! Written by `tools/templates`: limits of tuples, that are those of their members.
+ghost use Rattle.std.specs.Prelude.{◌≡◌, false, IsTrue};
+
 use crate::limits::Limited;
+
+/// Whether each length in the 2 members is within its limit.
+fn members_2_are_within<A: Limited, B: Limited>(a: &A::Src, b: &B::Src) -> bool
+    ensures within { IsTrue result → A.SchemaWrite.is_valid a.now × B.SchemaWrite.is_valid b.now → A.SchemaWrite.writing.fits
+        (A.SchemaWrite.model a.now) × B.SchemaWrite.writing.fits (B.SchemaWrite.model b.now) }
+    ensures past { result ≡ false → A.SchemaWrite.writing.fits (A.SchemaWrite.model a.now) ×
+        B.SchemaWrite.writing.fits (B.SchemaWrite.model b.now) → ⊥ }
+{
+    A::is_within(a) && B::is_within(b)
+}
 
 impl<A: Limited, B: Limited> Limited for (A, B) {
     fn counts() -> usize {
@@ -11,8 +23,23 @@ impl<A: Limited, B: Limited> Limited for (A, B) {
     }
 
     fn is_within(src: &Self::Src) -> bool {
-        A::is_within(&src.0) && B::is_within(&src.1)
+        members_2_are_within::<A, B>(&src.0, &src.1)
     }
+}
+
+/// Whether each length in the 3 members is within its limit.
+fn members_3_are_within<A: Limited, B: Limited, C: Limited>(
+    a: &A::Src,
+    b: &B::Src,
+    c: &C::Src,
+) -> bool
+    ensures within { IsTrue result → A.SchemaWrite.is_valid a.now × (B.SchemaWrite.is_valid b.now ×
+        C.SchemaWrite.is_valid c.now) → A.SchemaWrite.writing.fits (A.SchemaWrite.model a.now) ×
+        (B.SchemaWrite.writing.fits (B.SchemaWrite.model b.now) × C.SchemaWrite.writing.fits (C.SchemaWrite.model c.now)) }
+    ensures past { result ≡ false → A.SchemaWrite.writing.fits (A.SchemaWrite.model a.now) ×
+        (B.SchemaWrite.writing.fits (B.SchemaWrite.model b.now) × C.SchemaWrite.writing.fits (C.SchemaWrite.model c.now)) → ⊥ }
+{
+    A::is_within(a) && members_2_are_within::<B, C>(b, c)
 }
 
 impl<A: Limited, B: Limited, C: Limited> Limited for (A, B, C) {
@@ -25,8 +52,26 @@ impl<A: Limited, B: Limited, C: Limited> Limited for (A, B, C) {
     }
 
     fn is_within(src: &Self::Src) -> bool {
-        A::is_within(&src.0) && B::is_within(&src.1) && C::is_within(&src.2)
+        members_3_are_within::<A, B, C>(&src.0, &src.1, &src.2)
     }
+}
+
+/// Whether each length in the 4 members is within its limit.
+fn members_4_are_within<A: Limited, B: Limited, C: Limited, D: Limited>(
+    a: &A::Src,
+    b: &B::Src,
+    c: &C::Src,
+    d: &D::Src,
+) -> bool
+    ensures within { IsTrue result → A.SchemaWrite.is_valid a.now × (B.SchemaWrite.is_valid b.now × (C.SchemaWrite.is_valid c.now ×
+        D.SchemaWrite.is_valid d.now)) → A.SchemaWrite.writing.fits (A.SchemaWrite.model a.now) ×
+        (B.SchemaWrite.writing.fits (B.SchemaWrite.model b.now) × (C.SchemaWrite.writing.fits (C.SchemaWrite.model c.now) ×
+        D.SchemaWrite.writing.fits (D.SchemaWrite.model d.now))) }
+    ensures past { result ≡ false → A.SchemaWrite.writing.fits (A.SchemaWrite.model a.now) ×
+        (B.SchemaWrite.writing.fits (B.SchemaWrite.model b.now) × (C.SchemaWrite.writing.fits (C.SchemaWrite.model c.now) ×
+        D.SchemaWrite.writing.fits (D.SchemaWrite.model d.now))) → ⊥ }
+{
+    A::is_within(a) && members_3_are_within::<B, C, D>(b, c, d)
 }
 
 impl<A: Limited, B: Limited, C: Limited, D: Limited> Limited for (A, B, C, D) {
@@ -39,8 +84,27 @@ impl<A: Limited, B: Limited, C: Limited, D: Limited> Limited for (A, B, C, D) {
     }
 
     fn is_within(src: &Self::Src) -> bool {
-        A::is_within(&src.0) && B::is_within(&src.1) && C::is_within(&src.2) && D::is_within(&src.3)
+        members_4_are_within::<A, B, C, D>(&src.0, &src.1, &src.2, &src.3)
     }
+}
+
+/// Whether each length in the 5 members is within its limit.
+fn members_5_are_within<A: Limited, B: Limited, C: Limited, D: Limited, E: Limited>(
+    a: &A::Src,
+    b: &B::Src,
+    c: &C::Src,
+    d: &D::Src,
+    e: &E::Src,
+) -> bool
+    ensures within { IsTrue result → A.SchemaWrite.is_valid a.now × (B.SchemaWrite.is_valid b.now × (C.SchemaWrite.is_valid c.now ×
+        (D.SchemaWrite.is_valid d.now × E.SchemaWrite.is_valid e.now))) → A.SchemaWrite.writing.fits (A.SchemaWrite.model a.now) ×
+        (B.SchemaWrite.writing.fits (B.SchemaWrite.model b.now) × (C.SchemaWrite.writing.fits (C.SchemaWrite.model c.now) ×
+        (D.SchemaWrite.writing.fits (D.SchemaWrite.model d.now) × E.SchemaWrite.writing.fits (E.SchemaWrite.model e.now)))) }
+    ensures past { result ≡ false → A.SchemaWrite.writing.fits (A.SchemaWrite.model a.now) ×
+        (B.SchemaWrite.writing.fits (B.SchemaWrite.model b.now) × (C.SchemaWrite.writing.fits (C.SchemaWrite.model c.now) ×
+        (D.SchemaWrite.writing.fits (D.SchemaWrite.model d.now) × E.SchemaWrite.writing.fits (E.SchemaWrite.model e.now)))) → ⊥ }
+{
+    A::is_within(a) && members_4_are_within::<B, C, D, E>(b, c, d, e)
 }
 
 impl<A: Limited, B: Limited, C: Limited, D: Limited, E: Limited> Limited for (A, B, C, D, E) {
@@ -53,12 +117,30 @@ impl<A: Limited, B: Limited, C: Limited, D: Limited, E: Limited> Limited for (A,
     }
 
     fn is_within(src: &Self::Src) -> bool {
-        A::is_within(&src.0)
-            && B::is_within(&src.1)
-            && C::is_within(&src.2)
-            && D::is_within(&src.3)
-            && E::is_within(&src.4)
+        members_5_are_within::<A, B, C, D, E>(&src.0, &src.1, &src.2, &src.3, &src.4)
     }
+}
+
+/// Whether each length in the 6 members is within its limit.
+fn members_6_are_within<A: Limited, B: Limited, C: Limited, D: Limited, E: Limited, F: Limited>(
+    a: &A::Src,
+    b: &B::Src,
+    c: &C::Src,
+    d: &D::Src,
+    e: &E::Src,
+    f: &F::Src,
+) -> bool
+    ensures within { IsTrue result → A.SchemaWrite.is_valid a.now × (B.SchemaWrite.is_valid b.now × (C.SchemaWrite.is_valid c.now ×
+        (D.SchemaWrite.is_valid d.now × (E.SchemaWrite.is_valid e.now × F.SchemaWrite.is_valid f.now)))) → A.SchemaWrite.writing.fits
+        (A.SchemaWrite.model a.now) × (B.SchemaWrite.writing.fits (B.SchemaWrite.model b.now) ×
+        (C.SchemaWrite.writing.fits (C.SchemaWrite.model c.now) × (D.SchemaWrite.writing.fits (D.SchemaWrite.model d.now) ×
+        (E.SchemaWrite.writing.fits (E.SchemaWrite.model e.now) × F.SchemaWrite.writing.fits (F.SchemaWrite.model f.now))))) }
+    ensures past { result ≡ false → A.SchemaWrite.writing.fits (A.SchemaWrite.model a.now) ×
+        (B.SchemaWrite.writing.fits (B.SchemaWrite.model b.now) × (C.SchemaWrite.writing.fits (C.SchemaWrite.model c.now) ×
+        (D.SchemaWrite.writing.fits (D.SchemaWrite.model d.now) × (E.SchemaWrite.writing.fits (E.SchemaWrite.model e.now) ×
+        F.SchemaWrite.writing.fits (F.SchemaWrite.model f.now))))) → ⊥ }
+{
+    A::is_within(a) && members_5_are_within::<B, C, D, E, F>(b, c, d, e, f)
 }
 
 impl<A: Limited, B: Limited, C: Limited, D: Limited, E: Limited, F: Limited> Limited
@@ -72,13 +154,32 @@ impl<A: Limited, B: Limited, C: Limited, D: Limited, E: Limited, F: Limited> Lim
     }
 
     fn is_within(src: &Self::Src) -> bool {
-        A::is_within(&src.0)
-            && B::is_within(&src.1)
-            && C::is_within(&src.2)
-            && D::is_within(&src.3)
-            && E::is_within(&src.4)
-            && F::is_within(&src.5)
+        members_6_are_within::<A, B, C, D, E, F>(&src.0, &src.1, &src.2, &src.3, &src.4, &src.5)
     }
+}
+
+/// Whether each length in the 7 members is within its limit.
+fn members_7_are_within<
+    A: Limited,
+    B: Limited,
+    C: Limited,
+    D: Limited,
+    E: Limited,
+    F: Limited,
+    G: Limited,
+>(a: &A::Src, b: &B::Src, c: &C::Src, d: &D::Src, e: &E::Src, f: &F::Src, g: &G::Src) -> bool
+    ensures within { IsTrue result → A.SchemaWrite.is_valid a.now × (B.SchemaWrite.is_valid b.now × (C.SchemaWrite.is_valid c.now ×
+        (D.SchemaWrite.is_valid d.now × (E.SchemaWrite.is_valid e.now × (F.SchemaWrite.is_valid f.now ×
+        G.SchemaWrite.is_valid g.now))))) → A.SchemaWrite.writing.fits (A.SchemaWrite.model a.now) ×
+        (B.SchemaWrite.writing.fits (B.SchemaWrite.model b.now) × (C.SchemaWrite.writing.fits (C.SchemaWrite.model c.now) ×
+        (D.SchemaWrite.writing.fits (D.SchemaWrite.model d.now) × (E.SchemaWrite.writing.fits (E.SchemaWrite.model e.now) ×
+        (F.SchemaWrite.writing.fits (F.SchemaWrite.model f.now) × G.SchemaWrite.writing.fits (G.SchemaWrite.model g.now)))))) }
+    ensures past { result ≡ false → A.SchemaWrite.writing.fits (A.SchemaWrite.model a.now) ×
+        (B.SchemaWrite.writing.fits (B.SchemaWrite.model b.now) × (C.SchemaWrite.writing.fits (C.SchemaWrite.model c.now) ×
+        (D.SchemaWrite.writing.fits (D.SchemaWrite.model d.now) × (E.SchemaWrite.writing.fits (E.SchemaWrite.model e.now) ×
+        (F.SchemaWrite.writing.fits (F.SchemaWrite.model f.now) × G.SchemaWrite.writing.fits (G.SchemaWrite.model g.now)))))) → ⊥ }
+{
+    A::is_within(a) && members_6_are_within::<B, C, D, E, F, G>(b, c, d, e, f, g)
 }
 
 impl<A: Limited, B: Limited, C: Limited, D: Limited, E: Limited, F: Limited, G: Limited> Limited
@@ -92,14 +193,46 @@ impl<A: Limited, B: Limited, C: Limited, D: Limited, E: Limited, F: Limited, G: 
     }
 
     fn is_within(src: &Self::Src) -> bool {
-        A::is_within(&src.0)
-            && B::is_within(&src.1)
-            && C::is_within(&src.2)
-            && D::is_within(&src.3)
-            && E::is_within(&src.4)
-            && F::is_within(&src.5)
-            && G::is_within(&src.6)
+        members_7_are_within::<A, B, C, D, E, F, G>(
+            &src.0, &src.1, &src.2, &src.3, &src.4, &src.5, &src.6,
+        )
     }
+}
+
+/// Whether each length in the 8 members is within its limit.
+fn members_8_are_within<
+    A: Limited,
+    B: Limited,
+    C: Limited,
+    D: Limited,
+    E: Limited,
+    F: Limited,
+    G: Limited,
+    H: Limited,
+>(
+    a: &A::Src,
+    b: &B::Src,
+    c: &C::Src,
+    d: &D::Src,
+    e: &E::Src,
+    f: &F::Src,
+    g: &G::Src,
+    h: &H::Src,
+) -> bool
+    ensures within { IsTrue result → A.SchemaWrite.is_valid a.now × (B.SchemaWrite.is_valid b.now × (C.SchemaWrite.is_valid c.now ×
+        (D.SchemaWrite.is_valid d.now × (E.SchemaWrite.is_valid e.now × (F.SchemaWrite.is_valid f.now × (G.SchemaWrite.is_valid g.now ×
+        H.SchemaWrite.is_valid h.now)))))) → A.SchemaWrite.writing.fits (A.SchemaWrite.model a.now) ×
+        (B.SchemaWrite.writing.fits (B.SchemaWrite.model b.now) × (C.SchemaWrite.writing.fits (C.SchemaWrite.model c.now) ×
+        (D.SchemaWrite.writing.fits (D.SchemaWrite.model d.now) × (E.SchemaWrite.writing.fits (E.SchemaWrite.model e.now) ×
+        (F.SchemaWrite.writing.fits (F.SchemaWrite.model f.now) × (G.SchemaWrite.writing.fits (G.SchemaWrite.model g.now) ×
+        H.SchemaWrite.writing.fits (H.SchemaWrite.model h.now))))))) }
+    ensures past { result ≡ false → A.SchemaWrite.writing.fits (A.SchemaWrite.model a.now) ×
+        (B.SchemaWrite.writing.fits (B.SchemaWrite.model b.now) × (C.SchemaWrite.writing.fits (C.SchemaWrite.model c.now) ×
+        (D.SchemaWrite.writing.fits (D.SchemaWrite.model d.now) × (E.SchemaWrite.writing.fits (E.SchemaWrite.model e.now) ×
+        (F.SchemaWrite.writing.fits (F.SchemaWrite.model f.now) × (G.SchemaWrite.writing.fits (G.SchemaWrite.model g.now) ×
+        H.SchemaWrite.writing.fits (H.SchemaWrite.model h.now))))))) → ⊥ }
+{
+    A::is_within(a) && members_7_are_within::<B, C, D, E, F, G, H>(b, c, d, e, f, g, h)
 }
 
 impl<
@@ -121,15 +254,48 @@ impl<
     }
 
     fn is_within(src: &Self::Src) -> bool {
-        A::is_within(&src.0)
-            && B::is_within(&src.1)
-            && C::is_within(&src.2)
-            && D::is_within(&src.3)
-            && E::is_within(&src.4)
-            && F::is_within(&src.5)
-            && G::is_within(&src.6)
-            && H::is_within(&src.7)
+        members_8_are_within::<A, B, C, D, E, F, G, H>(
+            &src.0, &src.1, &src.2, &src.3, &src.4, &src.5, &src.6, &src.7,
+        )
     }
+}
+
+/// Whether each length in the 9 members is within its limit.
+fn members_9_are_within<
+    A: Limited,
+    B: Limited,
+    C: Limited,
+    D: Limited,
+    E: Limited,
+    F: Limited,
+    G: Limited,
+    H: Limited,
+    I: Limited,
+>(
+    a: &A::Src,
+    b: &B::Src,
+    c: &C::Src,
+    d: &D::Src,
+    e: &E::Src,
+    f: &F::Src,
+    g: &G::Src,
+    h: &H::Src,
+    i: &I::Src,
+) -> bool
+    ensures within { IsTrue result → A.SchemaWrite.is_valid a.now × (B.SchemaWrite.is_valid b.now × (C.SchemaWrite.is_valid c.now ×
+        (D.SchemaWrite.is_valid d.now × (E.SchemaWrite.is_valid e.now × (F.SchemaWrite.is_valid f.now × (G.SchemaWrite.is_valid g.now ×
+        (H.SchemaWrite.is_valid h.now × I.SchemaWrite.is_valid i.now))))))) → A.SchemaWrite.writing.fits (A.SchemaWrite.model a.now) ×
+        (B.SchemaWrite.writing.fits (B.SchemaWrite.model b.now) × (C.SchemaWrite.writing.fits (C.SchemaWrite.model c.now) ×
+        (D.SchemaWrite.writing.fits (D.SchemaWrite.model d.now) × (E.SchemaWrite.writing.fits (E.SchemaWrite.model e.now) ×
+        (F.SchemaWrite.writing.fits (F.SchemaWrite.model f.now) × (G.SchemaWrite.writing.fits (G.SchemaWrite.model g.now) ×
+        (H.SchemaWrite.writing.fits (H.SchemaWrite.model h.now) × I.SchemaWrite.writing.fits (I.SchemaWrite.model i.now)))))))) }
+    ensures past { result ≡ false → A.SchemaWrite.writing.fits (A.SchemaWrite.model a.now) ×
+        (B.SchemaWrite.writing.fits (B.SchemaWrite.model b.now) × (C.SchemaWrite.writing.fits (C.SchemaWrite.model c.now) ×
+        (D.SchemaWrite.writing.fits (D.SchemaWrite.model d.now) × (E.SchemaWrite.writing.fits (E.SchemaWrite.model e.now) ×
+        (F.SchemaWrite.writing.fits (F.SchemaWrite.model f.now) × (G.SchemaWrite.writing.fits (G.SchemaWrite.model g.now) ×
+        (H.SchemaWrite.writing.fits (H.SchemaWrite.model h.now) × I.SchemaWrite.writing.fits (I.SchemaWrite.model i.now)))))))) → ⊥ }
+{
+    A::is_within(a) && members_8_are_within::<B, C, D, E, F, G, H, I>(b, c, d, e, f, g, h, i)
 }
 
 impl<
@@ -152,16 +318,52 @@ impl<
     }
 
     fn is_within(src: &Self::Src) -> bool {
-        A::is_within(&src.0)
-            && B::is_within(&src.1)
-            && C::is_within(&src.2)
-            && D::is_within(&src.3)
-            && E::is_within(&src.4)
-            && F::is_within(&src.5)
-            && G::is_within(&src.6)
-            && H::is_within(&src.7)
-            && I::is_within(&src.8)
+        members_9_are_within::<A, B, C, D, E, F, G, H, I>(
+            &src.0, &src.1, &src.2, &src.3, &src.4, &src.5, &src.6, &src.7, &src.8,
+        )
     }
+}
+
+/// Whether each length in the 10 members is within its limit.
+fn members_10_are_within<
+    A: Limited,
+    B: Limited,
+    C: Limited,
+    D: Limited,
+    E: Limited,
+    F: Limited,
+    G: Limited,
+    H: Limited,
+    I: Limited,
+    J: Limited,
+>(
+    a: &A::Src,
+    b: &B::Src,
+    c: &C::Src,
+    d: &D::Src,
+    e: &E::Src,
+    f: &F::Src,
+    g: &G::Src,
+    h: &H::Src,
+    i: &I::Src,
+    j: &J::Src,
+) -> bool
+    ensures within { IsTrue result → A.SchemaWrite.is_valid a.now × (B.SchemaWrite.is_valid b.now × (C.SchemaWrite.is_valid c.now ×
+        (D.SchemaWrite.is_valid d.now × (E.SchemaWrite.is_valid e.now × (F.SchemaWrite.is_valid f.now × (G.SchemaWrite.is_valid g.now ×
+        (H.SchemaWrite.is_valid h.now × (I.SchemaWrite.is_valid i.now × J.SchemaWrite.is_valid j.now)))))))) → A.SchemaWrite.writing.fits
+        (A.SchemaWrite.model a.now) × (B.SchemaWrite.writing.fits (B.SchemaWrite.model b.now) ×
+        (C.SchemaWrite.writing.fits (C.SchemaWrite.model c.now) × (D.SchemaWrite.writing.fits (D.SchemaWrite.model d.now) ×
+        (E.SchemaWrite.writing.fits (E.SchemaWrite.model e.now) × (F.SchemaWrite.writing.fits (F.SchemaWrite.model f.now) ×
+        (G.SchemaWrite.writing.fits (G.SchemaWrite.model g.now) × (H.SchemaWrite.writing.fits (H.SchemaWrite.model h.now) ×
+        (I.SchemaWrite.writing.fits (I.SchemaWrite.model i.now) × J.SchemaWrite.writing.fits (J.SchemaWrite.model j.now))))))))) }
+    ensures past { result ≡ false → A.SchemaWrite.writing.fits (A.SchemaWrite.model a.now) ×
+        (B.SchemaWrite.writing.fits (B.SchemaWrite.model b.now) × (C.SchemaWrite.writing.fits (C.SchemaWrite.model c.now) ×
+        (D.SchemaWrite.writing.fits (D.SchemaWrite.model d.now) × (E.SchemaWrite.writing.fits (E.SchemaWrite.model e.now) ×
+        (F.SchemaWrite.writing.fits (F.SchemaWrite.model f.now) × (G.SchemaWrite.writing.fits (G.SchemaWrite.model g.now) ×
+        (H.SchemaWrite.writing.fits (H.SchemaWrite.model h.now) × (I.SchemaWrite.writing.fits (I.SchemaWrite.model i.now) ×
+        J.SchemaWrite.writing.fits (J.SchemaWrite.model j.now))))))))) → ⊥ }
+{
+    A::is_within(a) && members_9_are_within::<B, C, D, E, F, G, H, I, J>(b, c, d, e, f, g, h, i, j)
 }
 
 impl<
@@ -185,17 +387,56 @@ impl<
     }
 
     fn is_within(src: &Self::Src) -> bool {
-        A::is_within(&src.0)
-            && B::is_within(&src.1)
-            && C::is_within(&src.2)
-            && D::is_within(&src.3)
-            && E::is_within(&src.4)
-            && F::is_within(&src.5)
-            && G::is_within(&src.6)
-            && H::is_within(&src.7)
-            && I::is_within(&src.8)
-            && J::is_within(&src.9)
+        members_10_are_within::<A, B, C, D, E, F, G, H, I, J>(
+            &src.0, &src.1, &src.2, &src.3, &src.4, &src.5, &src.6, &src.7, &src.8, &src.9,
+        )
     }
+}
+
+/// Whether each length in the 11 members is within its limit.
+fn members_11_are_within<
+    A: Limited,
+    B: Limited,
+    C: Limited,
+    D: Limited,
+    E: Limited,
+    F: Limited,
+    G: Limited,
+    H: Limited,
+    I: Limited,
+    J: Limited,
+    K: Limited,
+>(
+    a: &A::Src,
+    b: &B::Src,
+    c: &C::Src,
+    d: &D::Src,
+    e: &E::Src,
+    f: &F::Src,
+    g: &G::Src,
+    h: &H::Src,
+    i: &I::Src,
+    j: &J::Src,
+    k: &K::Src,
+) -> bool
+    ensures within { IsTrue result → A.SchemaWrite.is_valid a.now × (B.SchemaWrite.is_valid b.now × (C.SchemaWrite.is_valid c.now ×
+        (D.SchemaWrite.is_valid d.now × (E.SchemaWrite.is_valid e.now × (F.SchemaWrite.is_valid f.now × (G.SchemaWrite.is_valid g.now ×
+        (H.SchemaWrite.is_valid h.now × (I.SchemaWrite.is_valid i.now × (J.SchemaWrite.is_valid j.now ×
+        K.SchemaWrite.is_valid k.now))))))))) → A.SchemaWrite.writing.fits (A.SchemaWrite.model a.now) ×
+        (B.SchemaWrite.writing.fits (B.SchemaWrite.model b.now) × (C.SchemaWrite.writing.fits (C.SchemaWrite.model c.now) ×
+        (D.SchemaWrite.writing.fits (D.SchemaWrite.model d.now) × (E.SchemaWrite.writing.fits (E.SchemaWrite.model e.now) ×
+        (F.SchemaWrite.writing.fits (F.SchemaWrite.model f.now) × (G.SchemaWrite.writing.fits (G.SchemaWrite.model g.now) ×
+        (H.SchemaWrite.writing.fits (H.SchemaWrite.model h.now) × (I.SchemaWrite.writing.fits (I.SchemaWrite.model i.now) ×
+        (J.SchemaWrite.writing.fits (J.SchemaWrite.model j.now) × K.SchemaWrite.writing.fits (K.SchemaWrite.model k.now)))))))))) }
+    ensures past { result ≡ false → A.SchemaWrite.writing.fits (A.SchemaWrite.model a.now) ×
+        (B.SchemaWrite.writing.fits (B.SchemaWrite.model b.now) × (C.SchemaWrite.writing.fits (C.SchemaWrite.model c.now) ×
+        (D.SchemaWrite.writing.fits (D.SchemaWrite.model d.now) × (E.SchemaWrite.writing.fits (E.SchemaWrite.model e.now) ×
+        (F.SchemaWrite.writing.fits (F.SchemaWrite.model f.now) × (G.SchemaWrite.writing.fits (G.SchemaWrite.model g.now) ×
+        (H.SchemaWrite.writing.fits (H.SchemaWrite.model h.now) × (I.SchemaWrite.writing.fits (I.SchemaWrite.model i.now) ×
+        (J.SchemaWrite.writing.fits (J.SchemaWrite.model j.now) × K.SchemaWrite.writing.fits (K.SchemaWrite.model k.now)))))))))) → ⊥ }
+{
+    A::is_within(a)
+        && members_10_are_within::<B, C, D, E, F, G, H, I, J, K>(b, c, d, e, f, g, h, i, j, k)
 }
 
 impl<
@@ -220,18 +461,60 @@ impl<
     }
 
     fn is_within(src: &Self::Src) -> bool {
-        A::is_within(&src.0)
-            && B::is_within(&src.1)
-            && C::is_within(&src.2)
-            && D::is_within(&src.3)
-            && E::is_within(&src.4)
-            && F::is_within(&src.5)
-            && G::is_within(&src.6)
-            && H::is_within(&src.7)
-            && I::is_within(&src.8)
-            && J::is_within(&src.9)
-            && K::is_within(&src.10)
+        members_11_are_within::<A, B, C, D, E, F, G, H, I, J, K>(
+            &src.0, &src.1, &src.2, &src.3, &src.4, &src.5, &src.6, &src.7, &src.8, &src.9, &src.10,
+        )
     }
+}
+
+/// Whether each length in the 12 members is within its limit.
+fn members_12_are_within<
+    A: Limited,
+    B: Limited,
+    C: Limited,
+    D: Limited,
+    E: Limited,
+    F: Limited,
+    G: Limited,
+    H: Limited,
+    I: Limited,
+    J: Limited,
+    K: Limited,
+    M: Limited,
+>(
+    a: &A::Src,
+    b: &B::Src,
+    c: &C::Src,
+    d: &D::Src,
+    e: &E::Src,
+    f: &F::Src,
+    g: &G::Src,
+    h: &H::Src,
+    i: &I::Src,
+    j: &J::Src,
+    k: &K::Src,
+    m: &M::Src,
+) -> bool
+    ensures within { IsTrue result → A.SchemaWrite.is_valid a.now × (B.SchemaWrite.is_valid b.now × (C.SchemaWrite.is_valid c.now ×
+        (D.SchemaWrite.is_valid d.now × (E.SchemaWrite.is_valid e.now × (F.SchemaWrite.is_valid f.now × (G.SchemaWrite.is_valid g.now ×
+        (H.SchemaWrite.is_valid h.now × (I.SchemaWrite.is_valid i.now × (J.SchemaWrite.is_valid j.now × (K.SchemaWrite.is_valid k.now ×
+        M.SchemaWrite.is_valid m.now)))))))))) → A.SchemaWrite.writing.fits (A.SchemaWrite.model a.now) ×
+        (B.SchemaWrite.writing.fits (B.SchemaWrite.model b.now) × (C.SchemaWrite.writing.fits (C.SchemaWrite.model c.now) ×
+        (D.SchemaWrite.writing.fits (D.SchemaWrite.model d.now) × (E.SchemaWrite.writing.fits (E.SchemaWrite.model e.now) ×
+        (F.SchemaWrite.writing.fits (F.SchemaWrite.model f.now) × (G.SchemaWrite.writing.fits (G.SchemaWrite.model g.now) ×
+        (H.SchemaWrite.writing.fits (H.SchemaWrite.model h.now) × (I.SchemaWrite.writing.fits (I.SchemaWrite.model i.now) ×
+        (J.SchemaWrite.writing.fits (J.SchemaWrite.model j.now) × (K.SchemaWrite.writing.fits (K.SchemaWrite.model k.now) ×
+        M.SchemaWrite.writing.fits (M.SchemaWrite.model m.now))))))))))) }
+    ensures past { result ≡ false → A.SchemaWrite.writing.fits (A.SchemaWrite.model a.now) ×
+        (B.SchemaWrite.writing.fits (B.SchemaWrite.model b.now) × (C.SchemaWrite.writing.fits (C.SchemaWrite.model c.now) ×
+        (D.SchemaWrite.writing.fits (D.SchemaWrite.model d.now) × (E.SchemaWrite.writing.fits (E.SchemaWrite.model e.now) ×
+        (F.SchemaWrite.writing.fits (F.SchemaWrite.model f.now) × (G.SchemaWrite.writing.fits (G.SchemaWrite.model g.now) ×
+        (H.SchemaWrite.writing.fits (H.SchemaWrite.model h.now) × (I.SchemaWrite.writing.fits (I.SchemaWrite.model i.now) ×
+        (J.SchemaWrite.writing.fits (J.SchemaWrite.model j.now) × (K.SchemaWrite.writing.fits (K.SchemaWrite.model k.now) ×
+        M.SchemaWrite.writing.fits (M.SchemaWrite.model m.now))))))))))) → ⊥ }
+{
+    A::is_within(a)
+        && members_11_are_within::<B, C, D, E, F, G, H, I, J, K, M>(b, c, d, e, f, g, h, i, j, k, m)
 }
 
 impl<
@@ -257,17 +540,9 @@ impl<
     }
 
     fn is_within(src: &Self::Src) -> bool {
-        A::is_within(&src.0)
-            && B::is_within(&src.1)
-            && C::is_within(&src.2)
-            && D::is_within(&src.3)
-            && E::is_within(&src.4)
-            && F::is_within(&src.5)
-            && G::is_within(&src.6)
-            && H::is_within(&src.7)
-            && I::is_within(&src.8)
-            && J::is_within(&src.9)
-            && K::is_within(&src.10)
-            && M::is_within(&src.11)
+        members_12_are_within::<A, B, C, D, E, F, G, H, I, J, K, M>(
+            &src.0, &src.1, &src.2, &src.3, &src.4, &src.5, &src.6, &src.7, &src.8, &src.9,
+            &src.10, &src.11,
+        )
     }
 }
