@@ -2,7 +2,6 @@
 use Rattle.std.proofs.Common.{◌≡◌, ◌∙◌, sym, ap, subst, refl, ℕ, ◌+◌, ◌<◌, List, [], ◌∷◌, ◌++◌, length, map, take, drop, slice_set, append_assoc}
 use Rattle.std.proofs.Common.{append-nil, length-append, take-append-drop, arith}
 use Rattle.std.proofs.lemmas.List.{map-append, take_more_set}
-use Rattle.std.proofs.Math.Seq.{set-append_seam}
 use Rattle.wincode_io.specs.Joins.{Joined, AreItems}
 use Rattle.wincode_io.specs.JoinLaws.{joined_append}
 
@@ -62,10 +61,6 @@ module _ {D V : Type 0} (reads : List ℕ → V → Type 0) (model : D → V) wh
 
   pub added_none : (bytes : List ℕ) (before : List D) → AddedSoFar reads model bytes bytes 0 before before
   added_none bytes before = record { items = []; is = sym (append-nil before); so_far = read_none reads bytes }
-
-  -- a value was put over one that was added before
-  pub put_last : (before after : List D) (blank d : D) → after ≡ before ++ (blank ∷ []) → slice_set after (length before) d ≡ before ++ (d ∷ [])
-  put_last before after blank d pushed = ap (λ t. slice_set t (length before) d) pushed ∙ set-append_seam before blank [] d
 
   pub added_more : (bytes rest : List ℕ) (i size : ℕ) (before so after : List D) (d : D) (next left : List ℕ)
       → AddedSoFar reads model bytes rest i before so → after ≡ so ++ (d ∷ []) → next ≡ take size rest → left ≡ drop size rest → reads next (model d)

@@ -1,5 +1,5 @@
 -- What exits answer.
-use Rattle.std.proofs.Common.{◌≡◌, refl, ℕ, ◌<◌, arith}
+use Rattle.std.proofs.Common.{refl, ℕ, ◌<◌, arith}
 use Rattle.wincode_base.specs.Outcomes.{PieceReadRefused}
 use Rattle.wincode_base.specs.Tags.{TagReadRefused}
 use Rattle.wincode_base.specs.declared.error.ReadError.{ReadError}

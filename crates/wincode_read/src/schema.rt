@@ -29,9 +29,6 @@ use wincode_base::error::{ReadError, ReadResult};
 use wincode_base::meta::TypeMeta;
 use wincode_io::{Lending, Reader};
 
-/// How many bytes are copied before they are decoded, at the most.
-const FEW: usize = 64;
-
 /// Reads values of a type.
 pub trait SchemaRead<L: Lending> {
     type Dst: Drop;
@@ -100,8 +97,7 @@ pub trait SchemaRead<L: Lending> {
         false
     }
 
-    /// As `decode`, a value for each place, whose encodings stand one after another. A few bytes are copied first, so that
-    /// it is known that none of them lies where a value is put.
+    /// As `decode`, a value for each place, whose encodings stand one after another.
     #[inline(always)]
     final fn take_over(bytes: &[u8], places: &mut [Self::Dst]) -> bool
         ensures { IsTrue result → AreItems (length places.old) reading.reads bytes.now (map model places.new) }
@@ -109,19 +105,13 @@ pub trait SchemaRead<L: Lending> {
         let TypeMeta::Static { size, .. } = Self::type_meta() else {
             return false;
         };
-        let total = match places.len().checked_mul(size) {
-            Some(total) if total == bytes.len() => total,
+        match places.len().checked_mul(size) {
+            Some(total) if total == bytes.len() => (),
             _ => return false,
-        };
-        let mut block = [0; FEW];
-        let mut all = bytes;
-        if total <= FEW {
-            block[..total].copy_from_slice(bytes);
-            all = &block[..total];
         }
         for i in 0..places.len() {
             let at = i * size;
-            if !Self::decode(&all[at..at + size], &mut places[i]) {
+            if !Self::decode(&bytes[at..at + size], &mut places[i]) {
                 return false;
             }
         }

@@ -60,23 +60,20 @@ pub(crate) fn get_at_hand<L: Lending, T: SchemaRead<L>, R: Reader<L>>(
     Some(value)
 }
 
-/// Adds the value that reads from all of the bytes to the list, where its schema decodes it; where this answers that it
-/// did not, a value may have been added.
+/// Adds the value that reads from all of the bytes to the list, where its schema decodes it; else the list is as it was.
+/// It is put together first and then moved: so it is known that none of the bytes lies where a part of it is put.
 #[inline(always)]
 pub(crate) fn add_decoded<L: Lending, T: SchemaRead<L>>(
     bytes: &[u8],
     into: &mut Vec<T::Dst>,
 ) -> bool
-    ensures { (ds : List T.Dst) × (into.new.items ≡ into.old.items ++ ds) × (IsTrue result → (d : T.Dst) × (ds ≡ d ∷ []) × T.reading.reads bytes.now (T.model d)) }
+    ensures added { IsTrue result → (d : T.Dst) × T.reading.reads bytes.now (T.model d) × (into.new.items ≡ into.old.items ++ d ∷ []) }
+    ensures left { result ≡ false → into.new.items ≡ into.old.items }
 {
-    let Some(blank) = T::blank() else {
-        return false;
-    };
-    let last = into.len();
-    if into.push(blank).is_err() {
-        return false;
+    match decoded::<L, T>(bytes) {
+        Some(value) => into.push(value).is_ok(),
+        None => false,
     }
-    T::decode(bytes, &mut into[last])
 }
 
 /// Adds `n` values to the list, where their bytes are at hand and their schema decodes them. Else the reader and the

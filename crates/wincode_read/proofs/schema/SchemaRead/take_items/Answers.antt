@@ -1,4 +1,4 @@
-use Rattle.std.proofs.Common.{refl, sym, true≢false, rules, arith, ◌∙◌, ap, ◌++◌, append_assoc}
+use Rattle.std.proofs.Common.{refl, sym, true≢false, rules, arith, ◌∙◌}
 use Rattle.wincode_base.proofs.Decoding.{added_none, added_more, added_all}
 use Rattle.wincode_read.proofs.schema.SchemaRead.take_items.Goals as goal
 
@@ -9,20 +9,18 @@ pub returns-then-rest-size : goal.returns-then-rest-size
 returns-then-rest-size g c = (c.loop-i.invariant.items, c.loop-i.invariant.is, λ t. absurd (true≢false (sym t)))
 
 pub returns-then-not-add_decoded : goal.returns-then-not-add_decoded
-returns-then-not-add_decoded g c =
-    let more = c.add_decoded.ensures in (
-      c.loop-i.invariant.items ++ more.0,
-      more.1 ∙ ap (λ t. t ++ more.0) c.loop-i.invariant.is ∙ append_assoc _ c.loop-i.invariant.items more.0,
-      λ t. absurd (true≢false (sym t)),
-    )
+returns-then-not-add_decoded g c = (
+  c.loop-i.invariant.items,
+  c.if-not-add_decoded.ensures.left refl ∙ c.loop-i.invariant.is,
+  λ t. absurd (true≢false (sym t)),
+)
 
 pub loop-i-preserved : goal.loop-i-preserved
 loop-i-preserved g c =
     let T = g.Self.SchemaRead in
-    let more = c.if-not-add_decoded.ensures in
-    let one = more.2 refl in
-    added_more T.reading.reads T.model _ _ _ c.in-Static.size _ _ _ one.0 _ _ c.loop-i.invariant
-    (more.1 ∙ ap (λ t. c.loop-i.into.items ++ t) one.1) c.split_at.ensures.front c.split_at.ensures.back one.2
+    let one = c.if-not-add_decoded.ensures.added refl in
+    added_more T.reading.reads T.model _ _ _ c.in-Static.size _ _ _ one.0 _ _ c.loop-i.invariant one.2 c.split_at.ensures.front
+    c.split_at.ensures.back one.1
 
 pub returns : goal.returns
 returns g c =

@@ -6,7 +6,7 @@ use Rattle.wincode_read.proofs.schema.SchemaRead.take_over.Goals as goal
 pub loop-i-preserved : goal.loop-i-preserved
 loop-i-preserved g c =
     let T = g.Self.SchemaRead in
-    let bytes = c.if-total-le-FEW.all.now in
+    let bytes = c.args.bytes.now in
     let at = c.loop-i.i * c.in-Static.size in
     let within : c.loop-i.i < length c.loop-i.places = omega (arith, c.loop-i-test.true, c.loop-i.auto.places) in
     let next : (c.loop-i.i + 1) * c.in-Static.size ≡ at + c.in-Static.size = grind arith in
