@@ -66,7 +66,7 @@ fn are_written_alike<S: SchemaWrite<Src = Event>>(
     events: &Vec<Event>,
     size: usize,
 ) -> Result<bool, Fail> {
-    for room in 0..size + 2 {
+    for room in 0..size.saturating_add(2) {
         let one = written_into::<S>(alloc, events, room)?;
         let other = written_into::<Single<S>>(alloc, events, room)?;
         let is_whole = one.0.len() == size && one.1.is_empty();
