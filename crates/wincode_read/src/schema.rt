@@ -22,7 +22,7 @@ pub mod tags;
 mod tuples;
 mod views;
 
-use crate::schema::at_hand::{add_at_hand, add_decoded, add_each};
+use crate::schema::at_hand::{add_at_hand, add_decoded, add_each, get_at_hand, get_by_read};
 pub use crate::schema::leaves::read_bytes;
 use std::alloc::Global;
 use wincode_base::error::{ReadError, ReadResult};
@@ -177,19 +177,17 @@ pub trait SchemaRead<L: Lending> {
 /// own types: beside an error that names a lifetime, the borrow checker takes no array whose length is
 /// a parameter.
 pub trait SchemaGet<L: Lending>: SchemaRead<L> {
-    /// As `read`, and gives the value.
+    /// As `read`, and gives the value: by one look at the bytes at hand, where they are all there and its schema decodes it.
     fn get<R: Reader<L>>(alloc: Global, reader: &mut R) -> ReadResult<Self::Dst>
         ensures { GetOutcome Self.SchemaRead.reading Self.SchemaRead.model (R.state reader.old) (R.state reader.new) result };
 }
 
 impl<L: Lending, T: SchemaRead<L>> SchemaGet<L> for T {
-    #[inline]
+    #[inline(always)]
     fn get<R: Reader<L>>(alloc: Global, reader: &mut R) -> ReadResult<T::Dst> {
-        let mut dst = None;
-        T::read(alloc, reader, &mut dst)?;
-        match dst {
+        match get_at_hand::<L, T, R>(reader) {
             Some(value) => Ok(value),
-            None => unreachable!(),
+            None => get_by_read::<L, T, R>(alloc, reader),
         }
     }
 }

@@ -4,7 +4,7 @@ use Rattle.std.proofs.Common.{◌∙◌, sym, inl, inr}
 use Rattle.wincode_base.proofs.ReadAnswers.{get_refused, get_map}
 use Rattle.wincode_base.proofs.InWindow.{sized_of, window_gives, window_refuses, dynamic_place, static_place}
 use Rattle.wincode_base.specs.InWindow.{windowed_read}
-use Rattle.wincode_read.proofs.schema.in_window.get_windowed.Goals as goal
+use Rattle.wincode_read.proofs.schema.in_window.get_in_window.Goals as goal
 
 pub returns-in_ok-window-in-Static : goal.returns-in_ok-window-in-Static
 returns-in_ok-window-in-Static g c =
