@@ -37,12 +37,12 @@ pub(crate) fn front_at_hand<L: Lending, R: Reader<L>>(
 pub(crate) fn decoded<L: Lending, T: SchemaRead<L>>(bytes: &[u8]) -> Option<T::Dst>
     ensures { IfSome result (λ d. T.reading.reads bytes.now (T.model d)) }
 {
-    let mut value = T::blank()?;
-    if T::decode(bytes, &mut value) {
-        Some(value)
-    } else {
-        None
-    }
+    let mut value = T::blank();
+    let is_decoded = match &mut value {
+        Some(place) => T::decode(bytes, place),
+        None => false,
+    };
+    if is_decoded { value } else { None }
 }
 
 /// The value at the front, where its bytes are at hand and its schema decodes it. Else the reader is as it was.
@@ -55,9 +55,11 @@ pub(crate) fn get_at_hand<L: Lending, T: SchemaRead<L>, R: Reader<L>>(
 {
     let bytes = front_at_hand::<L, R>(reader, 1, T::type_meta())?;
     let size = bytes.len();
-    let value = decoded::<L, T>(bytes)?;
-    reader.consume_unchecked(size);
-    Some(value)
+    let value = decoded::<L, T>(bytes);
+    if value.is_some() {
+        reader.consume_unchecked(size);
+    }
+    value
 }
 
 /// The value that `read` puts into an empty destination.
