@@ -22,7 +22,7 @@ pub mod tags;
 mod tuples;
 mod views;
 
-use crate::schema::at_hand::{add_at_hand, add_decoded, add_each, get_at_hand, get_by_read};
+use crate::schema::at_hand::{add_at_hand, add_decoded, add_each, get_by_read, read_over};
 pub use crate::schema::leaves::read_bytes;
 use std::alloc::Global;
 use wincode_base::error::{ReadError, ReadResult};
@@ -185,9 +185,11 @@ pub trait SchemaGet<L: Lending>: SchemaRead<L> {
 impl<L: Lending, T: SchemaRead<L>> SchemaGet<L> for T {
     #[inline(always)]
     fn get<R: Reader<L>>(alloc: Global, reader: &mut R) -> ReadResult<T::Dst> {
-        match get_at_hand::<L, T, R>(reader) {
-            Some(value) => Ok(value),
-            None => get_by_read::<L, T, R>(alloc, reader),
+        if let Some(mut value) = T::blank() {
+            if read_over::<L, T, R>(reader, &mut value) {
+                return Ok(value);
+            }
         }
+        get_by_read::<L, T, R>(alloc, reader)
     }
 }

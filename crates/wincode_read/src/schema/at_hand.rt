@@ -1,5 +1,5 @@
 //! Values from bytes that are at hand. What is not given here is read the long way, which says why.
-ghost use Rattle.std.specs.Prelude.{◌≡◌, ◌≤◌, [], ◌∷◌, ◌++◌, List, length, false, IsTrue, IfSome, IfNone, IfErr, OnOk};
+ghost use Rattle.std.specs.Prelude.{◌≡◌, ◌≤◌, [], ◌∷◌, ◌++◌, List, length, false, IsTrue, IfSome, IfErr, OnOk};
 ghost use Rattle.wincode_base.specs.Lists.{items_read};
 ghost use Rattle.wincode_base.specs.Outcomes.{Gives, Adds, SchemaReadRefused, GetOutcome};
 ghost use Rattle.wincode_io.specs.Readers.{IsShown};
@@ -37,29 +37,33 @@ pub(crate) fn front_at_hand<L: Lending, R: Reader<L>>(
 pub(crate) fn decoded<L: Lending, T: SchemaRead<L>>(bytes: &[u8]) -> Option<T::Dst>
     ensures { IfSome result (λ d. T.reading.reads bytes.now (T.model d)) }
 {
-    let mut value = T::blank();
-    let is_decoded = match &mut value {
-        Some(place) => T::decode(bytes, place),
-        None => false,
-    };
-    if is_decoded { value } else { None }
+    let mut value = T::blank()?;
+    if T::decode(bytes, &mut value) {
+        Some(value)
+    } else {
+        None
+    }
 }
 
-/// The value at the front, where its bytes are at hand and its schema decodes it. Else the reader is as it was.
+/// Reads the value at the front over that in the place, where its bytes are at hand and its schema decodes it. Where this
+/// answers that it did not, the reader is as it was, and any value may be in the place.
 #[inline(always)]
-pub(crate) fn get_at_hand<L: Lending, T: SchemaRead<L>, R: Reader<L>>(
+pub(crate) fn read_over<L: Lending, T: SchemaRead<L>, R: Reader<L>>(
     reader: &mut R,
-) -> Option<T::Dst>
-    ensures some { IfSome result (λ d. Gives T.reading.reads (R.state reader.old) (R.state reader.new) (T.model d)) }
-    ensures none { IfNone result (R.state reader.new ≡ R.state reader.old) }
+    place: &mut T::Dst,
+) -> bool
+    ensures read { IsTrue result → Gives T.reading.reads (R.state reader.old) (R.state reader.new) (T.model place.new) }
+    ensures left { result ≡ false → R.state reader.new ≡ R.state reader.old }
 {
-    let bytes = front_at_hand::<L, R>(reader, 1, T::type_meta())?;
+    let Some(bytes) = front_at_hand::<L, R>(reader, 1, T::type_meta()) else {
+        return false;
+    };
     let size = bytes.len();
-    let value = decoded::<L, T>(bytes);
-    if value.is_some() {
-        reader.consume_unchecked(size);
+    if !T::decode(bytes, place) {
+        return false;
     }
-    value
+    reader.consume_unchecked(size);
+    true
 }
 
 /// The value that `read` puts into an empty destination.
