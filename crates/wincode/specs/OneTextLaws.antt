@@ -1,16 +1,21 @@
 -- The laws of schemas whose values have one encoding each, and of those that ask for no borrow, from those of their parts.
-use Rattle.std.proofs.Common.{◌≡◌, ◌∙◌, sym, ap, ℕ, Bool, List, [], ◌∷◌, ◌++◌, length, max, arith, Option, Some, None, Result, Ok, Err}
+use Rattle.std.proofs.Common.{◌≡◌, ◌∙◌, sym, ap, subst, ℕ, Bool, true, List, [], ◌∷◌, ◌++◌, length, max, arith, Option, Some, None, Result, Ok, Err}
 use Rattle.std.specs.Int.{Width}
+use Rattle.std.specs.declared.ops.Bound.{Bound}
+use Rattle.std.specs.declared.ops.Bound.TheVariants.{Included, Excluded, Unbounded}
 use Rattle.wincode_io.specs.Joins.{Joined}
 use Rattle.wincode_io.specs.Numbers.{le}
 use Rattle.wincode_io.specs.Writers.{byte_limit}
 use Rattle.wincode_base.specs.Arrays.{array_read}
 use Rattle.wincode_base.specs.Grammar.{ReadGrammar, ReadRefusal}
+use Rattle.wincode_base.specs.Bounds.{bound_tag, BoundReads, bound_part_read, bound_read}
 use Rattle.wincode_base.specs.Boxed.{boxed_read}
+use Rattle.wincode_base.specs.CStrings.{IsText, bytes_seen, c_string_read, is_nul}
 use Rattle.wincode_base.specs.InWindow.{windowed_read}
 use Rattle.wincode_base.specs.Leaves.{number_read, signed_read, bool_read, unit_read}
-use Rattle.wincode_base.specs.Lengths.{Scheme, bincode}
+use Rattle.wincode_base.specs.Lengths.{Scheme, bincode, preallocation_limit}
 use Rattle.wincode_base.specs.Lists.{list_read}
+use Rattle.wincode_base.specs.Made.{IsNot, IsSame, made_read}
 use Rattle.wincode.specs.OneText.{IsOneText}
 use Rattle.wincode_base.specs.Pairs.{pair_read}
 use Rattle.wincode_base.specs.Short.{short_read}
@@ -106,6 +111,14 @@ sides_one_text {g = g} {h = h} one two = record { same = sides_same g h one two 
 pub result_one_text : {V W : Type 0} (k : ℕ) {g : ReadGrammar V} {h : ReadGrammar W} → IsOneText g → IsOneText h → IsOneText (result_read k g h)
 result_one_text k {g = g} {h = h} one two = tagged_one_text k result_tag {part = sides_read g h} (sides_one_text one two)
 
+bound_same : {V : Type 0} (g : ReadGrammar V) → IsOneText g → (a b : List ℕ) (o : Bound V) → BoundReads g.reads a o → BoundReads g.reads b o → a ≡ b
+bound_same g one a b Unbounded p q = p ∙ sym q
+bound_same g one a b (Included v) p q = one.same a b v p q
+bound_same g one a b (Excluded v) p q = one.same a b v p q
+
+pub bound_one_text : {V : Type 0} {g : ReadGrammar V} → IsOneText g → IsOneText (bound_read g)
+bound_one_text {g = g} one = tagged_one_text 4 bound_tag {part = bound_part_read g} (record { same = bound_same g one })
+
 -- ---- what is held
 
 pub boxed_one_text : {V : Type 0} {g : ReadGrammar V} → IsOneText g → IsOneText (boxed_read g)
@@ -116,3 +129,25 @@ boxed_one_text one = record { same = one.same }
 -- two parts ask for none, where neither does
 pub both_owned : {m n : ℕ} → m ≡ 0 → n ≡ 0 → max m n ≡ 0
 both_owned p q = omega (arith, p, q)
+
+-- ---- what is made of parts
+
+-- no two parts make the same
+pub made_one_text : {X V : Type 0} (see : X → V) (made : X → X → Type 0) (text : List ℕ) {g : ReadGrammar V}
+    → ((p q r s : X) → see q ≡ see s → made p q → made r s → see p ≡ see r) → IsOneText g → IsOneText (made_read see made text g)
+made_one_text see made text {g = g} apart one = record {
+  same = λ a b w p q. one.same a b (see p.0) p.2 (subst (λ u. g.reads b u) (sym (apart p.0 p.1 q.0 q.1 (p.4 ∙ sym q.4) p.3 q.3)) q.2);
+}
+
+pub numbers_apart : {X V : Type 0} (see : X → V) (none p q r s : X) → see q ≡ see s → IsNot none p q → IsNot none r s → see p ≡ see r
+numbers_apart see none p q r s e h k = sym (ap see h.0) ∙ e ∙ ap see k.0
+
+pub same_apart : {X V : Type 0} (see : X → V) (p q r s : X) → see q ≡ see s → IsSame p q → IsSame r s → see p ≡ see r
+same_apart see p q r s e h k = sym (ap see h) ∙ e ∙ ap see k
+
+-- ---- C strings
+
+pub c_string_one_text : IsOneText c_string_read
+c_string_one_text =
+    let held = boxed_one_text (list_one_text (bincode preallocation_limit) 24 (number_one_text 1 true)) in
+    record { same = (made_one_text bytes_seen IsText is_nul (λ p q r s e h k. sym (ap bytes_seen h.0) ∙ e ∙ ap bytes_seen k.0) held).same }

@@ -4,6 +4,7 @@
 //! What `schema::lists` says of its lists holds here, with the length's encoding, its limit and its refusals
 //! those of the scheme. All arguments are written.
 ghost use Rattle.std.specs.Prelude.{◌≡◌, ℕ, Bool, List, map};
+ghost use Rattle.std.specs.Arc.{arc_slice_items};
 ghost use Rattle.std.specs.BinaryHeap.{heap_items};
 ghost use Rattle.std.specs.Box.{boxed_slice_items};
 ghost use Rattle.std.specs.List.Sorted.{IsPermutation};
@@ -27,7 +28,7 @@ use crate::len::SeqLen;
 use crate::schema::{RoundTrip, SchemaRead, SchemaWrite};
 use std::alloc::Global;
 use std::marker::PhantomData;
-use std::{boxed, collections, option, rc, vec};
+use std::{boxed, collections, option, rc, sync, vec};
 pub use tagged::{Option, Result};
 use wincode_base::error::{ReadResult, WriteResult};
 use wincode_base::meta::TypeMeta;
@@ -496,6 +497,121 @@ where
     T::Src: Drop,
 {
     ghost reads_back = { list_reads_back Len.scheme Len.scheme_laws 16 (λ r. (rc_slice_items r))
+        T.SchemaWrite.is_valid T.SchemaWrite.model T.SchemaWrite.writing T.SchemaRead.model T.SchemaRead.reading
+        T.reads_back };
+}
+
+/// The same, counted so that threads may share it.
+pub struct ArcSlice<T, Len>(PhantomData<(T, Len)>);
+
+impl<T: SchemaWrite, Len: SeqLen> SchemaWrite for ArcSlice<T, Len> {
+    type Src = sync::ArcSlice<T::Src>;
+
+    ghost Value = { List T.Value };
+
+    ghost model = { λ a. map T.model (arc_slice_items a) };
+
+    ghost is_valid = { λ a. Each T.is_valid (arc_slice_items a) };
+
+    ghost writing = { list_write Len.scheme 16 T.writing };
+
+    fn type_meta() -> TypeMeta {
+        TypeMeta::Dynamic
+    }
+
+    fn size_of(src: &sync::ArcSlice<T::Src>) -> WriteResult<usize> {
+        size_of_list::<Len, T, &[T::Src], 16>(&src.as_slice())
+    }
+
+    fn write<W: Writer>(writer: &mut W, src: &sync::ArcSlice<T::Src>) -> WriteResult<()> {
+        let size = ItemSize::of(T::type_meta());
+        write_list::<Len, T, &[T::Src], W, 16>(writer, &src.as_slice(), size)
+    }
+
+    #[inline]
+    fn encode_front(src: &sync::ArcSlice<T::Src>, dst: &mut [u8]) -> option::Option<usize> {
+        encode_list::<Len, T, 16>(src.as_slice(), dst)
+    }
+
+    #[inline(always)]
+    fn write_at_once<W: Writer>(
+        writer: &mut W,
+        items: &[Self::Src],
+    ) -> option::Option<WriteResult<()>> {
+        let _ = &*writer;
+        let _items = items.len();
+        None
+    }
+
+    #[inline(always)]
+    fn known_size() -> option::Option<usize> {
+        None
+    }
+
+    ghost write_laws = { list_write_laws Len.scheme 16 (λ a. arc_slice_items a) T.is_valid T.model T.writing T.write_laws };
+}
+
+impl<L: Lending, T: SchemaRead<L>, Len: SeqLen> SchemaRead<L> for ArcSlice<T, Len> {
+    type Dst = sync::ArcSlice<T::Dst>;
+
+    ghost Value = { List T.Value };
+
+    ghost model = { λ a. map T.model (arc_slice_items a) };
+
+    ghost is_valid = { Each T.is_valid };
+
+    ghost reading = { list_read Len.scheme 16 T.reading };
+
+    fn type_meta() -> TypeMeta {
+        TypeMeta::Dynamic
+    }
+
+    fn prealloc_size() -> usize {
+        16
+    }
+
+    fn read<R: Reader<L>>(
+        alloc: Global,
+        reader: &mut R,
+        dst: &mut option::Option<sync::ArcSlice<T::Dst>>,
+    ) -> ReadResult<()> {
+        *dst = Some(get_list::<sync::ArcSlice<T::Dst>, Len, L, T, R>(alloc, reader)?);
+        Ok(())
+    }
+
+    #[inline(always)]
+    fn read_at_once<R: Reader<L>>(
+        alloc: Global,
+        reader: &mut R,
+        n: usize,
+        into: &mut vec::Vec<Self::Dst>,
+    ) -> option::Option<ReadResult<()>> {
+        let _ = (alloc, n);
+        let _ = &*reader;
+        let _ = &*into;
+        None
+    }
+
+    #[inline(always)]
+    fn blank() -> option::Option<Self::Dst> {
+        None
+    }
+
+    #[inline(always)]
+    fn decode(bytes: &[u8], place: &mut Self::Dst) -> bool {
+        let _ = bytes.len();
+        let _ = &*place;
+        false
+    }
+
+    ghost read_laws = { list_read_laws Len.scheme Len.scheme_laws 16 (lit≤ tt) T.is_valid T.reading T.read_laws };
+}
+
+impl<L: Lending, T: RoundTrip<L>, Len: SeqLen> RoundTrip<L> for ArcSlice<T, Len>
+where
+    T::Src: Drop,
+{
+    ghost reads_back = { list_reads_back Len.scheme Len.scheme_laws 16 (λ a. arc_slice_items a)
         T.SchemaWrite.is_valid T.SchemaWrite.model T.SchemaWrite.writing T.SchemaRead.model T.SchemaRead.reading
         T.reads_back };
 }

@@ -8,6 +8,8 @@ mod leaves;
 mod lists;
 mod numbers;
 mod parts;
+mod std_types;
+mod texts;
 mod tuples;
 
 use crate::len::{BincodeLen, SeqLen, ShortU16};

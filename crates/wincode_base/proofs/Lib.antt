@@ -13,6 +13,10 @@ pub mod Strings
 pub mod Arrays
 pub mod InWindow
 pub mod Tags
+pub mod Bounds
 pub mod Views
 pub mod FormRuns
+pub mod Floats
 pub mod WriteAnswers
+pub mod Made
+pub mod CStrings

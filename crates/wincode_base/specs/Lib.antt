@@ -30,7 +30,14 @@ pub mod ScatteredLaws
 pub mod BackLaws
 pub mod Keys
 pub mod KeyLaws
+pub mod AddressLaws
 pub mod Views
 pub mod ViewLaws
 pub mod AsForms
 pub mod JoinedSizes
+pub mod Made
+pub mod MadeLaws
+pub mod FloatLaws
+pub mod Bounds
+pub mod BoundLaws
+pub mod CStrings

@@ -5,12 +5,14 @@ ghost use Rattle.wincode_base.specs.KeyLaws.{nat_decidable, bool_decidable, unit
 ghost use Rattle.wincode_base.specs.Keys.{IsAlike, IsDecidable};
 
 mod numbers;
+mod std_types;
 mod tuples;
 
 use crate::schema::SchemaRead;
 use std::collections::{BTreeMap, BTreeSet, LinkedList, VecDeque};
 use std::marker::PhantomData;
 use std::rc::Rc;
+use std::sync::Arc;
 use wincode_io::{Lending, Lifetime};
 
 /// Keys of maps and items of sets: where the same is seen of two, they are equal. So an encoding reads as one
@@ -80,6 +82,13 @@ where
 }
 
 impl<L: Lending, T: Key<L>> Key<L> for Rc<T>
+where
+    T::Dst: Eq,
+{
+    ghost alike = { λ x y. T.alike x.value y.value };
+}
+
+impl<L: Lending, T: Key<L>> Key<L> for Arc<T>
 where
     T::Dst: Eq,
 {
@@ -160,6 +169,10 @@ impl<L: Lending, T: Told<L>> Told<L> for Box<T> {
 }
 
 impl<L: Lending, T: Told<L>> Told<L> for Rc<T> {
+    ghost told = { T.told };
+}
+
+impl<L: Lending, T: Told<L>> Told<L> for Arc<T> {
     ghost told = { T.told };
 }
 

@@ -8,12 +8,14 @@ ghost use Rattle.wincode_base.specs.Outcomes.{ReadOutcome, GetOutcome};
 mod arrays;
 mod as_forms;
 mod at_hand;
+mod bounds;
 mod boxes;
 pub mod from_items;
 mod heaps;
 mod in_window;
 mod leaves;
 mod lists;
+mod made;
 mod maps;
 mod pod;
 mod short;
@@ -21,8 +23,9 @@ mod strings;
 pub mod tags;
 mod tuples;
 mod views;
+mod wrapped;
 
-use crate::schema::at_hand::{add_at_hand, add_decoded, add_each, get_by_read, read_over};
+use crate::schema::at_hand::{add_at_hand, add_decoded, add_each, read_over};
 pub use crate::schema::leaves::read_bytes;
 use std::alloc::Global;
 use wincode_base::error::{ReadError, ReadResult};
@@ -190,6 +193,11 @@ impl<L: Lending, T: SchemaRead<L>> SchemaGet<L> for T {
                 return Ok(value);
             }
         }
-        get_by_read::<L, T, R>(alloc, reader)
+        let mut dst = None;
+        T::read(alloc, reader, &mut dst)?;
+        match dst {
+            Some(value) => Ok(value),
+            None => unreachable!(),
+        }
     }
 }

@@ -2,3 +2,4 @@ mod Exits
 mod Pending
 mod Walked
 pub mod Fronts
+pub mod Parts

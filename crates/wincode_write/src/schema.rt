@@ -7,12 +7,14 @@ ghost use Rattle.wincode_base.specs.Outcomes.{IsSized, IsEncoded, SizeRefused, W
 
 mod arrays;
 mod as_forms;
+mod bounds;
 mod boxes;
 mod encoded;
 mod heaps;
 mod in_window;
 mod leaves;
 mod lists;
+mod made;
 mod maps;
 mod pod;
 mod references;
@@ -23,6 +25,7 @@ pub mod tags;
 pub mod to_items;
 pub mod tuples;
 mod views;
+mod wrapped;
 
 use wincode_base::error::WriteResult;
 use wincode_base::meta::TypeMeta;

@@ -1,10 +1,11 @@
 //! Keys of maps and items of heaps: a list, an option or a result behind a scheme of choice may be one where its
 //! parts may.
+ghost use Rattle.std.specs.Arc.{arc_slice_items};
 ghost use Rattle.std.specs.Box.{boxed_slice_items};
 ghost use Rattle.std.specs.Rc.{rc_slice_items};
 ghost use Rattle.wincode_base.specs.KeyLaws.{items_alike, option_alike, result_alike, items_decidable, option_decidable, result_told};
 
-use super::{BoxedSlice, Elem, Option, RcSlice, Result, Vec, VecDeque};
+use super::{ArcSlice, BoxedSlice, Elem, Option, RcSlice, Result, Vec, VecDeque};
 use crate::io::Lending;
 use crate::len::SeqLen;
 use crate::tag::TagCode;
@@ -36,6 +37,13 @@ where
     T::Dst: Eq,
 {
     ghost alike = { λ x y. items_alike T.alike (rc_slice_items x) (rc_slice_items y) };
+}
+
+impl<L: Lending, T: Key<L>, Len: SeqLen> Key<L> for ArcSlice<T, Len>
+where
+    T::Dst: Eq,
+{
+    ghost alike = { λ x y. items_alike T.alike (arc_slice_items x) (arc_slice_items y) };
 }
 
 impl<L: Lending, T: Key<L>, Tag: TagCode> Key<L> for Option<T, Tag>
@@ -73,6 +81,10 @@ impl<L: Lending, T: Told<L>, Len: SeqLen> Told<L> for BoxedSlice<T, Len> {
 }
 
 impl<L: Lending, T: Told<L>, Len: SeqLen> Told<L> for RcSlice<T, Len> {
+    ghost told = { items_decidable T.told };
+}
+
+impl<L: Lending, T: Told<L>, Len: SeqLen> Told<L> for ArcSlice<T, Len> {
     ghost told = { items_decidable T.told };
 }
 

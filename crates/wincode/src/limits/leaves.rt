@@ -6,6 +6,7 @@ use crate::io::{SharedBytes, SliceView, View, ZeroCopy};
 use crate::len::{BincodeLen, NO_LIMIT, PREALLOCATION_LIMIT, ShortU16};
 use crate::limits::lists::list_is_within;
 use crate::limits::{Limited, LimitedLen};
+use std::borrow::CowStr;
 use std::marker::PhantomData;
 use wincode_write::schema::to_items::ToItems;
 
@@ -90,6 +91,18 @@ impl Limited for String {
 
     fn is_within(src: &String) -> bool {
         src.len() <= PREALLOCATION_LIMIT
+    }
+}
+
+impl<'s> Limited for CowStr<'s> {
+    fn counts() -> usize
+        ensures { result ≡ 24 }
+    {
+        24
+    }
+
+    fn is_within(src: &CowStr<'s>) -> bool {
+        src.as_str().len() <= PREALLOCATION_LIMIT
     }
 }
 

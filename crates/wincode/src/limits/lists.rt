@@ -7,10 +7,13 @@ use crate::containers;
 use crate::len::{BincodeLen, PREALLOCATION_LIMIT};
 use crate::limits::{Limited, LimitedLen};
 use crate::schema::tuples::Members2;
+use std::borrow::CowSlice;
 use std::boxed::BoxedSlice;
 use std::collections::{BTreeMap, BTreeSet, BinaryHeap, HashMap, HashSet, LinkedList, VecDeque};
+use std::ffi::CString;
 use std::hash::Hash;
 use std::rc::RcSlice;
+use std::sync::ArcSlice;
 use wincode_write::schema::to_items::ToItems;
 
 /// The lengths of plain lists.
@@ -138,6 +141,32 @@ impl<T: Limited> Limited for Vec<T> {
 
     fn is_within(src: &Vec<T::Src>) -> bool {
         list_is_within::<PlainLen, T, &[T::Src]>(&src.as_slice())
+    }
+}
+
+impl<'s, U: 's, T: Limited<Src = U>> Limited for CowSlice<'s, T> {
+    fn counts() -> usize
+        ensures { result ≡ 24 }
+    {
+        24
+    }
+
+    fn is_within(src: &CowSlice<'s, U>) -> bool {
+        list_is_within::<PlainLen, T, &[U]>(&src.as_slice())
+    }
+}
+
+impl Limited for CString {
+    fn counts() -> usize {
+        24
+    }
+
+    fn has_no_limits() -> bool {
+        false
+    }
+
+    fn is_within(src: &CString) -> bool {
+        list_is_within::<PlainLen, u8, &[u8]>(&src.as_bytes())
     }
 }
 
@@ -290,6 +319,16 @@ impl<T: Limited, Len: LimitedLen> Limited for containers::RcSlice<T, Len> {
     }
 
     fn is_within(src: &RcSlice<T::Src>) -> bool {
+        list_is_within::<Len, T, &[T::Src]>(&src.as_slice())
+    }
+}
+
+impl<T: Limited, Len: LimitedLen> Limited for containers::ArcSlice<T, Len> {
+    fn counts() -> usize {
+        16
+    }
+
+    fn is_within(src: &ArcSlice<T::Src>) -> bool {
         list_is_within::<Len, T, &[T::Src]>(&src.as_slice())
     }
 }

@@ -4,7 +4,9 @@ use crate::limits::Limited;
 use crate::limits::lists::AllWithin;
 use crate::schema::tuples::Members2;
 use crate::tag::TagCode;
+use std::ops::Bound;
 use std::rc::Rc;
+use std::sync::Arc;
 
 impl<T: Limited> Limited for Box<T> {
     fn counts() -> usize {
@@ -30,6 +32,20 @@ impl<T: Limited> Limited for Rc<T> {
     }
 
     fn is_within(src: &Rc<T::Src>) -> bool {
+        T::is_within(src.as_ref())
+    }
+}
+
+impl<T: Limited> Limited for Arc<T> {
+    fn counts() -> usize {
+        8
+    }
+
+    fn has_no_limits() -> bool {
+        T::has_no_limits()
+    }
+
+    fn is_within(src: &Arc<T::Src>) -> bool {
         T::is_within(src.as_ref())
     }
 }
@@ -61,6 +77,24 @@ impl<T: Limited> Limited for Option<T> {
         match src {
             None => true,
             Some(part) => T::is_within(part),
+        }
+    }
+}
+
+impl<T: Limited> Limited for Bound<T> {
+    fn counts() -> usize {
+        T::counts()
+    }
+
+    fn has_no_limits() -> bool {
+        T::has_no_limits()
+    }
+
+    fn is_within(src: &Bound<T::Src>) -> bool {
+        match src {
+            Bound::Unbounded => true,
+            Bound::Included(value) => T::is_within(value),
+            Bound::Excluded(value) => T::is_within(value),
         }
     }
 }

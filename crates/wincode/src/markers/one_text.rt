@@ -4,16 +4,21 @@ ghost use Rattle.wincode_io.specs.Readers.{shared, for_writing};
 ghost use Rattle.wincode_base.specs.Lengths.{bincode, preallocation_limit};
 ghost use Rattle.wincode_base.specs.Views.{form_prealloc, ViewReadRefused, PodReadRefused};
 ghost use Rattle.wincode.specs.OneTextLaws.{number_one_text, bool_one_text, unit_one_text, char_one_text, str_one_text, short_one_text};
-ghost use Rattle.wincode.specs.OneTextLaws.{windowed_one_text, array_one_text, list_one_text, option_one_text, result_one_text, boxed_one_text, form_one_text, lent_one_text};
+ghost use Rattle.wincode.specs.OneTextLaws.{windowed_one_text, array_one_text, list_one_text, option_one_text, result_one_text};
+ghost use Rattle.wincode.specs.OneTextLaws.{bound_one_text, boxed_one_text, c_string_one_text, form_one_text, lent_one_text};
 
 use crate::containers::{self, Pod};
 use crate::io::{Borrowed, Lending, SliceView, View, ZeroCopy};
 use crate::len::{SeqLen, ShortU16};
 use crate::markers::OneText;
 use crate::tag::TagCode;
+use std::borrow::{CowSlice, CowStr};
 use std::collections::{LinkedList, VecDeque};
+use std::ffi::CString;
 use std::marker::PhantomData;
+use std::ops::Bound;
 use std::rc::Rc;
+use std::sync::Arc;
 
 impl<L: Lending> OneText<L> for bool {
     ghost one_text = { bool_one_text };
@@ -37,6 +42,26 @@ impl<L: Lending> OneText<L> for String {
 
 impl<'s, L: Lending> OneText<L> for &'s str {
     ghost one_text = { str_one_text 16 1 true };
+}
+
+impl<'s, L: Lending> OneText<L> for CowStr<'s> {
+    ghost one_text = { str_one_text 24 0 false };
+}
+
+impl<L: Lending> OneText<L> for CString {
+    ghost one_text = { c_string_one_text };
+}
+
+impl<'s, L: Lending, T: OneText<L>> OneText<L> for CowSlice<'s, T>
+where
+    T: 's,
+    T::Dst: 's,
+{
+    ghost one_text = { list_one_text (bincode preallocation_limit) 24 T.one_text };
+}
+
+impl<L: Lending, T: OneText<L>> OneText<L> for Bound<T> {
+    ghost one_text = { bound_one_text T.one_text };
 }
 
 impl<L: Lending> OneText<L> for ShortU16 {
@@ -68,6 +93,10 @@ impl<L: Lending, T: OneText<L>> OneText<L> for Rc<T> {
     ghost one_text = { boxed_one_text T.one_text };
 }
 
+impl<L: Lending, T: OneText<L>> OneText<L> for Arc<T> {
+    ghost one_text = { boxed_one_text T.one_text };
+}
+
 impl<L: Lending, T: OneText<L>> OneText<L> for Vec<T> {
     ghost one_text = { list_one_text (bincode preallocation_limit) 24 T.one_text };
 }
@@ -93,6 +122,10 @@ impl<L: Lending, T: OneText<L>, Len: SeqLen> OneText<L> for containers::BoxedSli
 }
 
 impl<L: Lending, T: OneText<L>, Len: SeqLen> OneText<L> for containers::RcSlice<T, Len> {
+    ghost one_text = { list_one_text Len.scheme 16 T.one_text };
+}
+
+impl<L: Lending, T: OneText<L>, Len: SeqLen> OneText<L> for containers::ArcSlice<T, Len> {
     ghost one_text = { list_one_text Len.scheme 16 T.one_text };
 }
 

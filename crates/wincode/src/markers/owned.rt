@@ -7,10 +7,14 @@ use crate::io::{Lending, ZeroCopy};
 use crate::len::{SeqLen, ShortU16};
 use crate::markers::SchemaReadOwned;
 use crate::tag::TagCode;
+use std::borrow::{CowSlice, CowStr};
 use std::collections::{BTreeMap, BTreeSet, BinaryHeap, HashMap, HashSet, LinkedList, VecDeque};
+use std::ffi::CString;
 use std::hash::Hash;
 use std::marker::PhantomData;
+use std::ops::Bound;
 use std::rc::Rc;
+use std::sync::Arc;
 use wincode_read::Key;
 
 impl<L: Lending> SchemaReadOwned<L> for bool {
@@ -31,6 +35,26 @@ impl<L: Lending, T> SchemaReadOwned<L> for PhantomData<T> {
 
 impl<L: Lending> SchemaReadOwned<L> for String {
     ghost owned = { refl };
+}
+
+impl<'s, L: Lending> SchemaReadOwned<L> for CowStr<'s> {
+    ghost owned = { refl };
+}
+
+impl<L: Lending> SchemaReadOwned<L> for CString {
+    ghost owned = { refl };
+}
+
+impl<'s, L: Lending, T: SchemaReadOwned<L>> SchemaReadOwned<L> for CowSlice<'s, T>
+where
+    T: 's,
+    T::Dst: 's,
+{
+    ghost owned = { T.owned };
+}
+
+impl<L: Lending, T: SchemaReadOwned<L>> SchemaReadOwned<L> for Bound<T> {
+    ghost owned = { T.owned };
 }
 
 impl<L: Lending> SchemaReadOwned<L> for ShortU16 {
@@ -63,6 +87,10 @@ impl<L: Lending, T: SchemaReadOwned<L>> SchemaReadOwned<L> for Rc<T> {
     ghost owned = { T.owned };
 }
 
+impl<L: Lending, T: SchemaReadOwned<L>> SchemaReadOwned<L> for Arc<T> {
+    ghost owned = { T.owned };
+}
+
 impl<L: Lending, T: SchemaReadOwned<L>> SchemaReadOwned<L> for Vec<T> {
     ghost owned = { T.owned };
 }
@@ -92,6 +120,11 @@ impl<L: Lending, T: SchemaReadOwned<L>, Len: SeqLen> SchemaReadOwned<L>
 
 impl<L: Lending, T: SchemaReadOwned<L>, Len: SeqLen> SchemaReadOwned<L>
     for containers::RcSlice<T, Len> {
+    ghost owned = { T.owned };
+}
+
+impl<L: Lending, T: SchemaReadOwned<L>, Len: SeqLen> SchemaReadOwned<L>
+    for containers::ArcSlice<T, Len> {
     ghost owned = { T.owned };
 }
 

@@ -1,11 +1,15 @@
 //! What is written reads back: every schema that reads and writes.
 ghost use Rattle.std.specs.BinaryHeap.{heap_items};
+ghost use Rattle.std.specs.CStr.{c_string_bytes};
+ghost use Rattle.std.specs.Cow.{cow_slice_items, cow_str_bytes};
 ghost use Rattle.std.specs.Prelude.{◌<◌, true, false, string_bytes, Option, Result, ◌^◌, max};
 ghost use Rattle.wincode_io.specs.Readers.{shared};
 ghost use Rattle.wincode_io.specs.Viewed.{value_seen, values_seen};
 ghost use Rattle.wincode_base.specs.ArrayLaws.{array_reads_back};
 ghost use Rattle.wincode_base.specs.BackLaws.{map_reads_back, set_reads_back, hash_map_reads_back, hash_set_reads_back, heap_reads_back};
+ghost use Rattle.wincode_base.specs.BoundLaws.{bound_reads_back};
 ghost use Rattle.wincode_base.specs.BoxedLaws.{boxed_reads_back};
+ghost use Rattle.wincode_base.specs.CStrings.{c_string_reads_back};
 ghost use Rattle.wincode_base.specs.LeafLaws.{bool_reads_back, unit_reads_back, number_reads_back};
 ghost use Rattle.wincode_base.specs.Leaves.{number_read, number_write};
 ghost use Rattle.wincode_base.specs.LengthLaws.{bincode_laws};
@@ -20,11 +24,15 @@ ghost use Rattle.wincode_base.specs.ViewLaws.{form_reads_back, lent_reads_back, 
 ghost use Rattle.wincode_base.specs.Views.{form_prealloc, form_item_read, form_item_write};
 
 use crate::markers::RoundTrip;
+use std::borrow::{CowSlice, CowStr};
 use std::collections::{BTreeMap, BTreeSet, BinaryHeap, HashMap, HashSet, LinkedList, VecDeque};
+use std::ffi::CString;
 use std::hash::Hash;
 use std::marker::PhantomData;
+use std::ops::Bound;
 use std::rc::Rc;
 use std::str;
+use std::sync::Arc;
 use wincode_base::len::ShortU16;
 use wincode_base::parts::Pod;
 use wincode_io::{Lending, Lifetime, SliceView, View, ZeroCopy};
@@ -51,6 +59,31 @@ impl<L: Lending> RoundTrip<L> for String {
     ghost reads_back = { str_reads_back 24 0 false (λ s. string_bytes s) };
 }
 
+impl<'s, L: Lending> RoundTrip<L> for CowStr<'s> {
+    ghost reads_back = { str_reads_back 24 0 false (λ t. cow_str_bytes t) };
+}
+
+impl<'s, L: Lending, T: RoundTrip<L>> RoundTrip<L> for CowSlice<'s, T>
+where
+    T: 's,
+    T::Src: 's + Drop,
+    <T as SchemaRead<L>>::Dst: 's,
+{
+    ghost reads_back = { list_reads_back (bincode preallocation_limit) (bincode_laws preallocation_limit) 24 (λ c. cow_slice_items c) T.SchemaWrite.is_valid
+        T.SchemaWrite.model T.SchemaWrite.writing T.SchemaRead.model T.SchemaRead.reading T.reads_back };
+}
+
+impl<L: Lending> RoundTrip<L> for CString {
+    ghost reads_back = { c_string_reads_back c_string_bytes };
+}
+
+impl<L: Lending, T: RoundTrip<L>> RoundTrip<L> for Bound<T>
+where
+    T::Src: Drop,
+{
+    ghost reads_back = { bound_reads_back T.SchemaWrite.is_valid T.SchemaWrite.model T.SchemaWrite.writing T.SchemaRead.model T.SchemaRead.reading T.reads_back };
+}
+
 impl<'a> RoundTrip<Lifetime<'a>> for &'a str {
     ghost reads_back = { str_reads_back 16 1 true (λ s. s.now) };
 }
@@ -64,6 +97,14 @@ where
 }
 
 impl<L: Lending, T: RoundTrip<L>> RoundTrip<L> for Rc<T>
+where
+    T::Src: Drop,
+{
+    ghost reads_back = { boxed_reads_back (λ held. held.value) T.SchemaWrite.is_valid T.SchemaWrite.model
+        T.SchemaWrite.writing T.SchemaRead.model T.SchemaRead.reading T.reads_back };
+}
+
+impl<L: Lending, T: RoundTrip<L>> RoundTrip<L> for Arc<T>
 where
     T::Src: Drop,
 {

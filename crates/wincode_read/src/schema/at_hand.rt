@@ -1,7 +1,7 @@
 //! Values from bytes that are at hand. What is not given here is read the long way, which says why.
 ghost use Rattle.std.specs.Prelude.{◌≡◌, ◌≤◌, [], ◌∷◌, ◌++◌, List, length, false, IsTrue, IfSome, IfErr, OnOk};
 ghost use Rattle.wincode_base.specs.Lists.{items_read};
-ghost use Rattle.wincode_base.specs.Outcomes.{Gives, Adds, SchemaReadRefused, GetOutcome};
+ghost use Rattle.wincode_base.specs.Outcomes.{Gives, Adds, SchemaReadRefused};
 ghost use Rattle.wincode_io.specs.Readers.{IsShown};
 
 use crate::schema::{SchemaGet, SchemaRead};
@@ -64,21 +64,6 @@ pub(crate) fn read_over<L: Lending, T: SchemaRead<L>, R: Reader<L>>(
     }
     reader.consume_unchecked(size);
     true
-}
-
-/// The value that `read` puts into an empty destination.
-pub(crate) fn get_by_read<L: Lending, T: SchemaRead<L>, R: Reader<L>>(
-    alloc: Global,
-    reader: &mut R,
-) -> ReadResult<T::Dst>
-    ensures { GetOutcome T.reading T.model (R.state reader.old) (R.state reader.new) result }
-{
-    let mut dst = None;
-    T::read(alloc, reader, &mut dst)?;
-    match dst {
-        Some(value) => Ok(value),
-        None => unreachable!(),
-    }
 }
 
 /// Adds the value that reads from all of the bytes to the list, where its schema decodes it; else the list is as it was.

@@ -1,4 +1,5 @@
 //! Reading items, one after another, and lists behind their length.
+ghost use Rattle.std.specs.Arc.{arc_slice_items};
 ghost use Rattle.std.specs.BinaryHeap.{heap_items};
 ghost use Rattle.std.specs.Box.{boxed_slice_items};
 ghost use Rattle.std.specs.List.Sorted.{IsPermutation};
@@ -15,6 +16,7 @@ use std::boxed::BoxedSlice;
 use std::collections::{BTreeMap, BTreeSet, BinaryHeap, HashMap, HashSet, LinkedList, VecDeque};
 use std::hash::Hash;
 use std::rc::RcSlice;
+use std::sync::ArcSlice;
 use wincode_base::error::{ReadError, ReadResult, read_length_encoding_overflow};
 use wincode_base::len::SeqLen;
 use wincode_base::sizes::ItemSize;
@@ -62,6 +64,23 @@ impl<L: Lending, U: Drop, T: SchemaRead<L, Dst = U>> FromItems<L, T> for RcSlice
     fn from_items<R: Reader<L>>(alloc: Global, reader: &mut R, n: usize) -> ReadResult<RcSlice<U>> {
         let items = <Vec<U> as FromItems<L, T>>::from_items::<R>(alloc, reader, n)?;
         match RcSlice::from_vec(items) {
+            Ok(shared) => Ok(shared),
+            Err(_) => Err(ReadError::OutOfMemory),
+        }
+    }
+}
+
+/// The same.
+impl<L: Lending, U: Drop, T: SchemaRead<L, Dst = U>> FromItems<L, T> for ArcSlice<U> {
+    ghost made = { λ ds a. arc_slice_items a ≡ ds };
+
+    fn from_items<R: Reader<L>>(
+        alloc: Global,
+        reader: &mut R,
+        n: usize,
+    ) -> ReadResult<ArcSlice<U>> {
+        let items = <Vec<U> as FromItems<L, T>>::from_items::<R>(alloc, reader, n)?;
+        match ArcSlice::from_vec(items) {
             Ok(shared) => Ok(shared),
             Err(_) => Err(ReadError::OutOfMemory),
         }

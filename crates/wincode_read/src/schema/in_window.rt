@@ -9,6 +9,7 @@ use wincode_base::meta::TypeMeta;
 use wincode_io::{Lending, ReadWindow, Reader};
 
 /// Reads a value of `T`, through one window where `T` has one size.
+#[inline]
 pub(crate) fn get_in_window<L: Lending, T: SchemaRead<L>, R: Reader<L>>(
     alloc: Global,
     reader: &mut R,

@@ -12,6 +12,8 @@ ghost use Rattle.wincode_base.specs.Lengths.{bincode, preallocation_limit};
 ghost use Rattle.wincode_base.specs.ListLaws.{list_read_laws};
 ghost use Rattle.wincode_base.specs.Lists.{list_read};
 
+mod cows;
+
 use crate::schema::SchemaRead;
 use crate::schema::from_items::get_list;
 use std::alloc::Global;

@@ -7,6 +7,10 @@ ghost use Rattle.wincode_base.specs.Outcomes.{Gives, PieceReadRefused, ReadOutco
 ghost use Rattle.wincode_base.specs.Strings.{char_read, announced, str_read, body_read, StrBytesReadRefused};
 ghost use Rattle.wincode_base.specs.StringLaws.{char_read_laws, str_read_laws};
 
+mod c_strings;
+mod cows;
+mod texts;
+
 use crate::schema::SchemaRead;
 use crate::schema::as_forms::decode_form;
 use std::alloc::Global;

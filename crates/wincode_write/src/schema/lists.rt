@@ -9,6 +9,8 @@ ghost use Rattle.wincode_base.specs.ListLaws.{list_write_laws};
 ghost use Rattle.wincode_base.specs.Lists.{list_write};
 ghost use Rattle.wincode_io.specs.Writers.{byte_limit};
 
+mod cows;
+
 use crate::schema::SchemaWrite;
 use crate::schema::runs::encode_list;
 use crate::schema::to_items::{size_of_list, write_list};

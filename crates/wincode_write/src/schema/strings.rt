@@ -5,6 +5,10 @@ ghost use Rattle.wincode_base.specs.Outcomes.{SizeRefused, IsEncoded, WriteOutco
 ghost use Rattle.wincode_base.specs.Strings.{char_write, str_write};
 ghost use Rattle.wincode_base.specs.StringLaws.{char_write_laws, str_write_laws};
 
+mod c_strings;
+mod cows;
+mod texts;
+
 use crate::schema::SchemaWrite;
 use std::str;
 use wincode_base::error::WriteResult;

@@ -4,7 +4,7 @@ ghost use Rattle.std.specs.BinaryHeap.{heap_items};
 ghost use Rattle.std.specs.HashMap.{IsUnique};
 ghost use Rattle.std.specs.List.{IsDistinct};
 ghost use Rattle.std.specs.List.Sorted.{IsStrictlySortedBy};
-ghost use Rattle.std.specs.Prelude.{◌≡◌, ◌+◌, ◌≤◌, List, [], ◌∷◌, ◌++◌, ◌⊎◌, length, map, take, IfSome, IsTrue, IfOk, IfErr};
+ghost use Rattle.std.specs.Prelude.{◌≡◌, ◌+◌, ◌≤◌, List, [], ◌∷◌, ◌++◌, ◌⊎◌, length, map, take, IfSome, IsNone, IsTrue, IfOk, IfErr};
 ghost use Rattle.wincode_io.specs.Joins.{Each, total};
 ghost use Rattle.wincode_base.specs.Lengths.{HasEncoding, LengthSizeRefused};
 ghost use Rattle.wincode_base.specs.Lists.{item_write, items_write, each_write, parts_write, list_write_of, list_write, SizesRefused};
@@ -93,8 +93,35 @@ pub(crate) fn write_apart<T: SchemaWrite, W: Writer>(
     Ok(())
 }
 
-/// More than a few that are put together are written a block at a time, for which the writer has room at hand, and others
-/// as their schema writes them, those too whose form is as short as in memory.
+/// As `write_at_once` of the schema, of items of at most 16 bytes each.
+#[inline(always)]
+fn write_short<T: SchemaWrite, W: Writer>(
+    writer: &mut W,
+    items: &[T::Src],
+) -> Option<WriteResult<()>>
+    ensures done { IfSome result (λ r. WriteOutcome (items_write T.writing) (W.state writer.old) (W.state writer.new) (map T.model items.now) (Each T.is_valid items.now) r) }
+    ensures left { IsNone result → W.state writer.new ≡ W.state writer.old }
+{
+    // No effect at run time: the proof reads what it holds from this use of it.
+    let _ = &*writer;
+    match T::type_meta() {
+        TypeMeta::Static { size, .. } if size <= SMALL => T::write_at_once::<W>(writer, items),
+        _ => None,
+    }
+}
+
+/// Whether the items are byte forms, of at most 16 bytes each.
+#[inline(always)]
+fn is_short_form<T: SchemaWrite>() -> bool {
+    match T::type_meta() {
+        TypeMeta::Static { size, zero_copy } => zero_copy && size <= SMALL,
+        TypeMeta::Dynamic => false,
+    }
+}
+
+/// Short ones go at once where their schema writes them so. More than a few that are put together are written a block at a
+/// time, for which the writer has room at hand, and others as their schema writes them, those too whose form is as short as
+/// in memory.
 impl<'a, U: 'a, T: SchemaWrite<Src = U>> ToItems<T> for &'a [U] {
     ghost listed = { λ s. s.now };
 
@@ -119,11 +146,10 @@ impl<'a, U: 'a, T: SchemaWrite<Src = U>> ToItems<T> for &'a [U] {
 
     fn write_to<W: Writer>(&self, writer: &mut W) -> WriteResult<()> {
         let items: &[U] = *self;
-        let is_short_form = match T::type_meta() {
-            TypeMeta::Static { size, zero_copy } => zero_copy && size <= SMALL,
-            TypeMeta::Dynamic => false,
-        };
-        if is_short_form || items.len() <= FEW {
+        if let Some(result) = write_short::<T, W>(writer, items) {
+            return result;
+        }
+        if items.len() <= FEW || is_short_form::<T>() {
             return T::write_items::<W>(writer, items);
         }
         let mut block = [0; RUN];

@@ -7,10 +7,9 @@ use Rattle.wincode_write.proofs.Fronts.{run_wrote}
 use Rattle.wincode_write.proofs.schema.to_items.RefSliceToItems.write_to.Goals as goal
 
 pub loop-rest-init : goal.loop-rest-init
-loop-rest-init g c = (
-  record { done = []; joins = refl; items = items_wrote_none g.met.W.Writer.writer_laws g.T.SchemaWrite.write_laws _; each = tt },
-  omega arith,
-)
+loop-rest-init g c =
+    let same : g.W.Writer.state c.write_short.new.writer ≡ g.W.Writer.state c.args.writer.now = search rules in
+    rw same (record { done = []; joins = refl; items = items_wrote_none g.met.W.Writer.writer_laws g.T.SchemaWrite.write_laws _; each = tt }, omega arith)
 
 pub returns-in_err-write_items : goal.returns-in_err-write_items
 returns-in_err-write_items g c =
