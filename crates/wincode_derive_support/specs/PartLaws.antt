@@ -7,16 +7,20 @@ use Rattle.std.specs.declared.cmp.Ordering.{Ordering}
 use Rattle.wincode_collect.specs.Collections.{IsMapOf, IsHashMapOf}
 use Rattle.wincode_collect.specs.Seen.{sees, hash_map_sees, Made}
 use Rattle.wincode_io.specs.Joins.{Each}
+use Rattle.wincode_base.specs.BoundLaws.{bound_read_laws}
+use Rattle.wincode_base.specs.Bounds.{bound_read, IfBound}
 use Rattle.wincode_base.specs.Boxed.{boxed_read}
 use Rattle.wincode_base.specs.BoxedLaws.{boxed_read_laws}
 use Rattle.wincode_base.specs.Gathered.{gathered_read}
 use Rattle.wincode_base.specs.GatheredLaws.{map_read_laws, hash_map_read_laws}
 use Rattle.wincode_base.specs.Grammar.{ReadGrammar, ReadLaws}
+use Rattle.wincode_base.specs.InWindow.{windowed_read}
 use Rattle.wincode_base.specs.ItemSizes.{pair_size}
 use Rattle.wincode_base.specs.LengthLaws.{bincode_laws}
 use Rattle.wincode_base.specs.Lengths.{Scheme, SchemeLaws, bincode, preallocation_limit}
 use Rattle.wincode_base.specs.ListLaws.{list_read_laws}
 use Rattle.wincode_base.specs.Lists.{list_read}
+use Rattle.wincode_base.specs.PairLaws.{pair_read_laws, windowed_read_laws}
 use Rattle.wincode_base.specs.Pairs.{pair_read}
 use Rattle.wincode_base.specs.TagLaws.{option_read_laws, result_read_laws}
 use Rattle.wincode_base.specs.Tags.{option_read, IfPart, result_read, IfSide}
@@ -39,6 +43,16 @@ module _ {V : Type 0} {p : V → Type 0} {g : ReadGrammar V} where
 
   pub box_laws : ReadLaws p g → ReadLaws p (boxed_read g)
   box_laws l = boxed_read_laws p g l
+
+  -- what is as the value that it holds
+  pub same_laws : ReadLaws p g → ReadLaws p g
+  same_laws l = l
+
+  pub range_laws : ReadLaws p g → ReadLaws (λ v. p v.0 × p v.1) (windowed_read (pair_read g g))
+  range_laws l = windowed_read_laws (pair_read_laws l l)
+
+  pub bound_laws : ReadLaws p g → ReadLaws (IfBound p) (bound_read g)
+  bound_laws l = bound_read_laws p g l
 
 pub result_laws : {V W : Type 0} {p : V → Type 0} {q : W → Type 0} {g : ReadGrammar V} {h : ReadGrammar W} → ReadLaws p g → ReadLaws q h
     → ReadLaws (IfSide p q) (result_read 4 g h)

@@ -28,6 +28,7 @@ ghost use Rattle.wincode_base.specs.PairLaws.{pair_read_laws, windowed_read_laws
 ghost use Rattle.wincode_base.specs.Pairs.{pair_read};
 
 mod numbers;
+mod std_types;
 
 use crate::laws::Lawful;
 use std::collections::{BTreeMap, BTreeSet, BinaryHeap, HashMap, HashSet};

@@ -3,6 +3,7 @@
 //! `SchemaRead` has its laws below its functions, so the schema of a struct can't take those of its fields' tuple by a
 //! quote. `Lawful` has them once more, as data: `⟦<Fields as Lawful<L>>⟧.read_laws`.
 ghost use Rattle.std.proofs.Common.{lit≤};
+ghost use Rattle.std.specs.Arc.{arc_slice_items};
 ghost use Rattle.std.specs.Char.{IsScalar};
 ghost use Rattle.std.specs.Box.{boxed_slice_items};
 ghost use Rattle.std.specs.Prelude.{◌≡◌, ℕ, ◌<◌, ◌^◌, Bool, true, false, List, map, IsUtf8, max, Result, string_bytes};
@@ -36,7 +37,9 @@ ghost use Rattle.wincode.specs.OneText.{IsOneText};
 ghost use Rattle.wincode_derive_support.specs.SumLaws.{CaseLaws, last_case_laws, case_laws, counted_case_laws, enum_read_laws};
 ghost use Rattle.wincode_derive_support.specs.Sums.{sides_own, CaseReadRefused, IsNameless, enum_read};
 
+mod ends;
 mod numbers;
+mod std_types;
 mod tags;
 mod tuples;
 
@@ -45,6 +48,7 @@ use std::boxed::BoxedSlice;
 use std::collections::{LinkedList, VecDeque};
 use std::marker::PhantomData;
 use std::rc::{Rc, RcSlice};
+use std::sync::ArcSlice;
 use wincode::containers::{self, Pod};
 use wincode::io::{Borrowed, Lending, SliceView, View, ZeroCopy};
 use wincode::len::{SeqLen, ShortU16};
@@ -422,6 +426,20 @@ impl<L: Lending, T: Lawful<L>, Len: SeqLen> Lawful<L> for containers::RcSlice<T,
     ghost Value = { List T.Value };
 
     ghost model = { λ r. map T.model (rc_slice_items r) };
+
+    ghost is_valid = { Each T.is_valid };
+
+    ghost reading = { list_read Len.scheme 16 T.reading };
+
+    ghost read_laws = { list_read_laws Len.scheme Len.scheme_laws 16 (lit≤ tt) T.is_valid T.reading T.read_laws };
+}
+
+impl<L: Lending, T: Lawful<L>, Len: SeqLen> Lawful<L> for containers::ArcSlice<T, Len> {
+    type Dst = ArcSlice<T::Dst>;
+
+    ghost Value = { List T.Value };
+
+    ghost model = { λ a. map T.model (arc_slice_items a) };
 
     ghost is_valid = { Each T.is_valid };
 

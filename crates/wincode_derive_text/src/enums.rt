@@ -283,9 +283,22 @@ pub fn case_sides_of(alloc: Global, variants: &[Variant]) -> DeriveResult<String
 
 /// The cases of an enum with their tags.
 pub fn cases_of(alloc: Global, declaration: &Declaration, cases: &Cases) -> DeriveResult<String> {
+    all_cases(alloc, (declaration, false), cases)
+}
+
+/// The same, with the cases of each part in which they stand in its place.
+pub fn spelled_cases_of(
+    alloc: Global,
+    declaration: &Declaration,
+    cases: &Cases,
+) -> DeriveResult<String> {
+    all_cases(alloc, (declaration, true), cases)
+}
+
+/// The cases of an enum with their tags, in parts by their names, or spelled out.
+fn all_cases(alloc: Global, of: (&Declaration, bool), cases: &Cases) -> DeriveResult<String> {
     let variants = cases.variants.as_slice();
-    let layout = Layout::of(declaration, variants.len());
-    let all = layout.cases(alloc, declaration.name.as_str(), variants)?;
+    let all = Layout::of(of.0, variants.len()).cases(alloc, of, variants)?;
     let all = all.as_str();
     match cases.counts {
         Some(counts) => Ok(format!(in alloc; "Counted<{counts}, {all}>")?),
@@ -756,7 +769,7 @@ fn set_cases(alloc: Global, words: &mut Words, (declaration, cases): (&Declarati
     let layout = Layout::of(declaration, variants.len());
     words.set("parts", layout.types(alloc, variants));
     words.set("arms", arms_of(alloc, name, variants, layout));
-    words.set("make", layout.make(alloc, (name, src), variants));
+    words.set("make", layout.make(alloc, declaration, variants));
     words.set("tag", owned(alloc, cases.tag.as_str()));
     words.set("cases", cases_of(alloc, declaration, cases));
     words.set("tags", tags_of(alloc, src, variants));
@@ -814,12 +827,9 @@ fn set_enum(
         set_own_cases(alloc, words, me);
         return Ok(());
     }
-    set_schemas(
-        alloc,
-        words,
-        (all, declaration),
-        (cases.tag.as_str(), sides),
-    )
+    words.set("schemas", one_of(alloc, cases.tag.as_str(), sides));
+    words.set("laws", laws_of(alloc, (all, declaration), cases));
+    Ok(())
 }
 
 /// What an enum is seen as, of `x`.
@@ -867,20 +877,17 @@ pub fn one_of(alloc: Global, tag: &str, sides: &str) -> DeriveResult<String> {
     Ok(format!(in alloc; "OneOf<{tag}, {sides}>")?)
 }
 
-/// Sets by which schema an enum over parameters goes, and its laws.
-fn set_schemas(
+/// The laws of an enum over parameters, from those of its parts.
+fn laws_of(
     alloc: Global,
-    words: &mut Words,
     (all, declaration): (&[Declaration], &Declaration),
-    (tag, sides): (&str, &str),
-) -> DeriveResult<()> {
+    cases: &Cases,
+) -> DeriveResult<String> {
     let parameters = declaration.generics.parameters.as_slice();
-    let schemas = one_of(alloc, tag, sides)?;
-    let seen = looked_into(alloc, all, (schemas.as_str(), parameters))?;
-    let laws = law_of(alloc, seen.as_str(), parameters, declaration.line);
-    words.set("laws", laws);
-    words.set("schemas", Ok(schemas));
-    Ok(())
+    let sides = spelled_cases_of(alloc, declaration, cases)?;
+    let schema = one_of(alloc, cases.tag.as_str(), sides.as_str())?;
+    let seen = looked_into(alloc, all, (schema.as_str(), parameters))?;
+    law_of(alloc, seen.as_str(), parameters, declaration.line)
 }
 
 /// Appends what an enum is made of, and how its cases are sized and written.
@@ -967,7 +974,7 @@ pub fn put_enum(
     let variants = cases.variants.as_slice();
     let layout = Layout::of(declaration, variants.len());
     let mut words = words_of(alloc, (all, declaration), cases)?;
-    layout.put(alloc, out, (declaration, variants))?;
+    layout.put(alloc, out, (all, declaration), variants)?;
     put_shape(alloc, out, &mut words, &declaration.generics)?;
     put_body(alloc, out, &mut words, (declaration, cases))?;
     if is_enum_key(declaration, cases) {

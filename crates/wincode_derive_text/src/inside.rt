@@ -1,6 +1,6 @@
 //! Types over parameters in the fields of others: the schemas of what they hold in their places, whose laws are known.
 use crate::declarations::{Declaration, DeclaredShape};
-use crate::enums::{cases_of, one_of};
+use crate::enums::{one_of, spelled_cases_of};
 use crate::error::DeriveResult;
 use crate::groups::{close_of, end_of_part, is_sign, next, type_text};
 use crate::printing::{owned, put_text};
@@ -52,7 +52,7 @@ fn schemas_in(alloc: Global, declaration: &Declaration) -> DeriveResult<String> 
             tuple_of(alloc, schemas.as_slice())
         }
         DeclaredShape::Enum(cases) => {
-            let all = cases_of(alloc, declaration, cases)?;
+            let all = spelled_cases_of(alloc, declaration, cases)?;
             one_of(alloc, cases.tag.as_str(), all.as_str())
         }
     }

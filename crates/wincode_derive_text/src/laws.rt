@@ -27,30 +27,41 @@ struct Law {
 }
 
 /// The laws of lists behind a length of choice, by their names.
-const LISTS: [(&str, &str); 4] = [
+const LISTS: [(&str, &str); 5] = [
     ("Vec", "list_laws"),
     ("VecDeque", "list_laws"),
     ("BoxedSlice", "slice_laws"),
     ("RcSlice", "slice_laws"),
+    ("ArcSlice", "slice_laws"),
 ];
 
 /// The laws of what has one part, or two, by its name.
-const PARTS: [(&str, &str); 7] = [
+const PARTS: [(&str, &str); 16] = [
     ("Vec", "vec_laws"),
     ("VecDeque", "vec_laws"),
     ("LinkedList", "vec_laws"),
     ("Option", "option_laws"),
     ("Box", "box_laws"),
     ("Rc", "box_laws"),
+    ("Arc", "box_laws"),
     ("Result", "result_laws"),
+    ("Wrapping", "same_laws"),
+    ("Saturating", "same_laws"),
+    ("Reverse", "same_laws"),
+    ("RangeFrom", "same_laws"),
+    ("RangeTo", "same_laws"),
+    ("Range", "range_laws"),
+    ("RangeInclusive", "range_laws"),
+    ("Bound", "bound_laws"),
 ];
 
 /// The laws of cases, by their names: a tag's scheme or a number stands in front of their parts.
-const CASES: [(&str, &str); 4] = [
+const CASES: [(&str, &str); 5] = [
     ("OneOf", "enum_read_laws"),
     ("Case", "case_laws"),
     ("Last", "last_case_laws"),
     ("Counted", "counted_case_laws"),
+    ("Split", "split_laws"),
 ];
 
 /// What the laws of maps begin with and end in, by their names.

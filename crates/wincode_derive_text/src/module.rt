@@ -35,13 +35,16 @@ ghost use Rattle.@crate@.specs.contracts.@path@@type@Ord.TheImpl.Laws as @called
 ";
 
 /// The laws of parts.
-const LAWS: [&str; 8] = [
+const LAWS: [&str; 11] = [
+    "bound_laws",
     "box_laws",
     "hash_map_laws",
     "list_laws",
     "map_laws",
     "option_laws",
+    "range_laws",
     "result_laws",
+    "same_laws",
     "slice_laws",
     "vec_laws",
 ];
@@ -61,6 +64,9 @@ const CASES: [&str; 4] = [
     "case_laws",
     "last_case_laws",
 ];
+
+/// The laws of cases in two parts.
+const SPLITS: [&str; 1] = ["split_laws"];
 
 /// Of two results that are the same, what the cases of enums that are keys need.
 const SIDES: [&str; 4] = ["ok_same", "err_same", "ok_not_err", "err_not_ok"];
@@ -318,7 +324,9 @@ fn put_law_uses(alloc: Global, out: &mut String, body: &str) -> DeriveResult<()>
     let laws = ("wincode_derive_support.specs.PartLaws", LAWS.as_slice());
     put_ghosts(alloc, out, laws, ("(", body))?;
     let cases = ("wincode_derive_support.specs.SumLaws", CASES.as_slice());
-    put_ghosts(alloc, out, cases, ("(", body))
+    put_ghosts(alloc, out, cases, ("(", body))?;
+    let splits = ("wincode_derive_support.specs.SplitLaws", SPLITS.as_slice());
+    put_ghosts(alloc, out, splits, ("(", body))
 }
 
 /// Appends what the terms of the module name.

@@ -239,7 +239,7 @@ impl Names {
                 self.see_cases(alloc, &mut cases.variants, parameters)?;
                 if generics.lifetime.is_some() {
                     gather_borrowed(&mut cases.variants);
-                } else if parameters.is_empty() {
+                } else {
                     order_by_tags(&mut cases.variants);
                 }
                 Ok(())

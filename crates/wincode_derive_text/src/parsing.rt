@@ -722,6 +722,9 @@ fn unwritten_of(shape: &DeclaredShape, generics: &Generics, said: &Said) -> Opti
             { Some("no schema for more than 12 fields beside a lifetime") }
         DeclaredShape::Struct(fields) if fields.fields.is_empty() && generics.lifetime.is_some() =>
             { Some("no schema for a struct without fields that has a lifetime") }
+        DeclaredShape::Enum(cases) if cases.variants.len() > 8 && generics.lifetime.is_some() => {
+            Some("no schema for more than 8 cases beside a lifetime")
+        }
         _ => None,
     }
 }

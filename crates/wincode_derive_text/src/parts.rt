@@ -3,7 +3,10 @@
 use crate::declarations::{Declaration, Variant};
 use crate::enums::{case_sides_of, close, made_by_sides, put_side, side_of, sided, sides_of};
 use crate::error::DeriveResult;
+use crate::inside::looked_into;
+use crate::laws::{law_of, seen_by};
 use crate::printing::{Words, fill, owned, put, put_text, put_times};
+use crate::structs::{applied, bound_of, evidence_of, name_over, set_of, set_over};
 use std::alloc::Global;
 
 /// How many cases a part has at most.
@@ -11,124 +14,124 @@ const MOST: usize = 6;
 
 const PART: &str = "
 /// The cases from the @place@ on, by their tags.
-pub struct @part@;
+pub struct @self@@phantom@;
 
-type @part@Cases = @cases@;
+type @part_cases@ = @cases@;
 
-impl CasesWrite for @part@ {
-    type Src = @sides@;
+impl@writes@ CasesWrite for @self@@where_src@ {
+    type Src = @src_sides@;
 
-    ghost Value = { ⟦<@part@Cases as CasesWrite>⟧.Value };
+    ghost Value = { ⟦<@part_cases@ as CasesWrite>⟧.Value };
 
-    ghost model = { ⟦<@part@Cases as CasesWrite>⟧.model };
+    ghost model = { ⟦<@part_cases@ as CasesWrite>⟧.model };
 
-    ghost is_valid = { ⟦<@part@Cases as CasesWrite>⟧.is_valid };
+    ghost is_valid = { ⟦<@part_cases@ as CasesWrite>⟧.is_valid };
 
-    ghost tag = { ⟦<@part@Cases as CasesWrite>⟧.tag };
+    ghost tag = { ⟦<@part_cases@ as CasesWrite>⟧.tag };
 
-    ghost own = { ⟦<@part@Cases as CasesWrite>⟧.own };
+    ghost own = { ⟦<@part_cases@ as CasesWrite>⟧.own };
 
-    ghost part = { ⟦<@part@Cases as CasesWrite>⟧.part };
+    ghost part = { ⟦<@part_cases@ as CasesWrite>⟧.part };
 
-    ghost part_laws = { ⟦<@part@Cases as CasesWrite>⟧.part_laws };
+    ghost part_laws = { ⟦<@part_cases@ as CasesWrite>⟧.part_laws };
 
-    ghost answer = { ⟦<@part@Cases as CasesWrite>⟧.answer };
+    ghost answer = { ⟦<@part_cases@ as CasesWrite>⟧.answer };
 
-    ghost answers = { ⟦<@part@Cases as CasesWrite>⟧.answers };
+    ghost answers = { ⟦<@part_cases@ as CasesWrite>⟧.answers };
 
     fn part_meta() -> TypeMeta {
-        <@part@Cases as CasesWrite>::part_meta()
+        <@part_cases@ as CasesWrite>::part_meta()
     }
 
     fn tag_of(src: &Self::Src) -> WriteResult<usize> {
-        <@part@Cases as CasesWrite>::tag_of(src)
+        <@part_cases@ as CasesWrite>::tag_of(src)
     }
 
     fn part_size(src: &Self::Src) -> WriteResult<usize> {
-        <@part@Cases as CasesWrite>::part_size(src)
+        <@part_cases@ as CasesWrite>::part_size(src)
     }
 
     fn write_part<W: Writer>(writer: &mut W, src: &Self::Src) -> WriteResult<()> {
-        <@part@Cases as CasesWrite>::write_part::<W>(writer, src)
+        <@part_cases@ as CasesWrite>::write_part::<W>(writer, src)
     }
 }
 
-impl<L: Lending> CasesRead<L> for @part@ {
-    type Dst = @sides@;
+impl@reads@ CasesRead<L> for @self@ {
+    type Dst = @dst_sides@;
 
-    ghost Value = { ⟦<@part@Cases as CasesRead<L>>⟧.Value };
+    ghost Value = { ⟦<@part_cases@ as CasesRead<L>>⟧.Value };
 
-    ghost model = { ⟦<@part@Cases as CasesRead<L>>⟧.model };
+    ghost model = { ⟦<@part_cases@ as CasesRead<L>>⟧.model };
 
-    ghost is_valid = { ⟦<@part@Cases as CasesRead<L>>⟧.is_valid };
+    ghost is_valid = { ⟦<@part_cases@ as CasesRead<L>>⟧.is_valid };
 
-    ghost tag = { ⟦<@part@Cases as CasesRead<L>>⟧.tag };
+    ghost tag = { ⟦<@part_cases@ as CasesRead<L>>⟧.tag };
 
-    ghost own = { ⟦<@part@Cases as CasesRead<L>>⟧.own };
+    ghost own = { ⟦<@part_cases@ as CasesRead<L>>⟧.own };
 
-    ghost part = { ⟦<@part@Cases as CasesRead<L>>⟧.part };
+    ghost part = { ⟦<@part_cases@ as CasesRead<L>>⟧.part };
 
-    ghost refused = { ⟦<@part@Cases as CasesRead<L>>⟧.refused };
+    ghost refused = { ⟦<@part_cases@ as CasesRead<L>>⟧.refused };
 
     fn part_meta() -> TypeMeta {
-        <@part@Cases as CasesRead<L>>::part_meta()
+        <@part_cases@ as CasesRead<L>>::part_meta()
     }
 
     fn prealloc_size() -> usize {
-        <@part@Cases as CasesRead<L>>::prealloc_size()
+        <@part_cases@ as CasesRead<L>>::prealloc_size()
     }
 
     fn get_case<R: Reader<L>>(alloc: Global, reader: &mut R, given: usize) -> ReadResult<Self::Dst> {
-        <@part@Cases as CasesRead<L>>::get_case::<R>(alloc, reader, given)
+        <@part_cases@ as CasesRead<L>>::get_case::<R>(alloc, reader, given)
     }
 
-    ghost case_laws = { ⟦<@part@Cases as LawfulCases<L>>⟧.case_laws };
+    ghost case_laws = { @laws@ };
 }
 
-impl<L: Lending> LawfulCases<L> for @part@ {
-    type Dst = @sides@;
+impl@lawful@ LawfulCases<L> for @self@@where_dst@ {
+    type Dst = @dst_sides@;
 
-    ghost Value = { ⟦<@part@Cases as LawfulCases<L>>⟧.Value };
+    ghost Value = { ⟦<@part_cases@ as LawfulCases<L>>⟧.Value };
 
-    ghost model = { ⟦<@part@Cases as LawfulCases<L>>⟧.model };
+    ghost model = { ⟦<@part_cases@ as LawfulCases<L>>⟧.model };
 
-    ghost is_valid = { ⟦<@part@Cases as LawfulCases<L>>⟧.is_valid };
+    ghost is_valid = { ⟦<@part_cases@ as LawfulCases<L>>⟧.is_valid };
 
-    ghost tag = { ⟦<@part@Cases as LawfulCases<L>>⟧.tag };
+    ghost tag = { ⟦<@part_cases@ as LawfulCases<L>>⟧.tag };
 
-    ghost own = { ⟦<@part@Cases as LawfulCases<L>>⟧.own };
+    ghost own = { ⟦<@part_cases@ as LawfulCases<L>>⟧.own };
 
-    ghost part = { ⟦<@part@Cases as LawfulCases<L>>⟧.part };
+    ghost part = { ⟦<@part_cases@ as LawfulCases<L>>⟧.part };
 
-    ghost refused = { ⟦<@part@Cases as LawfulCases<L>>⟧.refused };
+    ghost refused = { ⟦<@part_cases@ as LawfulCases<L>>⟧.refused };
 
-    ghost case_laws = { ⟦<@part@Cases as LawfulCases<L>>⟧.case_laws };
+    ghost case_laws = { ⟦<@part_cases@ as LawfulCases<L>>⟧.case_laws };
 }
 
-impl<L: Lending> CasesRoundTrip<L> for @part@
+impl@backs@ CasesRoundTrip<L> for @self@
 where
-    @part@Cases: CasesRoundTrip<L>,
+@drops@    @part_cases@: CasesRoundTrip<L@bound@>,
 {
-    ghost back = { bound-5.back };
+    ghost back = { @evidence@.back };
 }
 
-impl<L: Lending> CasesOneText<L> for @part@
+impl@backs@ CasesOneText<L> for @self@
 where
-    @part@Cases: PartOneText<L>,
+@drops@    @part_cases@: PartOneText<L@bound@>,
 {
-    ghost cases_one_text = { bound-5.part_one_text };
+    ghost cases_one_text = { @evidence@.part_one_text };
 }
 
-impl<L: Lending> CasesReadOwned<L> for @part@
+impl@backs@ CasesReadOwned<L> for @self@
 where
-    @part@Cases: PartReadOwned<L>,
+@drops@    @part_cases@: PartReadOwned<L@bound@>,
 {
-    ghost cases_owned = { bound-5.part_owned };
+    ghost cases_owned = { @evidence@.part_owned };
 }
 
-impl @part@ {
-    fn make(made_of: @sides@) -> @src@
-        ensures { ⟦<@type@ as EnumParts>⟧.parts result ≡ @side@ }
+impl@any@ @self@ {
+    fn make(made_of: @sides@) -> @any_src@
+        ensures { ⟦<@of@ as EnumParts>⟧.parts result ≡ @side@ }
     {
         match made_of {
 @make@        }
@@ -155,9 +158,9 @@ fn parts_of(count: usize, each: usize) -> usize {
 }
 
 impl Layout {
-    /// That of an enum: one part, where it has few cases, or is declared over something.
+    /// That of an enum: one part, where it has few cases, or names a lifetime.
     pub fn of(declaration: &Declaration, count: usize) -> Layout {
-        if count <= MOST || !declaration.generics.is_none() {
+        if count <= MOST || declaration.generics.lifetime.is_some() {
             return Layout { each: count, count };
         }
         let each = parts_of(count, parts_of(count, MOST));
@@ -231,42 +234,52 @@ impl Layout {
         Ok(format!(in alloc; "{name}From{place}")?)
     }
 
-    /// A part by its name, behind the tag from which on others have the cases, if there are others behind it.
-    fn split_at(
+    /// What stands in front of a part: the tag from which on others have the cases, if there are others behind it.
+    fn put_bound(
         self,
         alloc: Global,
-        (name, part): (&str, usize),
-        variants: &[Variant],
-    ) -> DeriveResult<String> {
-        let behind = self.slice(variants, part.saturating_add(1));
-        let part = self.name(alloc, name, part)?;
-        match behind.first() {
-            Some(variant) => {
-                let (tag, part) = (variant.tag, part.as_str());
-                Ok(format!(in alloc; "Split<{tag}, {part}, ")?)
-            }
-            None => Ok(part),
+        out: &mut String,
+        (variants, part): (&[Variant], usize),
+    ) -> DeriveResult<()> {
+        if let Some(variant) = self.slice(variants, part.saturating_add(1)).first() {
+            let tag = variant.tag;
+            let before = format!(in alloc; "Split<{tag}, ")?;
+            out.push_str(before.as_str())?;
         }
+        Ok(())
     }
 
-    /// The parts with the tags from which on each other one has the cases.
-    fn split(self, alloc: Global, name: &str, variants: &[Variant]) -> DeriveResult<String> {
+    /// A part by its name.
+    fn named(self, alloc: Global, declaration: &Declaration, part: usize) -> DeriveResult<String> {
+        let name = self.name(alloc, declaration.name.as_str(), part)?;
+        applied(alloc, name.as_str(), &declaration.generics, "")
+    }
+
+    /// The cases with their tags, or the parts in which they stand with the tags from which on each other one has the
+    /// cases: by their names, or spelled out.
+    pub fn cases(
+        self,
+        alloc: Global,
+        (declaration, is_spelled): (&Declaration, bool),
+        variants: &[Variant],
+    ) -> DeriveResult<String> {
+        if self.is_whole() {
+            return case_sides_of(alloc, variants);
+        }
         let mut out = String::new(alloc);
         for part in 0..self.parts() {
-            let text = self.split_at(alloc, (name, part), variants);
-            put_text(&mut out, text)?;
+            self.put_bound(alloc, &mut out, (variants, part))?;
+            let cases = if is_spelled {
+                case_sides_of(alloc, self.slice(variants, part))
+            } else {
+                self.named(alloc, declaration, part)
+            };
+            put_text(&mut out, cases)?;
+            let is_last = part.saturating_add(1) >= self.parts();
+            out.push_str(if is_last { "" } else { ", " })?;
         }
         close(&mut out, self.parts())?;
         Ok(out)
-    }
-
-    /// The cases with their tags, or the parts in which they stand.
-    pub fn cases(self, alloc: Global, name: &str, variants: &[Variant]) -> DeriveResult<String> {
-        if self.is_whole() {
-            case_sides_of(alloc, variants)
-        } else {
-            self.split(alloc, name, variants)
-        }
     }
 
     /// Appends the arm by which a value is made of this part.
@@ -274,29 +287,31 @@ impl Layout {
         self,
         alloc: Global,
         out: &mut String,
-        (name, part): (&str, usize),
+        (declaration, part): (&Declaration, usize),
     ) -> DeriveResult<()> {
         let (before, _) = side_of(part, self.parts());
-        let part = self.name(alloc, name, part)?;
-        put(
-            out,
-            &[before, "parts) => ", part.as_str(), "::make(parts),\n"],
-        )
+        let part = self.name(alloc, declaration.name.as_str(), part)?;
+        let over = applied(alloc, "", &declaration.generics, "")?;
+        put(out, &[before, "parts) => ", part.as_str()])?;
+        if !over.is_empty() {
+            put(out, &["::", over.as_str()])?;
+        }
+        put(out, &["::make(parts),\n"])
     }
 
     /// The arms by which a value is made of its parts.
     pub fn make(
         self,
         alloc: Global,
-        (name, src): (&str, &str),
+        declaration: &Declaration,
         variants: &[Variant],
     ) -> DeriveResult<String> {
         if self.is_whole() {
-            return made_by_sides(alloc, src, variants);
+            return made_by_sides(alloc, declaration.src(), variants);
         }
         let mut out = String::new(alloc);
         for part in 0..self.parts() {
-            self.put_made(alloc, &mut out, (name, part))?;
+            self.put_made(alloc, &mut out, (declaration, part))?;
         }
         put_times(&mut out, "},\n", self.parts().saturating_sub(2))?;
         Ok(out)
@@ -306,22 +321,22 @@ impl Layout {
     fn words(
         self,
         alloc: Global,
-        (declaration, variants): (&Declaration, &[Variant]),
-        part: usize,
-    ) -> Words {
-        let name = declaration.name.as_str();
+        (all, declaration): (&[Declaration], &Declaration),
+        (variants, part): (&[Variant], usize),
+    ) -> DeriveResult<Words> {
         let place = part.saturating_mul(self.each).saturating_add(1);
         let slice = self.slice(variants, part);
+        let cases = case_sides_of(alloc, slice)?;
         let mut words = Words::new(alloc);
         words.set("place", ordinal(alloc, place));
-        words.set("part", self.name(alloc, name, part));
-        words.set("type", owned(alloc, name));
-        words.set("src", owned(alloc, declaration.src()));
-        words.set("sides", sides_of(alloc, slice));
-        words.set("cases", case_sides_of(alloc, slice));
+        words.set("self", self.named(alloc, declaration, part));
+        set_over(alloc, &mut words, &declaration.generics);
+        set_of(alloc, &mut words, (declaration, true));
         words.set("side", sided(alloc, (part, self.parts()), "made_of"));
         words.set("make", made_by_sides(alloc, declaration.src(), slice));
-        words
+        set_sides_of(alloc, &mut words, (declaration, slice))?;
+        set_part_cases(alloc, &mut words, (all, declaration), (place, cases))?;
+        Ok(words)
     }
 
     /// Appends the parts of an enum, where it has some.
@@ -329,17 +344,72 @@ impl Layout {
         self,
         alloc: Global,
         out: &mut String,
-        of: (&Declaration, &[Variant]),
+        of: (&[Declaration], &Declaration),
+        variants: &[Variant],
     ) -> DeriveResult<()> {
         if self.is_whole() {
             return Ok(());
         }
         for part in 0..self.parts() {
-            let mut words = self.words(alloc, of, part);
+            let mut words = self.words(alloc, of, (variants, part))?;
             fill(out, PART, &mut words)?;
         }
         Ok(())
     }
+}
+
+/// Sets the words of the values of a part of these cases, as they are, are written and are read.
+fn set_sides_of(
+    alloc: Global,
+    words: &mut Words,
+    (declaration, slice): (&Declaration, &[Variant]),
+) -> DeriveResult<()> {
+    let generics = &declaration.generics;
+    let parameters = generics.parameters.as_slice();
+    let sides = sides_of(alloc, slice)?;
+    words.set(
+        "src_sides",
+        seen_by(alloc, sides.as_str(), parameters, "Src"),
+    );
+    words.set(
+        "dst_sides",
+        seen_by(alloc, sides.as_str(), parameters, "Dst"),
+    );
+    words.set("bound", bound_of(alloc, generics, sides.as_str()));
+    words.set("sides", Ok(sides));
+    Ok(())
+}
+
+/// Sets the words of the cases of a part that begins at this place, and of their laws.
+fn set_part_cases(
+    alloc: Global,
+    words: &mut Words,
+    (all, declaration): (&[Declaration], &Declaration),
+    (place, cases): (usize, String),
+) -> DeriveResult<()> {
+    let generics = &declaration.generics;
+    let behind = format!(in alloc; "From{place}Cases")?;
+    let name = name_over(alloc, declaration, (behind.as_str(), cases.as_str()))?;
+    let laws = laws_of(alloc, (all, declaration), (name.as_str(), cases.as_str()));
+    words.set("laws", laws);
+    words.set("evidence", evidence_of(alloc, generics, cases.as_str(), 2));
+    words.set("part_cases", Ok(name));
+    words.set("cases", Ok(cases));
+    Ok(())
+}
+
+/// The laws of the cases of that name: by a quote, or, where they are over parameters, from their parts'.
+fn laws_of(
+    alloc: Global,
+    (all, declaration): (&[Declaration], &Declaration),
+    (name, cases): (&str, &str),
+) -> DeriveResult<String> {
+    let parameters = declaration.generics.parameters.as_slice();
+    if parameters.is_empty() {
+        return Ok(format!(in alloc; "⟦<{name} as LawfulCases<L>>⟧.case_laws")?);
+    }
+    let seen = looked_into(alloc, all, (cases, parameters))?;
+    law_of(alloc, seen.as_str(), parameters, declaration.line)
 }
 
 /// `1st`, `7th`.

@@ -224,7 +224,7 @@ const SHORT_HEAD: &str =
 ";
 
 /// Types whose values have no one size.
-const UNSIZED: [&str; 22] = [
+const UNSIZED: [&str; 32] = [
     "String",
     "Vec",
     "VecDeque",
@@ -237,6 +237,15 @@ const UNSIZED: [&str; 22] = [
     "Option",
     "Box",
     "Rc",
+    "Arc",
+    "BoxedStr",
+    "RcStr",
+    "ArcStr",
+    "PathBuf",
+    "CString",
+    "Bound",
+    "IpAddr",
+    "SocketAddr",
     "char",
     "ShortU16",
     "str",
@@ -244,15 +253,43 @@ const UNSIZED: [&str; 22] = [
     "containers::VecDeque",
     "containers::BoxedSlice",
     "containers::RcSlice",
+    "containers::ArcSlice",
     "containers::BinaryHeap",
     "containers::Option",
     "containers::Result",
 ];
 
 /// Types that are keys of maps.
-const KEYS: [&str; 15] = [
-    "u8", "u16", "u32", "u64", "u128", "usize", "i8", "i16", "i32", "i64", "i128", "isize", "bool",
-    "char", "String",
+const KEYS: [&str; 29] = [
+    "u8",
+    "u16",
+    "u32",
+    "u64",
+    "u128",
+    "usize",
+    "i8",
+    "i16",
+    "i32",
+    "i64",
+    "i128",
+    "isize",
+    "bool",
+    "char",
+    "String",
+    "NonZeroU8",
+    "NonZeroU16",
+    "NonZeroU32",
+    "NonZeroU64",
+    "NonZeroU128",
+    "NonZeroUsize",
+    "NonZeroI8",
+    "NonZeroI16",
+    "NonZeroI32",
+    "NonZeroI64",
+    "NonZeroI128",
+    "NonZeroIsize",
+    "Ipv4Addr",
+    "Ipv6Addr",
 ];
 
 /// How many fields stand in a tuple before what stands for the others.
@@ -865,7 +902,7 @@ fn of_parts(alloc: Global, declaration: &Declaration, member: &str) -> DeriveRes
 }
 
 /// Sets the words of what values are made of. Where it is bound, values of the parameters' schemas are to be let go.
-fn set_of(alloc: Global, words: &mut Words, (declaration, is_bound): (&Declaration, bool)) {
+pub fn set_of(alloc: Global, words: &mut Words, (declaration, is_bound): (&Declaration, bool)) {
     let generics = &declaration.generics;
     words.set("of", of_parts(alloc, declaration, ""));
     words.set("of_src", of_parts(alloc, declaration, "::Src"));
@@ -914,7 +951,7 @@ fn used_of(alloc: Global, generics: &Generics, text: &str) -> DeriveResult<Gener
 }
 
 /// A name that begins with that of a declared type, over what stands of its parameters in these schemas.
-fn name_over(
+pub fn name_over(
     alloc: Global,
     declaration: &Declaration,
     (behind, schemas): (&str, &str),
@@ -926,7 +963,7 @@ fn name_over(
 }
 
 /// Sets the words of the parameters of each `impl`.
-fn set_over(alloc: Global, words: &mut Words, generics: &Generics) {
+pub fn set_over(alloc: Global, words: &mut Words, generics: &Generics) {
     let lending = "L: Lending";
     words.set("writes", over(alloc, "", generics, "SchemaWrite"));
     words.set("reads", over(alloc, lending, generics, "SchemaRead<L>"));

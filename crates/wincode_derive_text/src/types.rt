@@ -35,7 +35,7 @@ pub struct Scope<'a> {
 }
 
 /// The types that have schemas, and how many parts they have.
-const KNOWN: [(&str, usize); 28] = [
+const KNOWN: [(&str, usize); 64] = [
     ("u8", 0),
     ("u16", 0),
     ("u32", 0),
@@ -64,47 +64,64 @@ const KNOWN: [(&str, usize); 28] = [
     ("HashMap", 2),
     ("HashSet", 1),
     ("PhantomData", 1),
+    ("f32", 0),
+    ("f64", 0),
+    ("Duration", 0),
+    ("SystemTime", 0),
+    ("Ipv4Addr", 0),
+    ("Ipv6Addr", 0),
+    ("IpAddr", 0),
+    ("SocketAddrV4", 0),
+    ("SocketAddrV6", 0),
+    ("SocketAddr", 0),
+    ("BoxedStr", 0),
+    ("RcStr", 0),
+    ("ArcStr", 0),
+    ("PathBuf", 0),
+    ("NonZeroU8", 0),
+    ("NonZeroU16", 0),
+    ("NonZeroU32", 0),
+    ("NonZeroU64", 0),
+    ("NonZeroU128", 0),
+    ("NonZeroUsize", 0),
+    ("NonZeroI8", 0),
+    ("NonZeroI16", 0),
+    ("NonZeroI32", 0),
+    ("NonZeroI64", 0),
+    ("NonZeroI128", 0),
+    ("NonZeroIsize", 0),
+    ("Wrapping", 1),
+    ("Saturating", 1),
+    ("Reverse", 1),
+    ("Range", 1),
+    ("RangeInclusive", 1),
+    ("RangeFrom", 1),
+    ("RangeTo", 1),
+    ("Arc", 1),
+    ("Bound", 1),
+    ("CString", 0),
 ];
 
 /// What to take in the place of types of std that have no schema.
-const ADVICE: [(&str, &str); 24] = [
-    ("f32", "keep its bits, as `u32`"),
-    ("f64", "keep its bits, as `u64`"),
-    ("Arc", "take `Rc` or `Box`"),
+const ADVICE: [(&str, &str); 11] = [
     ("str", "take `String`"),
-    ("BoxedStr", "take `String`"),
-    ("RcStr", "take `String`"),
-    ("ArcStr", "take `String`"),
     ("Cow", "take `String`"),
     ("CowStr", "take `String`"),
-    ("PathBuf", "take `String`"),
     ("OsString", "take `String`"),
-    ("CString", "take `String`"),
-    (
-        "Duration",
-        "keep it as a number, such as `u64` of milliseconds",
-    ),
     (
         "Instant",
         "keep it as a number, such as `u64` of milliseconds",
-    ),
-    (
-        "SystemTime",
-        "keep it as a number, such as `u64` of seconds",
     ),
     ("Cell", "take what it holds"),
     ("RefCell", "take what it holds"),
     ("Mutex", "take what it holds"),
     ("RwLock", "take what it holds"),
     ("OnceCell", "take an `Option`"),
-    ("Wrapping", "take the number itself"),
     ("Ordering", "keep it as an `i8`"),
-    ("Range", "take a tuple of its ends"),
-    ("RangeInclusive", "take a tuple of its ends"),
 ];
 
 fn advice_on(name: &str) -> Option<&'static str> {
-    if name.starts_with("NonZero") || name.starts_with("Atomic") {
+    if name.starts_with("Atomic") {
         return Some("take the number itself");
     }
     for (known, advice) in &ADVICE {
@@ -438,7 +455,7 @@ impl Walk<'_> {
         if is_slice(self.tokens, (from, to), name) {
             return Err(self.no_slice(alloc, part, name, (from, to)));
         }
-        if matches!(name, "Box" | "Rc") && is_text(self.tokens, from, to) {
+        if matches!(name, "Box" | "Rc" | "Arc") && is_text(self.tokens, from, to) {
             return Err(self.none(alloc, part, Some("take `String`")));
         }
         let count = self.push_all(from, to)?;
@@ -456,10 +473,10 @@ impl Walk<'_> {
         name: &str,
         (from, to): (usize, usize),
     ) -> DeriveError {
-        let kind = if name == "Box" {
-            "BoxedSlice"
-        } else {
-            "RcSlice"
+        let kind = match name {
+            "Box" => "BoxedSlice",
+            "Rc" => "RcSlice",
+            _ => "ArcSlice",
         };
         match self.slice_text(alloc, kind, (from, to)) {
             Ok(advice) => self.none(alloc, part, Some(advice.as_str())),
@@ -502,12 +519,12 @@ impl Walk<'_> {
     ) -> DeriveResult<()> {
         let root = text_at(self.tokens, part.from);
         let origin = self.scope.imports.origin(root);
-        if matches!(name, "BoxedSlice" | "RcSlice") && origin != Origin::Own {
+        if matches!(name, "BoxedSlice" | "RcSlice" | "ArcSlice") && origin != Origin::Own {
             let item = type_text(alloc, self.tokens, from, to)?;
             let advice = slice_advice(alloc, name, item.as_str(), false)?;
             return Err(self.none(alloc, part, Some(advice.as_str())));
         }
-        let is_certain = matches!(name, "f32" | "f64" | "str" | "Arc");
+        let is_certain = name == "str";
         let is_imported = self.scope.imports.is_imported(root) || path.name != part.from;
         match advice_on(name) {
             Some(_) if origin == Origin::Unknown && !is_certain => Ok(()),
@@ -607,7 +624,7 @@ fn is_name(tokens: &[Token], from: usize, to: usize) -> bool {
 
 /// Whether what stands there is a slice in a box.
 fn is_slice(tokens: &[Token], (from, to): (usize, usize), name: &str) -> bool {
-    matches!(name, "Box" | "Rc")
+    matches!(name, "Box" | "Rc" | "Arc")
         && is_sign(tokens, from, "[")
         && first_of(tokens, (next(from), to.saturating_sub(1)), &[";"]) == to.saturating_sub(1)
 }
