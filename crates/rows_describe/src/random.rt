@@ -1,7 +1,7 @@
 //! Pairs of types at random, and inputs that are read by both.
 use std::alloc::{AllocError, Global};
 use std::test::Fail;
-use wincode_describe::described::{Cases, Integer, LengthScheme, TagSize};
+use wincode_describe::described::{Cases, Integer, LengthScheme, StdType, TagSize};
 use wincode_describe::{Answer, Described, are_same_parts, compare, explain};
 use wincode_io::Lifetime;
 
@@ -12,7 +12,7 @@ const INPUTS: usize = 50;
 const DEPTH: usize = 4;
 
 /// The types without parts.
-const LEAVES: [&str; 20] = [
+const LEAVES: [&str; 26] = [
     "u8",
     "u16",
     "u32",
@@ -33,6 +33,12 @@ const LEAVES: [&str; 20] = [
     "short Vec<u8>",
     "[u8; 2]",
     "[u8; 0]",
+    "f32",
+    "f64",
+    "NonZeroU16",
+    "NonZeroI8",
+    "Duration",
+    "Ipv4Addr",
 ];
 
 /// Numbers at random, of which one is another than its seed gives.
@@ -75,7 +81,7 @@ fn byte_below(draws: &mut Draws, n: u64) -> u8 {
 
 /// A type without parts.
 fn push_leaf(draws: &mut Draws, text: &mut String) -> Result<(), AllocError> {
-    let i = draws.below(20) as usize;
+    let i = draws.below(26) as usize;
     text.push_str(LEAVES.get(i).copied().unwrap_or("u8"))
 }
 
@@ -224,6 +230,16 @@ fn push_number(n: u64, size: usize, bytes: &mut Vec<u8>) -> Result<(), AllocErro
     Ok(())
 }
 
+/// How many bytes a value of a type of std's has.
+fn std_size(kind: StdType) -> usize {
+    match kind {
+        StdType::F32 | StdType::Ipv4Addr => 4,
+        StdType::F64 => 8,
+        StdType::Duration | StdType::SystemTime => 12,
+        StdType::Ipv6Addr => 16,
+    }
+}
+
 /// A length below 3.
 fn push_length(
     draws: &mut Draws,
@@ -269,7 +285,10 @@ fn push_value(
     bytes: &mut Vec<u8>,
 ) -> Result<(), AllocError> {
     match described {
-        Described::Integer(integer) => push_bytes(draws, integer_size(*integer), bytes),
+        Described::Integer(integer) | Described::NonZero(integer) => {
+            push_bytes(draws, integer_size(*integer), bytes)
+        }
+        Described::Std(kind) => push_bytes(draws, std_size(*kind), bytes),
         Described::Bool => {
             let flag = draws.below(2);
             push_number(flag, 1, bytes)

@@ -1,3 +1,4 @@
+pub mod Gets
 pub mod Shows
 pub mod ByteArrays
 pub mod Spanned
@@ -8,6 +9,7 @@ mod ReadsBack
 mod WrittenSplits
 mod LineParts
 mod Placed
+mod Sourced
 mod Likes
 mod Witnesses
 mod Rows

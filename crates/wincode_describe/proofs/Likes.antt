@@ -1,5 +1,5 @@
 -- What is known of two types, made of what is known of their parts.
-use Rattle.std.proofs.Common.{◌≡◌, ◌∙◌, ap, subst, ℕ, zero, suc, ◌≤◌, Bool, true, false, List, [], ◌∷◌, ◌++◌, length, refl, arith, nat_eq, Ok, Err, Some, None}
+use Rattle.std.proofs.Common.{◌≡◌, ◌∙◌, sym, ap, subst, ℕ, zero, suc, ◌≤◌, Bool, true, false, List, [], ◌∷◌, ◌++◌, length, refl, arith, nat_eq, Ok, Err, Some, None}
 use Rattle.std.proofs.Math.Nat.{mul-le-mul_left}
 use Rattle.std.proofs.lemmas.Bool.{eqb-true}
 use Rattle.std.specs.Prelude.{Result, Option, ◌||◌}
@@ -16,8 +16,9 @@ use Rattle.wincode_describe.specs.Forms.{seen_cases}
 use Rattle.wincode_describe.specs.Parts.{Part}
 use Rattle.wincode_describe.specs.Readers.{has_tag}
 use Rattle.wincode_describe.specs.ShownGrammars.{shown_read, joined, chosen_read, CaseGrammars, IsChosen, nameless_read, read_if}
-use Rattle.wincode_describe.specs.Types.{described_read, cases_read, list_of, scheme_of, option_shown, result_shown, both_shown}
+use Rattle.wincode_describe.specs.Types.{integer_read, nonzero_read, described_read, cases_read, list_of, scheme_of, option_shown, result_shown, both_shown}
 use Rattle.wincode_describe.specs.declared.described.Described.{Described}
+use Rattle.wincode_describe.specs.declared.described.Integer.{Integer}
 use Rattle.wincode_describe.specs.declared.described.Cases.{Cases}
 use Rattle.wincode_describe.specs.declared.described.Cases.TheVariants.{Last', Case'}
 use Rattle.wincode_describe.specs.declared.described.LengthScheme.{LengthScheme}
@@ -326,3 +327,9 @@ pub choice_fewer : (a : Likeness) (cs : Cases) (g h : Grammar) → AreLike a cs 
 choice_fewer Same cs g h m = chosen_sides (cases_read cs) g h (all_within cs (side_at g h) (λ t e. (m t e).0))
 choice_fewer Reads cs g h m = chosen_sides (cases_read cs) g h (all_within cs (side_at g h) m)
 choice_fewer Unlike cs g h m = tt
+
+-- an integer that isn't 0 is an integer
+pub nonzero_like : (i : Integer) → IsLike Reads (nonzero_read i) (integer_read i)
+nonzero_like i = λ b w r.
+    let P : List Part → Type 0 = λ p. (integer_read i).reads b p in
+    subst P (sym r.3.0 ∙ r.4) r.2

@@ -1,5 +1,5 @@
 -- One reading after another.
-use Rattle.std.proofs.Common.{◌≡◌, sym, ap, subst, refl, ℕ, ◌-◌, ◌≤◌, suc, zero, length, nat_eq, Bool, true, false, cond, List, [], ◌∷◌, Option, Some}
+use Rattle.std.proofs.Common.{◌≡◌, sym, ap, subst, refl, ℕ, ◌-◌, ◌≤◌, suc, zero, length, nat_eq, Bool, true, false, cond, List, [], ◌∷◌, Option, Some, codes}
 use Rattle.std.proofs.Common.{None, Result, Ok, Err, arith}
 use Rattle.std.proofs.lemmas.Bool.{eqb-true}
 use Rattle.std.specs.Bool.{OnFalse}
@@ -8,7 +8,8 @@ use Rattle.wincode_describe.specs.declared.described.Described.{Described}
 use Rattle.wincode_describe.specs.declared.parsing.Opening.{Opening}
 use Rattle.wincode_describe.specs.Phrases.{Piece, Reads, HasTokens, left, front_word, word_front, behind_sign}
 use Rattle.wincode_describe.specs.Readers.{Makes, Reader, Readers, and_then, on, readers, one_more, no_more, unread, members_by, tuple_by, plain_of}
-use Rattle.wincode_describe.specs.Readers.{opening_of, behind_word, word_by, ended, whole, Parses}
+use Rattle.wincode_describe.specs.Readers.{sign_front, opening_of, behind_word, word_by, ended, whole, Parses}
+use Rattle.wincode_derive_text.specs.declared.tokens.Kind.TheVariants as kind
 use Rattle.wincode_describe.specs.declared.tokens.Tokens.{Tokens}
 use Rattle.wincode_describe.specs.declared.error.DescribeError.{DescribeError}
 use Rattle.wincode_describe.specs.declared.error.DescribeError.TheVariants.{OutOfMemory}
@@ -103,6 +104,37 @@ pub no_word : {X Y : Type 0} (sees : Y → X) (word : List ℕ) (old middle : Li
     (r : Result Y DescribeError) (rest : List Piece) → length word ≡ 0 → front_word word middle old → Reads sees (and_then (word_front old) k) r rest
 no_word sees [] old middle k r rest e h = rw h tt
 no_word sees (c ∷ cs) old middle k r rest e h = absurd (omega arith)
+
+-- the word that is there
+abbrev word_in : Option (List ℕ × List Piece) → List ℕ
+word_in None = []
+word_in (Some w) = w.0
+
+-- `str` is no type
+word_text : (below : Readers) (w : List ℕ) (rest : List Piece) → w ≡ codes "str" → word_by below (w, rest) ≡ None
+word_text below w rest e = rw e refl
+
+pub no_text : (n : ℕ) (ts rest : List Piece) → word_front ts ≡ Some (codes "str", rest) → (readers n).types ts ≡ None
+unfolding readers
+no_text zero ts rest h = refl
+no_text (suc n) ((kind.Word, c ∷ cs) ∷ more) rest h = word_text (readers n) (c ∷ cs) more (ap word_in h)
+no_text (suc n) _ rest h = absurd (cc)
+
+pub text_read : {X Y : Type 0} (sees : Y → X) (n : ℕ) (ts rest : List Piece) (k : Form × List Piece → Option (X × List Piece)) (r : Result Y DescribeError)
+    (after : List Piece) → word_front ts ≡ Some (codes "str", rest) → Reads sees (and_then ((readers n).types ts) k) r after
+text_read sees n ts rest k r after h = rw (no_text n ts rest h) tt
+
+-- another word stays
+pub word_left : {X Y : Type 0} (sees : Y → X) (b : Bool) (old middle : List Piece) (f : List Piece → Option (X × List Piece)) (r : Result Y DescribeError)
+    (rest : List Piece) → OnFalse b (middle ≡ old) → b ≡ false → Reads sees (f middle) r rest → Reads sees (f old) r rest
+word_left sees true old middle f r rest k t g = absurd (cc)
+word_left sees false old middle f r rest k t g =
+    let P : List Piece → Type 0 = λ l. Reads sees (f l) r rest in
+    subst P k g
+
+-- one type and the closing bracket
+abbrev pub held_by : Reader → (Form → Form) → Reader
+held_by types f ts = and_then (types ts) (λ d. and_then (sign_front (codes ">") d.1) (λ e. Some (f d.0, e.1)))
 
 -- what is chosen by a word, and where nothing is
 pub chosen_is : {A X Y : Type 0} (sees : Y → X) (o : Option A) (x : A) (k : A → Option (X × List Piece)) (r : Result Y DescribeError) (rest : List Piece) → o

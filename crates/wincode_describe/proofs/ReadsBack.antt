@@ -5,15 +5,17 @@ use Rattle.std.proofs.lemmas.Fmt.{digits_decimal, digits_value-decimal, decimal_
 use Rattle.std.proofs.lemmas.Str.Parse.{IsNumeralModel, numerals_by_value, tells_all_ascii_digits}
 use Rattle.std.specs.Str.{all_ascii_digits}
 use Rattle.std.specs.Str.Parse.{digits_value}
-use Rattle.wincode_describe.specs.Forms.{Form, Number, Flag, Letter, Nothing, Words, Bytes, ByteBlock, Maybe, Either, Held, Many, Several, Pairs}
+use Rattle.wincode_describe.specs.Forms.{Form, Number, NotZero, Standard, Flag, Letter, Nothing, Words, Bytes, ByteBlock, Maybe, Either, Held, Many, Several, Pairs}
 use Rattle.wincode_describe.specs.Forms.{Block, Group, Record, Both, Named, Choice, LastCase, OneCase}
 use Rattle.wincode_describe.specs.Phrases.{Piece, number_of, number_front, word_front, behind_sign}
 use Rattle.wincode_describe.proofs.ReadSteps.{members_is, tuple_is}
 use Rattle.wincode_describe.specs.Readers.{Readers, readers, type_by, list_form, array_form, greatest_of}
 use Rattle.wincode_describe.specs.Spelled.{word, sign, spelled, Within, IsForm, IsType, AreFields, AreCases}
-use Rattle.wincode_describe.specs.Written.{integer_name}
+use Rattle.wincode_describe.specs.Written.{integer_name, nonzero_name, std_name}
 use Rattle.wincode_describe.specs.declared.described.Integer.{Integer}
 use Rattle.wincode_describe.specs.declared.described.Integer.TheVariants.{U8, U16, U32, U64, U128, Usize, I8, I16, I32, I64, I128, Isize}
+use Rattle.wincode_describe.specs.declared.described.StdType.{StdType}
+use Rattle.wincode_describe.specs.declared.described.StdType.TheVariants as std
 use Rattle.wincode_describe.specs.declared.described.LengthScheme.{LengthScheme}
 use Rattle.wincode_describe.specs.declared.described.LengthScheme.TheVariants.{Eight, Short}
 use Rattle.wincode_describe.specs.declared.described.TagSize.TheVariants as tag
@@ -46,6 +48,28 @@ integer_back I64 below rest = refl
 integer_back I128 below rest = refl
 integer_back Isize below rest = refl
 
+nonzero_back : (i : Integer) (below : Readers) (rest : List Piece) → type_by below (word (nonzero_name i) ∷ rest) ≡ Some (NotZero i, rest)
+nonzero_back U8 below rest = refl
+nonzero_back U16 below rest = refl
+nonzero_back U32 below rest = refl
+nonzero_back U64 below rest = refl
+nonzero_back U128 below rest = refl
+nonzero_back Usize below rest = refl
+nonzero_back I8 below rest = refl
+nonzero_back I16 below rest = refl
+nonzero_back I32 below rest = refl
+nonzero_back I64 below rest = refl
+nonzero_back I128 below rest = refl
+nonzero_back Isize below rest = refl
+
+std_back : (k : StdType) (below : Readers) (rest : List Piece) → type_by below (word (std_name k) ∷ rest) ≡ Some (Standard k, rest)
+std_back std.F32 below rest = refl
+std_back std.F64 below rest = refl
+std_back std.Duration below rest = refl
+std_back std.SystemTime below rest = refl
+std_back std.Ipv4Addr below rest = refl
+std_back std.Ipv6Addr below rest = refl
+
 list_many : (s : LengthScheme) (d : Form) → (d ≡ Number U8 → ⊥) → list_form s d ≡ Many s d
 list_many s (Number U8) h = absurd (h refl)
 list_many s _ h = refl
@@ -74,6 +98,8 @@ begins_braces _ rest = refl
 -- each type takes a level
 none_within : (f : Form) (b : Bool) → IsForm f b 0 → ⊥
 none_within (Number i) b h = absurd (omega arith)
+none_within (NotZero i) b h = absurd (omega arith)
+none_within (Standard k) b h = absurd (omega arith)
 none_within Flag b h = absurd (omega arith)
 none_within Letter b h = absurd (omega arith)
 none_within Nothing b h = absurd (omega arith)
@@ -107,6 +133,8 @@ byte_block_more k (suc n) rest h f = rw (number_in_front k (sign (codes "]") ∷
 types_more : (n : ℕ) → Back n → (f : Form) (rest : List Piece) → IsForm f false (suc n) → (readers (suc n)).types (spelled f rest) ≡ Some (f, rest)
 unfolding readers
 types_more n b (Number i) rest h = integer_back i (readers n) rest
+types_more n b (NotZero i) rest h = nonzero_back i (readers n) rest
+types_more n b (Standard k) rest h = std_back k (readers n) rest
 types_more n b Flag rest h = refl
 types_more n b Letter rest h = refl
 types_more n b Nothing rest h = tuple_is n (sign (codes ")") ∷ rest)

@@ -12,16 +12,18 @@ use Rattle.std.specs.Str.Parse.{digits_value}
 use Rattle.wincode_derive_text.specs.Splits.{all_of_word, of_word, tokens_from, tokens_in}
 use Rattle.wincode_derive_text.proofs.SplitLaws.{and_left, and_right, ascii_of_word, word_before, digits_of_word}
 use Rattle.wincode_describe.proofs.ReadsBack.{type_back}
-use Rattle.wincode_describe.specs.Forms.{Form, seen, Number, Flag, Letter, Nothing, Words, Bytes, ByteBlock, Maybe, Either, Held, Many, Several}
+use Rattle.wincode_describe.specs.Forms.{Form, seen, Number, NotZero, Standard, Flag, Letter, Nothing, Words, Bytes, ByteBlock, Maybe, Either, Held, Many, Several}
 use Rattle.wincode_describe.specs.Forms.{Pairs, Block, Group, Record, Both, Named, Choice, LastCase, OneCase}
 use Rattle.wincode_describe.specs.Phrases.{Piece}
 use Rattle.wincode_describe.specs.Readers.{Makes, Parses, and_then, ended, greatest_of, whole}
 use Rattle.wincode_describe.specs.Spelled.{word, sign, spelled, IsForm, IsType, AreFields, AreCases, IsName}
-use Rattle.wincode_describe.specs.Written.{written, integer_name}
+use Rattle.wincode_describe.specs.Written.{written, integer_name, nonzero_name, std_name}
 use Rattle.wincode_describe.specs.declared.error.DescribeError.{DescribeError}
 use Rattle.wincode_describe.specs.declared.described.Described.{Described}
 use Rattle.wincode_describe.specs.declared.described.Integer.{Integer}
 use Rattle.wincode_describe.specs.declared.described.Integer.TheVariants.{U8, U16, U32, U64, U128, Usize, I8, I16, I32, I64, I128, Isize}
+use Rattle.wincode_describe.specs.declared.described.StdType.{StdType}
+use Rattle.wincode_describe.specs.declared.described.StdType.TheVariants as std
 use Rattle.wincode_describe.specs.declared.described.LengthScheme.TheVariants.{Eight, Short}
 use Rattle.wincode_describe.specs.declared.described.TagSize.TheVariants as tag
 
@@ -80,6 +82,50 @@ integer_word I64 = refl
 integer_word I128 = refl
 integer_word Isize = refl
 
+nonzero_some : (i : Integer) → 0 < length (nonzero_name i)
+nonzero_some U8 = omega arith
+nonzero_some U16 = omega arith
+nonzero_some U32 = omega arith
+nonzero_some U64 = omega arith
+nonzero_some U128 = omega arith
+nonzero_some Usize = omega arith
+nonzero_some I8 = omega arith
+nonzero_some I16 = omega arith
+nonzero_some I32 = omega arith
+nonzero_some I64 = omega arith
+nonzero_some I128 = omega arith
+nonzero_some Isize = omega arith
+
+nonzero_word : (i : Integer) → all_of_word (nonzero_name i) ≡ true
+nonzero_word U8 = refl
+nonzero_word U16 = refl
+nonzero_word U32 = refl
+nonzero_word U64 = refl
+nonzero_word U128 = refl
+nonzero_word Usize = refl
+nonzero_word I8 = refl
+nonzero_word I16 = refl
+nonzero_word I32 = refl
+nonzero_word I64 = refl
+nonzero_word I128 = refl
+nonzero_word Isize = refl
+
+std_some : (k : StdType) → 0 < length (std_name k)
+std_some std.F32 = omega arith
+std_some std.F64 = omega arith
+std_some std.Duration = omega arith
+std_some std.SystemTime = omega arith
+std_some std.Ipv4Addr = omega arith
+std_some std.Ipv6Addr = omega arith
+
+std_word : (k : StdType) → all_of_word (std_name k) ≡ true
+std_word std.F32 = refl
+std_word std.F64 = refl
+std_word std.Duration = refl
+std_word std.SystemTime = refl
+std_word std.Ipv4Addr = refl
+std_word std.Ipv6Addr = refl
+
 -- a comma, a colon and a semicolon, each with a space behind it
 comma : (cs : List ℕ) (ts : List Piece) → tokens_from cs ≡ Some ts → tokens_from (codes ", " ++ cs) ≡ Some (sign (codes ",") ∷ ts)
 unfolding encode_utf8
@@ -114,6 +160,8 @@ pub splits_as : (f : Form) (c : ℕ) (cs : List ℕ) (ts : List Piece) → CanSp
     → tokens_from (written f ++ (c ∷ cs)) ≡ Some (spelled f ts)
 unfolding encode_utf8
 splits_as (Number i) c cs ts k o h = word_before (integer_name i) c cs ts (integer_some i) (integer_word i) o h
+splits_as (NotZero i) c cs ts k o h = word_before (nonzero_name i) c cs ts (nonzero_some i) (nonzero_word i) o h
+splits_as (Standard s) c cs ts k o h = word_before (std_name s) c cs ts (std_some s) (std_word s) o h
 splits_as Flag c cs ts k o h = word_before (codes "bool") c cs ts (omega arith) refl o h
 splits_as Letter c cs ts k o h = word_before (codes "char") c cs ts (omega arith) refl o h
 splits_as Nothing c cs ts k o h = rw h refl
@@ -182,6 +230,8 @@ mutual
   form_splits (Both d e) true zero h = absurd h.1
   form_splits (Both d e) false n h = absurd h
   form_splits (Number i) b n h = tt
+  form_splits (NotZero i) b n h = tt
+  form_splits (Standard k) b n h = tt
   form_splits Flag b n h = tt
   form_splits Letter b n h = tt
   form_splits Nothing b n h = tt
@@ -238,6 +288,8 @@ number_ascii n h = word_ascii (decimal n) (digits_of_word (decimal n) (digits_de
 
 written_ascii : (f : Form) → CanSplit f → all_ascii (written f) ≡ true
 written_ascii (Number i) k = word_ascii (integer_name i) (integer_word i)
+written_ascii (NotZero i) k = word_ascii (nonzero_name i) (nonzero_word i)
+written_ascii (Standard s) k = word_ascii (std_name s) (std_word s)
 written_ascii (Bytes Eight) k = refl
 written_ascii (Bytes Short) k = refl
 written_ascii (ByteBlock n) k = ascii_append (decimal n) (codes "]") (number_ascii n k) refl

@@ -1,5 +1,5 @@
 -- What is said of bytes that are explained by a type.
-use Rattle.std.specs.Prelude.{◌≡◌, ◌⊎◌, ℕ, List, [], ◌++◌, length, IsTrue, Option, Some, None}
+use Rattle.std.specs.Prelude.{◌≡◌, ◌⊎◌, ℕ, Bool, List, [], ◌++◌, length, IsTrue, Option, Some, None, is_none}
 use Rattle.wincode_io.specs.Readers.{ReaderState, memory, nothing}
 use Rattle.wincode_io.specs.Sources.{SourceState}
 use Rattle.wincode_io.specs.Streams.{streaming}
@@ -40,3 +40,11 @@ Checks d bytes n refused = (parts : List Part) × (n ≡ length (parts_bytes par
 -- so, of what a reader has
 abbrev pub ChecksRead : Described → ReaderState → ReaderState → ℕ → Option ReadError → Type 0
 ChecksRead d old new n refused = (parts : List Part) × (n ≡ length (parts_bytes parts)) × ExplainsRead d old new parts refused
+
+-- some parts explain what a reader had, and it is said whether nothing was refused
+abbrev pub SaysRead : Described → ReaderState → ReaderState → Bool → Type 0
+SaysRead d old new whole = (parts : List Part) × (refused : Option ReadError) × ExplainsRead d old new parts refused × (whole ≡ is_none refused)
+
+-- so, what comes of a source
+abbrev pub SaysSource : Described → SourceState → Bool → Type 0
+SaysSource d s whole = (parts : List Part) × (refused : Option ReadError) × ExplainsSource d s parts refused × (whole ≡ is_none refused)

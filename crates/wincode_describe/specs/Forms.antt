@@ -1,6 +1,7 @@
 -- Described types, wherever they lie in memory.
 use Rattle.std.specs.Prelude.{ℕ, List, string_bytes}
 use Rattle.wincode_describe.specs.declared.described.Integer.{Integer}
+use Rattle.wincode_describe.specs.declared.described.StdType.{StdType}
 use Rattle.wincode_describe.specs.declared.described.LengthScheme.{LengthScheme}
 use Rattle.wincode_describe.specs.declared.described.TagSize.{TagSize}
 use Rattle.wincode_describe.specs.declared.described.Described.{Described}
@@ -11,6 +12,8 @@ use Rattle.wincode_describe.specs.declared.described.Cases.TheVariants.{Last', C
 -- A described type, or a part of one: the members of a tuple, the fields of a struct or the cases of an enum.
 pub data Form : Type 0 where
   Number : (integer : Integer) → Form
+  NotZero : (integer : Integer) → Form
+  Standard : (kind : StdType) → Form
   Flag : Form
   Letter : Form
   Nothing : Form
@@ -36,6 +39,8 @@ abbrev mutual
   -- what contracts see of a described type
   pub seen : Described → Form
   seen (type.Integer i) = Number i
+  seen (type.NonZero i) = NotZero i
+  seen (type.Std k) = Standard k
   seen type.Bool = Flag
   seen type.Char = Letter
   seen type.Unit = Nothing

@@ -8,14 +8,17 @@ use Rattle.wincode_describe.specs.declared.described.Integer.{Integer}
 use Rattle.wincode_describe.specs.declared.described.Integer.TheVariants.{U8, U16, U32, U64, U128, Usize, I8, I16, I32, I64, I128, Isize}
 use Rattle.wincode_describe.specs.declared.described.LengthScheme.{LengthScheme}
 use Rattle.wincode_describe.specs.declared.described.LengthScheme.TheVariants.{Eight, Short}
+use Rattle.wincode_describe.specs.declared.described.StdType.{StdType}
+use Rattle.wincode_describe.specs.declared.described.StdType.TheVariants.{F32, F64, Duration, SystemTime, Ipv4Addr, Ipv6Addr}
 use Rattle.wincode_describe.specs.declared.shown.Shown.{Shown}
 use Rattle.wincode_describe.specs.declared.shown.Shown.TheVariants as shown
 
--- A part of a value: a number, a flag, a character, a text or bytes without their length, a length, a tag of so many bytes,
+-- A part of a value: a number, a value of a type of std's by the number that its bytes are, a flag, a character, a text or bytes without their length, a length, a tag of so many bytes,
 -- or a value without bytes.
 pub data Part : Type 0 where
   Natural : (integer : Integer) (n : ℕ) → Part
   Signed : (integer : Integer) (z : ℤ) → Part
+  Std : (kind : StdType) (n : ℕ) → Part
   Flag : (b : Bool) → Part
   Character : (c : ℕ) → Part
   Text : (bytes : List ℕ) → Part
@@ -28,6 +31,7 @@ pub data Part : Type 0 where
 abbrev pub seen : Shown → Part
 seen (shown.Natural i n) = Natural i n
 seen (shown.Signed i z) = Signed i z
+seen (shown.Std k n) = Std k n
 seen (shown.Flag b) = Flag b
 seen (shown.Character c) = Character c
 seen (shown.Text s) = Text (string_bytes s)
@@ -51,6 +55,15 @@ width_of I64 = w64
 width_of I128 = w128
 width_of Isize = w64
 
+-- how many bytes a value of a type of std's has
+abbrev pub std_size : StdType → ℕ
+std_size F32 = 4
+std_size F64 = 8
+std_size Duration = 12
+std_size SystemTime = 12
+std_size Ipv4Addr = 4
+std_size Ipv6Addr = 16
+
 -- the bytes of a length
 abbrev pub length_bytes : LengthScheme → ℕ → List ℕ
 length_bytes Eight n = le 8 n
@@ -60,6 +73,7 @@ length_bytes Short n = short_encoding n
 abbrev pub part_bytes : Part → List ℕ
 part_bytes (Natural i n) = le (byte_len (width_of i)) n
 part_bytes (Signed i z) = le (byte_len (width_of i)) (cast_unsigned (width_of i) z)
+part_bytes (Std k n) = le (std_size k) n
 part_bytes (Flag b) = bool_byte b ∷ []
 part_bytes (Character c) = encode_utf8 c
 part_bytes (Text bytes) = bytes

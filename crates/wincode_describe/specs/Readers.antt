@@ -1,11 +1,13 @@
 -- How a type is read of its words and signs.
 use Rattle.std.specs.Prelude.{◌≡◌, ◌^◌, ◌-◌, ℕ, zero, suc, Bool, true, false, if◌then◌else◌, nat_lt, nat_eq, ◌||◌, List, [], ◌∷◌, codes, bytes_eq}
 use Rattle.std.specs.Prelude.{Option, Some, None, Result, Ok, Err, option_map}
-use Rattle.wincode_describe.specs.Forms.{Form, seen, Number, Flag, Letter, Nothing, Words, Bytes, ByteBlock, Maybe, Either, Held, Many, Several}
+use Rattle.wincode_describe.specs.Forms.{Form, seen, Number, NotZero, Standard, Flag, Letter, Nothing, Words, Bytes, ByteBlock, Maybe, Either, Held, Many, Several}
 use Rattle.wincode_describe.specs.Forms.{Pairs, Block, Group, Record, Both, Named, Choice, LastCase, OneCase}
 use Rattle.wincode_describe.specs.Phrases.{Piece, behind_sign, word_front, number_front}
 use Rattle.wincode_describe.specs.declared.described.Described.{Described}
 use Rattle.wincode_describe.specs.declared.described.Integer.TheVariants.{U8, U16, U32, U64, U128, Usize, I8, I16, I32, I64, I128, Isize}
+use Rattle.wincode_describe.specs.declared.described.StdType.{StdType}
+use Rattle.wincode_describe.specs.declared.described.StdType.TheVariants as std
 use Rattle.wincode_describe.specs.declared.described.LengthScheme.{LengthScheme}
 use Rattle.wincode_describe.specs.declared.described.LengthScheme.TheVariants.{Eight, Short}
 use Rattle.wincode_describe.specs.declared.described.TagSize.{TagSize}
@@ -14,6 +16,8 @@ use Rattle.wincode_describe.specs.declared.error.DescribeError.{DescribeError}
 use Rattle.wincode_describe.specs.declared.error.DescribeError.TheVariants.{OutOfMemory}
 use Rattle.wincode_describe.specs.declared.parsing.Holder.{Holder}
 use Rattle.wincode_describe.specs.declared.parsing.Holder.TheVariants as holder
+use Rattle.wincode_describe.specs.declared.parsing.Known.{Known}
+use Rattle.wincode_describe.specs.declared.parsing.Known.TheVariants as known
 use Rattle.wincode_describe.specs.declared.parsing.Pair.{Pair}
 use Rattle.wincode_describe.specs.declared.parsing.Pair.TheVariants as pair
 use Rattle.wincode_describe.specs.declared.parsing.Opening.{Opening}
@@ -37,12 +41,38 @@ on (Some x) f other = f x
 abbrev pub sign_front : List ℕ → List Piece → Option (Unit {0} × List Piece)
 sign_front s ts = option_map (λ rest. (tt, rest)) (behind_sign s ts)
 
+-- the form that a word is that names one of std's types
+abbrev pub std_plain_of : List ℕ → Option Form
+std_plain_of w =
+    if bytes_eq w (codes "f32") then Some (Standard std.F32)
+    else if bytes_eq w (codes "f64") then Some (Standard std.F64)
+    else if bytes_eq w (codes "Duration") then Some (Standard std.Duration)
+    else if bytes_eq w (codes "SystemTime") then Some (Standard std.SystemTime)
+    else if bytes_eq w (codes "Ipv4Addr") then Some (Standard std.Ipv4Addr)
+    else if bytes_eq w (codes "Ipv6Addr") then Some (Standard std.Ipv6Addr)
+    else if bytes_eq w (codes "NonZeroU8") then Some (NotZero U8)
+    else if bytes_eq w (codes "NonZeroU16") then Some (NotZero U16)
+    else if bytes_eq w (codes "NonZeroU32") then Some (NotZero U32)
+    else if bytes_eq w (codes "NonZeroU64") then Some (NotZero U64)
+    else if bytes_eq w (codes "NonZeroU128") then Some (NotZero U128)
+    else if bytes_eq w (codes "NonZeroUsize") then Some (NotZero Usize)
+    else if bytes_eq w (codes "NonZeroI8") then Some (NotZero I8)
+    else if bytes_eq w (codes "NonZeroI16") then Some (NotZero I16)
+    else if bytes_eq w (codes "NonZeroI32") then Some (NotZero I32)
+    else if bytes_eq w (codes "NonZeroI64") then Some (NotZero I64)
+    else if bytes_eq w (codes "NonZeroI128") then Some (NotZero I128)
+    else if bytes_eq w (codes "NonZeroIsize") then Some (NotZero Isize)
+    else None
+
 -- the form that a word is by itself
 abbrev pub plain_of : List ℕ → Option Form
 plain_of w =
     if bytes_eq w (codes "bool") then Some Flag
     else if bytes_eq w (codes "char") then Some Letter
     else if bytes_eq w (codes "String") then Some Words
+    else if bytes_eq w (codes "BoxedStr") then Some Words
+    else if bytes_eq w (codes "CowStr") then Some Words
+    else if bytes_eq w (codes "PathBuf") then Some Words
     else if bytes_eq w (codes "u8") then Some (Number U8)
     else if bytes_eq w (codes "u16") then Some (Number U16)
     else if bytes_eq w (codes "u32") then Some (Number U32)
@@ -55,7 +85,7 @@ plain_of w =
     else if bytes_eq w (codes "i64") then Some (Number I64)
     else if bytes_eq w (codes "i128") then Some (Number I128)
     else if bytes_eq w (codes "isize") then Some (Number Isize)
-    else None
+    else std_plain_of w
 
 -- what is to stand behind a word
 abbrev pub opening_of : List ℕ → Opening
@@ -68,13 +98,29 @@ opening_of w =
     else if bytes_eq w (codes "HashMap") then opening.Two pair.Map
     else if bytes_eq w (codes "Option") then opening.One holder.Option
     else if bytes_eq w (codes "Box") then opening.One holder.Boxed
-    else if bytes_eq w (codes "Rc") then opening.One holder.Boxed
+    else if bytes_eq w (codes "Rc") then opening.One holder.Shared
+    else if bytes_eq w (codes "Arc") then opening.One holder.Shared
     else if bytes_eq w (codes "BTreeSet") then opening.One holder.Set
     else if bytes_eq w (codes "HashSet") then opening.One holder.Set
     else if bytes_eq w (codes "Vec") then opening.One holder.List
     else if bytes_eq w (codes "VecDeque") then opening.One holder.List
     else if bytes_eq w (codes "LinkedList") then opening.One holder.List
     else if bytes_eq w (codes "BinaryHeap") then opening.One holder.List
+    else if bytes_eq w (codes "CowSlice") then opening.One holder.List
+    else if bytes_eq w (codes "Wrapping") then opening.One holder.Bare
+    else if bytes_eq w (codes "Saturating") then opening.One holder.Bare
+    else if bytes_eq w (codes "Reverse") then opening.One holder.Bare
+    else if bytes_eq w (codes "RangeFrom") then opening.One holder.Bare
+    else if bytes_eq w (codes "RangeTo") then opening.One holder.Bare
+    else if bytes_eq w (codes "Range") then opening.Range
+    else if bytes_eq w (codes "RangeInclusive") then opening.Range
+    else if bytes_eq w (codes "Cow") then opening.Cow
+    else if bytes_eq w (codes "RcStr") then opening.Known known.SharedText
+    else if bytes_eq w (codes "ArcStr") then opening.Known known.SharedText
+    else if bytes_eq w (codes "IpAddr") then opening.Known known.IpAddr
+    else if bytes_eq w (codes "SocketAddrV4") then opening.Known known.SocketAddrV4
+    else if bytes_eq w (codes "SocketAddrV6") then opening.Known known.SocketAddrV6
+    else if bytes_eq w (codes "SocketAddr") then opening.Known known.SocketAddr
     else if bytes_eq w (codes "containers") then opening.Container
     else opening.Name
 
@@ -108,8 +154,22 @@ array_form n d = Block n d
 abbrev pub held_form : Holder → Form → Form
 held_form holder.Option d = Maybe d
 held_form holder.Boxed d = Held d
+held_form holder.Shared d = Held d
 held_form holder.Set d = Several d
 held_form holder.List d = list_form Eight d
+held_form holder.Bare d = d
+
+-- the address of a socket: an address of this type, and a port
+abbrev pub socket_form : StdType → Form
+socket_form k = Record (Both (Named (codes "ip") (Standard k)) (Named (codes "port") (Number U16)))
+
+-- what such a word is by itself, made of other types
+abbrev pub known_form : Known → Form
+known_form known.SharedText = Held Words
+known_form known.IpAddr = Either (Standard std.Ipv4Addr) (Standard std.Ipv6Addr)
+known_form known.SocketAddrV4 = socket_form std.Ipv4Addr
+known_form known.SocketAddrV6 = socket_form std.Ipv6Addr
+known_form known.SocketAddr = Either (socket_form std.Ipv4Addr) (socket_form std.Ipv6Addr)
 
 -- the two that stand in the angle brackets of such a word
 abbrev pub pair_form : Pair → Form → Form → Form
@@ -201,6 +261,7 @@ behind_word below opening.Enum ts = enum_by below.cases ts
 behind_word below opening.ShortList ts = short_by below.types ts
 behind_word below (opening.Two p) ts = two_by below.types (pair_form p) ts
 behind_word below (opening.One h) ts = item_by below.types (held_form h) ts
+behind_word below (opening.Known k) ts = Some (known_form k, ts)
 behind_word below _ ts = None
 
 -- a type that begins with a word, which stands in front of the rest

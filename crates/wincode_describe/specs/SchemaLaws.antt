@@ -1,6 +1,7 @@
 -- The grammar of a described type accepts what the grammar of its schema accepts.
 use Rattle.std.proofs.Common.{◌≡◌, ◌∙◌, sym, ap, subst, ℕ, ◌+◌, List, [], ◌∷◌, length, map, min, max, suc, refl, true, false, Ok, Err, Some, None}
-use Rattle.std.specs.Prelude.{Result, Option}
+use lib.Ieee.{binary32, binary64}
+use Rattle.std.specs.Prelude.{Result, Option, pos, ◌^◌}
 use Rattle.std.specs.Int.{w8, w16, w32, w64, w128}
 use Rattle.wincode_io.specs.Joins.{Joined}
 use Rattle.wincode_io.specs.Writers.{byte_limit}
@@ -11,16 +12,19 @@ use Rattle.wincode_base.specs.Grammar.{ReadGrammar}
 use Rattle.wincode_base.specs.InWindow.{windowed_read}
 use Rattle.wincode_base.specs.Leaves.{number_read, signed_read, bool_read, unit_read}
 use Rattle.wincode_base.specs.Lists.{list_read, reads_list}
+use Rattle.wincode_base.specs.Made.{made_read, IsNot, AreBits, AreTime, IsSame, is_zero, is_overflow}
 use Rattle.wincode_base.specs.Pairs.{pair_read, pair_meta}
 use Rattle.wincode_base.specs.Strings.{char_read, str_read, reference_meta}
 use Rattle.wincode_base.specs.Tags.{option_read, result_read, sides_meta}
 use Rattle.wincode_base.specs.declared.meta.TypeMeta.TheVariants.{Static}
 use Rattle.wincode_base.specs.declared.sizes.ItemSize.{ItemSize}
 use Rattle.wincode_describe.specs.Parts.{Part, Flag, Character, Bytes, Nothing}
-use Rattle.wincode_describe.specs.ShownGrammars.{joined}
+use Rattle.wincode_describe.specs.ShownGrammars.{shown_read, joined}
 use Rattle.wincode_describe.specs.Types.{natural_shown, signed_shown, scheme_of, text_shown, bytes_shown, list_shown, option_shown, result_shown}
+use Rattle.wincode_describe.specs.Types.{AsRead, bits_shown, time_shown, octets_shown}
 use Rattle.wincode_describe.specs.Types.{both_shown, described_read}
 use Rattle.wincode_describe.specs.declared.described.Integer.TheVariants.{U8, U16, U32, U64, U128, Usize, I8, I16, I32, I64, I128, Isize}
+use Rattle.wincode_describe.specs.declared.described.StdType.TheVariants.{F32, F64, Duration, SystemTime, Ipv4Addr, Ipv6Addr}
 use Rattle.wincode_describe.specs.declared.described.LengthScheme.{LengthScheme}
 use Rattle.wincode_describe.specs.declared.described.LengthScheme.TheVariants.{Eight}
 use Rattle.wincode_describe.specs.declared.described.Described.{Described}
@@ -69,6 +73,122 @@ i128_covers = record { meta = refl; prealloc = refl; reads = λ b v r. (signed_s
 
 pub isize_covers : Covers (signed_read w64 false) (type.Integer Isize)
 isize_covers = record { meta = refl; prealloc = refl; reads = λ b v r. (signed_shown Isize v, (v, r, refl)) }
+
+pub nonzero_u8_covers : Covers (made_read (λ v. v) (IsNot 0) is_zero (number_read 1 true)) (type.NonZero U8)
+nonzero_u8_covers = record {
+  meta = refl;
+  prealloc = refl;
+  reads = λ b v r. (natural_shown U8 r.0, (natural_shown U8 r.0, natural_shown U8 r.0, (r.0, r.2, refl), (refl, λ e. r.3.1 (cc e)), refl));
+}
+
+pub nonzero_u16_covers : Covers (made_read (λ v. v) (IsNot 0) is_zero (number_read 2 true)) (type.NonZero U16)
+nonzero_u16_covers = record {
+  meta = refl;
+  prealloc = refl;
+  reads = λ b v r. (natural_shown U16 r.0, (natural_shown U16 r.0, natural_shown U16 r.0, (r.0, r.2, refl), (refl, λ e. r.3.1 (cc e)), refl));
+}
+
+pub nonzero_u32_covers : Covers (made_read (λ v. v) (IsNot 0) is_zero (number_read 4 true)) (type.NonZero U32)
+nonzero_u32_covers = record {
+  meta = refl;
+  prealloc = refl;
+  reads = λ b v r. (natural_shown U32 r.0, (natural_shown U32 r.0, natural_shown U32 r.0, (r.0, r.2, refl), (refl, λ e. r.3.1 (cc e)), refl));
+}
+
+pub nonzero_u64_covers : Covers (made_read (λ v. v) (IsNot 0) is_zero (number_read 8 true)) (type.NonZero U64)
+nonzero_u64_covers = record {
+  meta = refl;
+  prealloc = refl;
+  reads = λ b v r. (natural_shown U64 r.0, (natural_shown U64 r.0, natural_shown U64 r.0, (r.0, r.2, refl), (refl, λ e. r.3.1 (cc e)), refl));
+}
+
+pub nonzero_u128_covers : Covers (made_read (λ v. v) (IsNot 0) is_zero (number_read 16 true)) (type.NonZero U128)
+nonzero_u128_covers = record {
+  meta = refl;
+  prealloc = refl;
+  reads = λ b v r. (natural_shown U128 r.0, (natural_shown U128 r.0, natural_shown U128 r.0, (r.0, r.2, refl), (refl, λ e. r.3.1 (cc e)), refl));
+}
+
+pub nonzero_usize_covers : Covers (made_read (λ v. v) (IsNot 0) is_zero (number_read 8 false)) (type.NonZero Usize)
+nonzero_usize_covers = record {
+  meta = refl;
+  prealloc = refl;
+  reads = λ b v r. (natural_shown Usize r.0, (natural_shown Usize r.0, natural_shown Usize r.0, (r.0, r.2, refl), (refl, λ e. r.3.1 (cc e)), refl));
+}
+
+pub nonzero_i8_covers : Covers (made_read (λ v. v) (IsNot (pos 0)) is_zero (signed_read w8 true)) (type.NonZero I8)
+nonzero_i8_covers = record {
+  meta = refl;
+  prealloc = refl;
+  reads = λ b v r. (signed_shown I8 r.0, (signed_shown I8 r.0, signed_shown I8 r.0, (r.0, r.2, refl), (refl, λ e. r.3.1 (cc e)), refl));
+}
+
+pub nonzero_i16_covers : Covers (made_read (λ v. v) (IsNot (pos 0)) is_zero (signed_read w16 true)) (type.NonZero I16)
+nonzero_i16_covers = record {
+  meta = refl;
+  prealloc = refl;
+  reads = λ b v r. (signed_shown I16 r.0, (signed_shown I16 r.0, signed_shown I16 r.0, (r.0, r.2, refl), (refl, λ e. r.3.1 (cc e)), refl));
+}
+
+pub nonzero_i32_covers : Covers (made_read (λ v. v) (IsNot (pos 0)) is_zero (signed_read w32 true)) (type.NonZero I32)
+nonzero_i32_covers = record {
+  meta = refl;
+  prealloc = refl;
+  reads = λ b v r. (signed_shown I32 r.0, (signed_shown I32 r.0, signed_shown I32 r.0, (r.0, r.2, refl), (refl, λ e. r.3.1 (cc e)), refl));
+}
+
+pub nonzero_i64_covers : Covers (made_read (λ v. v) (IsNot (pos 0)) is_zero (signed_read w64 true)) (type.NonZero I64)
+nonzero_i64_covers = record {
+  meta = refl;
+  prealloc = refl;
+  reads = λ b v r. (signed_shown I64 r.0, (signed_shown I64 r.0, signed_shown I64 r.0, (r.0, r.2, refl), (refl, λ e. r.3.1 (cc e)), refl));
+}
+
+pub nonzero_i128_covers : Covers (made_read (λ v. v) (IsNot (pos 0)) is_zero (signed_read w128 true)) (type.NonZero I128)
+nonzero_i128_covers = record {
+  meta = refl;
+  prealloc = refl;
+  reads = λ b v r. (signed_shown I128 r.0, (signed_shown I128 r.0, signed_shown I128 r.0, (r.0, r.2, refl), (refl, λ e. r.3.1 (cc e)), refl));
+}
+
+pub nonzero_isize_covers : Covers (made_read (λ v. v) (IsNot (pos 0)) is_zero (signed_read w64 false)) (type.NonZero Isize)
+nonzero_isize_covers = record {
+  meta = refl;
+  prealloc = refl;
+  reads = λ b v r. (signed_shown Isize r.0, (signed_shown Isize r.0, signed_shown Isize r.0, (r.0, r.2, refl), (refl, λ e. r.3.1 (cc e)), refl));
+}
+
+-- what was made of parts is made of them as they were read
+as_read : {V : Type 0} (show : V → List Part) (made : V → V → Type 0) (text : List ℕ) (g : ReadGrammar V) (b : List ℕ) (v : V)
+    → (made_read (λ w. w) made text g).reads b v
+    → (w : List Part) × (shown_read show (made_read (λ w. w) (AsRead made) text g)).reads b w
+as_read show made text g b v r = (show r.0, (r.0, (r.0, r.0, r.2, (refl, (r.1, r.3)), refl), refl))
+
+pub f32_covers : Covers (made_read (λ v. v) (AreBits binary32) [] (number_read 4 true)) (type.Std F32)
+f32_covers = record { meta = refl; prealloc = refl; reads = as_read (bits_shown F32) (AreBits binary32) [] (number_read 4 true) }
+
+pub f64_covers : Covers (made_read (λ v. v) (AreBits binary64) [] (number_read 8 true)) (type.Std F64)
+f64_covers = record { meta = refl; prealloc = refl; reads = as_read (bits_shown F64) (AreBits binary64) [] (number_read 8 true) }
+
+-- seconds and nanoseconds
+abbrev pub time_parts_read : ReadGrammar (ℕ × ℕ)
+time_parts_read = windowed_read (pair_read (number_read 8 true) (number_read 4 true))
+
+pub duration_covers : Covers (made_read (λ v. v) (AreTime (2 ^ 64)) is_overflow time_parts_read) (type.Std Duration)
+duration_covers = record { meta = refl; prealloc = refl; reads = as_read (time_shown Duration) (AreTime (2 ^ 64)) is_overflow time_parts_read }
+
+pub system_time_covers : Covers (made_read (λ v. v) (AreTime (2 ^ 63)) is_overflow time_parts_read) (type.Std SystemTime)
+system_time_covers = record { meta = refl; prealloc = refl; reads = as_read (time_shown SystemTime) (AreTime (2 ^ 63)) is_overflow time_parts_read }
+
+-- so many octets
+abbrev pub octets_read : ℕ → ReadGrammar (List ℕ)
+octets_read n = windowed_read (array_read n (number_read 1 true))
+
+pub ipv4_covers : Covers (made_read (λ v. v) IsSame [] (octets_read 4)) (type.Std Ipv4Addr)
+ipv4_covers = record { meta = refl; prealloc = refl; reads = as_read (octets_shown Ipv4Addr) IsSame [] (octets_read 4) }
+
+pub ipv6_covers : Covers (made_read (λ v. v) IsSame [] (octets_read 16)) (type.Std Ipv6Addr)
+ipv6_covers = record { meta = refl; prealloc = refl; reads = as_read (octets_shown Ipv6Addr) IsSame [] (octets_read 16) }
 
 pub bool_covers : Covers bool_read type.Bool
 bool_covers = record { meta = refl; prealloc = refl; reads = λ b v r. (Flag v ∷ [], (v, r, refl)) }
@@ -148,6 +268,16 @@ module _ {V : Type 0} {g : ReadGrammar V} {d : Described} (c : Covers g d) where
 
   pub field_covers : (s : _) (p : _) → Covers g (type.Field' s p d)
   field_covers s p = record { meta = c.meta; prealloc = c.prealloc; reads = c.reads }
+
+  -- what parts make that are its own, as an address of either kind, where their size says nothing of views
+  pub same_covers : {X : Type 0} (see : X → V) (text : List ℕ) → reference_meta g.meta ≡ g.meta → Covers (made_read see IsSame text g) d
+  same_covers see text unviewed = record {
+    meta = c.meta ∙ sym unviewed;
+    prealloc = c.prealloc;
+    reads = λ b w r.
+        let R : V → Type 0 = λ v. g.reads b v in
+        c.reads b w (subst R (sym (ap see r.3) ∙ r.4) r.2);
+  }
 
 module _ {V W : Type 0} {g : ReadGrammar V} {h : ReadGrammar W} {d e : Described} (c : Covers g d) (k : Covers h e) where
   -- two parts, one after the other

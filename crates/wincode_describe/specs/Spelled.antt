@@ -3,11 +3,11 @@ use Rattle.std.specs.Prelude.{◌≡◌, ◌^◌, ◌<◌, ◌≤◌, ℕ, zero,
 use Rattle.std.specs.Fmt.{decimal}
 use Rattle.wincode_derive_text.specs.Splits.{all_of_word}
 use Rattle.wincode_derive_text.specs.declared.tokens.Kind.TheVariants as kind
-use Rattle.wincode_describe.specs.Forms.{Form, Number, Flag, Letter, Nothing, Words, Bytes, ByteBlock, Maybe, Either, Held, Many, Several, Pairs}
+use Rattle.wincode_describe.specs.Forms.{Form, Number, NotZero, Standard, Flag, Letter, Nothing, Words, Bytes, ByteBlock, Maybe, Either, Held, Many, Several, Pairs}
 use Rattle.wincode_describe.specs.Forms.{Block, Group, Record, Both, Named, Choice, LastCase, OneCase}
 use Rattle.wincode_describe.specs.Phrases.{Piece}
 use Rattle.wincode_describe.specs.Readers.{greatest_of, has_tag}
-use Rattle.wincode_describe.specs.Written.{integer_name, tag_name}
+use Rattle.wincode_describe.specs.Written.{integer_name, nonzero_name, std_name, tag_name}
 use Rattle.wincode_describe.specs.declared.described.Integer.TheVariants.{U8}
 use Rattle.wincode_describe.specs.declared.described.LengthScheme.{LengthScheme}
 use Rattle.wincode_describe.specs.declared.described.LengthScheme.TheVariants.{Eight, Short}
@@ -28,6 +28,8 @@ list_words Short rest = word (codes "short") ∷ word (codes "Vec") ∷ rest
 -- the words and signs of a form, in front of the rest
 abbrev pub spelled : Form → List Piece → List Piece
 spelled (Number i) rest = word (integer_name i) ∷ rest
+spelled (NotZero i) rest = word (nonzero_name i) ∷ rest
+spelled (Standard k) rest = word (std_name k) ∷ rest
 spelled Flag rest = word (codes "bool") ∷ rest
 spelled Letter rest = word (codes "char") ∷ rest
 spelled Nothing rest = sign (codes "(") ∷ sign (codes ")") ∷ rest

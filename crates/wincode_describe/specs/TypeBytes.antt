@@ -1,9 +1,11 @@
 -- The bytes of the parts of a value, joined, are its encoding.
-use Rattle.std.proofs.Common.{◌≡◌, ◌∙◌, sym, ap, ℕ, ◌<◌, ◌^◌, Bool, true, false, List, [], ◌∷◌, ◌++◌, length, append-nil, append_assoc, Some, None}
+use Rattle.std.proofs.Common.{◌≡◌, ◌∙◌, sym, ap, subst, ℕ, zero, suc, ◌+◌, ◌*◌, ◌/◌, ◌%◌, arith, ◌<◌, ◌^◌, Bool, true, false, List, [], ◌∷◌, ◌++◌, length, append-nil, append_assoc, Some, None}
 use Rattle.std.proofs.Common.{Ok, Err, nat_eq, refl}
 use Rattle.std.specs.Prelude.{Result, Option}
-use Rattle.wincode_io.specs.NumberLaws.{le-byte}
-use Rattle.wincode_io.specs.Numbers.{le}
+use Rattle.std.proofs.Math.Nat.{mul_assoc, pow-succ'}
+use Rattle.wincode_io.specs.Bytes.{IsBytes}
+use Rattle.wincode_io.specs.NumberLaws.{le-byte, le-worth_within}
+use Rattle.wincode_io.specs.Numbers.{le, worth}
 use Rattle.wincode_io.specs.Joins.{Joined}
 use Rattle.wincode_base.specs.Grammar.{ReadGrammar}
 use Rattle.wincode_base.specs.Leaves.{number_read}
@@ -12,11 +14,14 @@ use Rattle.wincode_base.specs.Lengths.{preallocation_limit}
 use Rattle.wincode_base.specs.Lists.{list_read}
 use Rattle.wincode_base.specs.ShortLaws.{short_is}
 use Rattle.wincode_base.specs.Tags.{option_read, result_read}
-use Rattle.wincode_describe.specs.Parts.{Part, Bytes, Tag, part_bytes, parts_bytes, length_bytes}
+use Rattle.wincode_describe.specs.Parts.{Part, Std, Bytes, Tag, std_size, part_bytes, parts_bytes, length_bytes}
 use Rattle.wincode_describe.specs.ShownGrammars.{shown_read, joined, chosen_read, nameless_read, read_if, CaseGrammars}
+use Rattle.wincode_describe.specs.Types.{time_read, address_read, std_read}
 use Rattle.wincode_describe.specs.Types.{integer_read, scheme_of, bytes_shown, list_of, option_shown, result_shown, tag_bytes, described_read, cases_read}
 use Rattle.wincode_describe.specs.declared.described.Integer.{Integer}
 use Rattle.wincode_describe.specs.declared.described.Integer.TheVariants.{U8, U16, U32, U64, U128, Usize, I8, I16, I32, I64, I128, Isize}
+use Rattle.wincode_describe.specs.declared.described.StdType.{StdType}
+use Rattle.wincode_describe.specs.declared.described.StdType.TheVariants.{F32, F64, Duration, SystemTime, Ipv4Addr, Ipv6Addr}
 use Rattle.wincode_describe.specs.declared.described.LengthScheme.{LengthScheme}
 use Rattle.wincode_describe.specs.declared.described.LengthScheme.TheVariants.{Eight, Short}
 use Rattle.wincode_describe.specs.declared.described.Described.{Described}
@@ -82,6 +87,58 @@ list_bytes s g h b w r =
     l.4 ∙ ap (λ t. t ++ l.1) (scheme_bytes s (length r.0) l.0 l.2) ∙ ap (λ t. length_bytes s (length r.0) ++ t) (items_bytes g.reads h r.0 l.1 l.3)
     ∙ ap parts_bytes (sym r.2)
 
+-- ---- types of std's
+
+-- the bytes of two numbers are those of one
+pub le_joined : (k m a b : ℕ) → a < 256 ^ k → le (k + m) (a + 256 ^ k * b) ≡ le k a ++ le m b
+unfolding le
+le_joined zero m a b h =
+    let none : a + 256 ^ 0 * b ≡ b = let one : 256 ^ 0 ≡ 1 = refl in omega (arith, h, one) in
+    ap (λ k. le k (a + 256 ^ 0 * b)) (omega arith) ∙ ap (le m) none
+le_joined (suc k) m a b h =
+    let c = 256 ^ k * b in
+    let step : 256 ^ suc k * b ≡ 256 * c = ap (λ t. t * b) (pow-succ' 256 k) ∙ mul_assoc 256 (256 ^ k) b in
+    let more : suc k + m ≡ suc (k + m) = omega arith in
+    let all : a + 256 ^ suc k * b ≡ a + 256 * c = omega (arith, step) in
+    let low : (a + 256 * c) % 256 ≡ a % 256 = omega arith in
+    let high : (a + 256 * c) / 256 ≡ a / 256 + c = omega arith in
+    let below : a < 256 * 256 ^ k = subst (λ t. a < t) (pow-succ' 256 k) h in
+    let small : a / 256 < 256 ^ k = omega (arith, below) in
+    ap (λ t. le t (a + 256 ^ suc k * b)) more ∙ ap (le (suc (k + m))) all ∙ ap (λ t. t ∷ le (k + m) ((a + 256 * c) / 256)) low
+    ∙ ap (λ t. a % 256 ∷ le (k + m) t) high ∙ ap (λ t. a % 256 ∷ t) (le_joined k m (a / 256) b small)
+
+-- bytes that were read are bytes
+joined_are_bytes : (vs b : List ℕ) → Joined (λ v t. (number_read 1 true).reads t v) vs b → IsBytes vs
+joined_are_bytes [] b j i d h = absurd (omega (arith, h))
+joined_are_bytes (v ∷ vs) b j zero d h = j.2.0
+joined_are_bytes (v ∷ vs) b j (suc i) d h = joined_are_bytes vs j.1 j.3 i d (omega (arith, h))
+
+time_bytes : (k : StdType) (limit : ℕ) → std_size k ≡ 12 → HasBytes (time_read k limit).reads
+time_bytes k limit e b w r =
+    let p = r.1.0 in
+    let same : p ≡ r.0 = sym r.1.3.0 ∙ r.1.4 in
+    let j = r.1.2 in
+    let joins : b ≡ le 8 p.0 ++ le 4 p.1 = j.4 ∙ ap (λ t. t ++ j.1) j.2.1 ∙ ap (λ t. le 8 p.0 ++ t) j.3.1 in
+    one_part b (Std k (r.0.0 + 256 ^ 8 * r.0.1)) w
+    (joins ∙ sym (le_joined 8 4 p.0 p.1 j.2.0) ∙ ap (λ n. le n (p.0 + 256 ^ 8 * p.1)) (sym e) ∙ ap (λ v. le (std_size k) (v.0 + 256 ^ 8 * v.1)) same) r.2
+
+address_bytes : (k : StdType) (n : ℕ) → std_size k ≡ n → HasBytes (address_read k n).reads
+address_bytes k n e b w r =
+    let p = r.1.0 in
+    let same : p ≡ r.0 = sym r.1.3.0 ∙ r.1.4 in
+    let j = r.1.2 in
+    let joins : b ≡ p = bytes_joined p b j.1 in
+    one_part b (Std k (worth r.0)) w
+    (joins ∙ sym (le-worth_within n p (joined_are_bytes p b j.1) j.0) ∙ ap (λ m. le m (worth p)) (sym e) ∙ ap (λ v. le (std_size k) (worth v)) same) r.2
+
+std_bytes : (k : StdType) → HasBytes (std_read k).reads
+std_bytes F32 b w r = one_part b (Std F32 r.0) w (r.1.2.1 ∙ ap (le 4) (sym r.1.3.0 ∙ r.1.4)) r.2
+std_bytes F64 b w r = one_part b (Std F64 r.0) w (r.1.2.1 ∙ ap (le 8) (sym r.1.3.0 ∙ r.1.4)) r.2
+std_bytes Duration b w r = time_bytes Duration (2 ^ 64) refl b w r
+std_bytes SystemTime b w r = time_bytes SystemTime (2 ^ 63) refl b w r
+std_bytes Ipv4Addr b w r = address_bytes Ipv4Addr 4 refl b w r
+std_bytes Ipv6Addr b w r = address_bytes Ipv6Addr 16 refl b w r
+
 -- ---- tags
 
 option_bytes : (g : ReadGrammar (List Part)) → HasBytes g.reads → (b : List ℕ) (o : Option (List Part)) → (option_read 1 g).reads b o → b
@@ -106,6 +163,8 @@ mutual
   -- So it is of every described type.
   pub described_bytes : (d : Described) → HasBytes (described_read d).reads
   described_bytes (type.Integer i) b w r = integer_bytes i b w r
+  described_bytes (type.NonZero i) b w r = integer_bytes i b r.0 r.2 ∙ ap parts_bytes (sym r.3.0 ∙ r.4)
+  described_bytes (type.Std k) b w r = std_bytes k b w r
   described_bytes type.Bool b w r = one_part b _ w r.1 r.2
   described_bytes type.Char b w r = one_part b _ w r.1.1 r.2
   described_bytes type.Unit b w r = r.1 ∙ ap parts_bytes (sym r.2)

@@ -1,5 +1,6 @@
 -- The laws of the grammars of described types.
-use Rattle.std.proofs.Common.{◌≡◌, ℕ, Bool, true, false, List, [], ◌∷◌, refl, arith, nat_eq, lit≤}
+use lib.Ieee.{binary32, binary64}
+use Rattle.std.proofs.Common.{◌≡◌, ◌∙◌, sym, ap, ◌^◌, ℕ, Bool, true, false, List, [], ◌∷◌, refl, arith, nat_eq, lit≤}
 use Rattle.std.specs.Int.{w8, w16, w32, w64, w128}
 use Rattle.wincode_base.specs.ArrayLaws.{array_read_laws}
 use Rattle.wincode_base.specs.BoxedLaws.{boxed_read_laws}
@@ -8,17 +9,22 @@ use Rattle.wincode_base.specs.LeafLaws.{number_read_laws, signed_read_laws, bool
 use Rattle.wincode_base.specs.LengthLaws.{bincode_laws}
 use Rattle.wincode_base.specs.Lengths.{SchemeLaws, preallocation_limit}
 use Rattle.wincode_base.specs.ListLaws.{list_read_laws}
+use Rattle.wincode_base.specs.Made.{IsMadeOnce, made_read, IsNot, AreBits, AreTime, IsSame, is_zero, is_overflow}
+use Rattle.wincode_base.specs.MadeLaws.{made_read_laws, one_number}
 use Rattle.wincode_base.specs.PairLaws.{pair_read_laws, windowed_read_laws}
 use Rattle.wincode_base.specs.ShortLaws.{short_scheme_laws}
 use Rattle.wincode_base.specs.StringLaws.{char_read_laws, str_read_laws}
 use Rattle.wincode_base.specs.TagLaws.{option_read_laws, result_read_laws}
 use Rattle.wincode_describe.specs.Parts.{Part, Flag, Character, Bytes, Nothing}
-use Rattle.wincode_describe.specs.ShownGrammars.{joined, nameless_read, read_if}
-use Rattle.wincode_describe.specs.ShownLaws.{any, shown_laws, CasesLaws, one_case_laws, or_case_laws, chosen_laws}
+use Rattle.wincode_describe.specs.ShownGrammars.{shown_read, joined, nameless_read, read_if}
+use Rattle.wincode_describe.specs.ShownLaws.{any, any_laws, shown_laws, CasesLaws, one_case_laws, or_case_laws, chosen_laws}
 use Rattle.wincode_describe.specs.Types.{natural_shown, signed_shown, integer_read, scheme_of, text_shown, bytes_shown, list_shown, option_shown}
+use Rattle.wincode_describe.specs.Types.{zero_shown, AsRead, bits_shown, time_shown, octets_shown, time_read, address_read, std_read}
 use Rattle.wincode_describe.specs.Types.{result_shown, both_shown, list_of, tag_bytes, described_read, cases_read}
 use Rattle.wincode_describe.specs.declared.described.Integer.{Integer}
 use Rattle.wincode_describe.specs.declared.described.Integer.TheVariants.{U8, U16, U32, U64, U128, Usize, I8, I16, I32, I64, I128, Isize}
+use Rattle.wincode_describe.specs.declared.described.StdType.{StdType}
+use Rattle.wincode_describe.specs.declared.described.StdType.TheVariants.{F32, F64, Duration, SystemTime, Ipv4Addr, Ipv6Addr}
 use Rattle.wincode_describe.specs.declared.described.LengthScheme.{LengthScheme}
 use Rattle.wincode_describe.specs.declared.described.LengthScheme.TheVariants.{Eight, Short}
 use Rattle.wincode_describe.specs.declared.described.Described.{Described}
@@ -44,6 +50,29 @@ integer_laws I64 = shown_laws (signed_shown I64) (signed_read_laws w64 refl true
 integer_laws I128 = shown_laws (signed_shown I128) (signed_read_laws w128 refl true (lit≤ tt))
 integer_laws Isize = shown_laws (signed_shown Isize) (signed_read_laws w64 refl false (lit≤ tt))
 
+-- what makes something makes it once, as it was read
+pub one_as_read : {X V : Type 0} (see : X → V) (made : X → X → Type 0) → IsMadeOnce see (AsRead made)
+one_as_read see made p q r s e h k = ap see h.0 ∙ e ∙ sym (ap see k.0)
+
+module _ {V : Type 0} (show : V → List Part) (made : V → V → Type 0) (text : List ℕ) {is_valid : V → Type 0} {g : ReadGrammar V} where
+  as_read_laws : ReadLaws is_valid g → ReadLaws any (shown_read show (made_read (λ v. v) (AsRead made) text g))
+  as_read_laws l = shown_laws show (made_read_laws (λ v. v) (AsRead made) text g (one_as_read (λ v. v) made) l)
+
+time_laws : (k : StdType) (limit : ℕ) → ReadLaws any (time_read k limit)
+time_laws k limit = as_read_laws (time_shown k) (AreTime limit) is_overflow
+    (windowed_read_laws (pair_read_laws (number_read_laws 8 true (lit≤ tt)) (number_read_laws 4 true (lit≤ tt))))
+
+address_laws : (k : StdType) (n : ℕ) → ReadLaws any (address_read k n)
+address_laws k n = as_read_laws (octets_shown k) IsSame [] (windowed_read_laws (array_read_laws n _ _ (number_read_laws 1 true (lit≤ tt))))
+
+std_laws : (k : StdType) → ReadLaws any (std_read k)
+std_laws F32 = as_read_laws (bits_shown F32) (AreBits binary32) [] (number_read_laws 4 true (lit≤ tt))
+std_laws F64 = as_read_laws (bits_shown F64) (AreBits binary64) [] (number_read_laws 8 true (lit≤ tt))
+std_laws Duration = time_laws Duration (2 ^ 64)
+std_laws SystemTime = time_laws SystemTime (2 ^ 63)
+std_laws Ipv4Addr = address_laws Ipv4Addr 4
+std_laws Ipv6Addr = address_laws Ipv6Addr 16
+
 pub list_laws : (s : LengthScheme) {g : ReadGrammar (List Part)} → ReadLaws any g → ReadLaws any (list_of s g)
 list_laws s {g = g} l = shown_laws (list_shown s) (list_read_laws (scheme_of s) (scheme_laws s) 24 (lit≤ tt) any g l)
 
@@ -51,6 +80,9 @@ mutual
   -- of two values' encodings neither begins the other, and a size that is announced is that of each
   pub described_laws : (d : Described) → ReadLaws any (described_read d)
   described_laws (type.Integer i) = integer_laws i
+  described_laws (type.NonZero i) = any_laws (made_read_laws (λ v. v) (IsNot (zero_shown i)) is_zero (integer_read i)
+      (one_number (λ v. v) (zero_shown i)) (integer_laws i))
+  described_laws (type.Std k) = std_laws k
   described_laws type.Bool = shown_laws (λ b. Flag b ∷ []) bool_read_laws
   described_laws type.Char = shown_laws (λ c. Character c ∷ []) char_read_laws
   described_laws type.Unit = shown_laws (λ u. Nothing ∷ []) unit_read_laws
@@ -91,12 +123,22 @@ integer_borrow I64 = refl
 integer_borrow I128 = refl
 integer_borrow Isize = refl
 
+std_borrow : (k : StdType) → (std_read k).borrow ≡ 0
+std_borrow F32 = refl
+std_borrow F64 = refl
+std_borrow Duration = refl
+std_borrow SystemTime = refl
+std_borrow Ipv4Addr = refl
+std_borrow Ipv6Addr = refl
+
 if_borrow : (b : Bool) (g h : ReadGrammar (List Part)) → g.borrow ≡ 0 → h.borrow ≡ 0 → (read_if b g h).borrow ≡ 0
 if_borrow true g h i j = i
 if_borrow false g h i j = j
 
 pub described_borrow : (d : Described) → (described_read d).borrow ≡ 0
 described_borrow (type.Integer i) = integer_borrow i
+described_borrow (type.NonZero i) = integer_borrow i
+described_borrow (type.Std k) = std_borrow k
 described_borrow type.Bool = refl
 described_borrow type.Char = refl
 described_borrow type.Unit = refl

@@ -1,6 +1,8 @@
 -- The grammar of a described type.
-use Rattle.std.specs.Prelude.{ℕ, ℤ, List, [], ◌∷◌, ◌++◌, length, true, false, Option, Some, None, Result, Ok, Err}
+use lib.Ieee.{binary32, binary64}
+use Rattle.std.specs.Prelude.{◌≡◌, ◌+◌, ◌*◌, ◌^◌, pos, ℕ, ℤ, List, [], ◌∷◌, ◌++◌, length, true, false, Option, Some, None, Result, Ok, Err}
 use Rattle.std.specs.Int.{w8, w16, w32, w64, w128}
+use Rattle.wincode_io.specs.Numbers.{worth}
 use Rattle.wincode_base.specs.Arrays.{array_read}
 use Rattle.wincode_base.specs.Boxed.{boxed_read}
 use Rattle.wincode_base.specs.Grammar.{ReadGrammar}
@@ -8,14 +10,17 @@ use Rattle.wincode_base.specs.InWindow.{windowed_read}
 use Rattle.wincode_base.specs.Leaves.{number_read, signed_read, bool_read, unit_read}
 use Rattle.wincode_base.specs.Lengths.{Scheme, bincode, preallocation_limit}
 use Rattle.wincode_base.specs.Lists.{list_read}
+use Rattle.wincode_base.specs.Made.{made_read, IsNot, AreBits, AreTime, IsSame, is_zero, is_overflow}
 use Rattle.wincode_base.specs.Pairs.{pair_read}
 use Rattle.wincode_base.specs.Short.{short_scheme}
 use Rattle.wincode_base.specs.Strings.{char_read, str_read}
 use Rattle.wincode_base.specs.Tags.{option_read, result_read}
-use Rattle.wincode_describe.specs.Parts.{Part, Natural, Signed, Flag, Character, Text, Bytes, Length, Tag, Nothing}
+use Rattle.wincode_describe.specs.Parts.{Part, Natural, Signed, Std, Flag, Character, Text, Bytes, Length, Tag, Nothing}
 use Rattle.wincode_describe.specs.ShownGrammars.{shown_read, joined, chosen_read, CaseGrammars, one_case, or_case}
 use Rattle.wincode_describe.specs.declared.described.Integer.{Integer}
 use Rattle.wincode_describe.specs.declared.described.Integer.TheVariants.{U8, U16, U32, U64, U128, Usize, I8, I16, I32, I64, I128, Isize}
+use Rattle.wincode_describe.specs.declared.described.StdType.{StdType}
+use Rattle.wincode_describe.specs.declared.described.StdType.TheVariants.{F32, F64, Duration, SystemTime, Ipv4Addr, Ipv6Addr}
 use Rattle.wincode_describe.specs.declared.described.LengthScheme.{LengthScheme}
 use Rattle.wincode_describe.specs.declared.described.LengthScheme.TheVariants.{Eight, Short}
 use Rattle.wincode_describe.specs.declared.described.TagSize.{TagSize}
@@ -47,6 +52,60 @@ integer_read I32 = shown_read (signed_shown I32) (signed_read w32 true)
 integer_read I64 = shown_read (signed_shown I64) (signed_read w64 true)
 integer_read I128 = shown_read (signed_shown I128) (signed_read w128 true)
 integer_read Isize = shown_read (signed_shown Isize) (signed_read w64 false)
+
+-- an integer's 0
+abbrev pub zero_shown : Integer → List Part
+zero_shown U8 = natural_shown U8 0
+zero_shown U16 = natural_shown U16 0
+zero_shown U32 = natural_shown U32 0
+zero_shown U64 = natural_shown U64 0
+zero_shown U128 = natural_shown U128 0
+zero_shown Usize = natural_shown Usize 0
+zero_shown I8 = signed_shown I8 (pos 0)
+zero_shown I16 = signed_shown I16 (pos 0)
+zero_shown I32 = signed_shown I32 (pos 0)
+zero_shown I64 = signed_shown I64 (pos 0)
+zero_shown I128 = signed_shown I128 (pos 0)
+zero_shown Isize = signed_shown Isize (pos 0)
+
+-- an integer that isn't 0
+abbrev pub nonzero_read : Integer → ReadGrammar (List Part)
+nonzero_read i = made_read (λ v. v) (IsNot (zero_shown i)) is_zero (integer_read i)
+
+-- What makes something, as it was read: of a float the bits, of which several may be one value, and of a time nanoseconds
+-- that may be past a second.
+abbrev pub AsRead : {X : Type 0} → (X → X → Type 0) → X → X → Type 0
+AsRead {X} made p q = (q ≡ p) × ((r : X) × made p r)
+
+-- a float is its bits
+abbrev pub bits_shown : StdType → ℕ → List Part
+bits_shown k n = Std k n ∷ []
+
+-- a time is its seconds and its nanoseconds
+abbrev pub time_shown : StdType → ℕ × ℕ → List Part
+time_shown k v = Std k (v.0 + 256 ^ 8 * v.1) ∷ []
+
+-- an address is its octets
+abbrev pub octets_shown : StdType → List ℕ → List Part
+octets_shown k v = Std k (worth v) ∷ []
+
+-- a time whose seconds are below the limit
+abbrev pub time_read : StdType → ℕ → ReadGrammar (List Part)
+time_read k limit = shown_read (time_shown k)
+    (made_read (λ v. v) (AsRead (AreTime limit)) is_overflow (windowed_read (pair_read (number_read 8 true) (number_read 4 true))))
+
+-- an address of so many octets
+abbrev pub address_read : StdType → ℕ → ReadGrammar (List Part)
+address_read k n = shown_read (octets_shown k) (made_read (λ v. v) (AsRead IsSame) [] (windowed_read (array_read n (number_read 1 true))))
+
+-- a type of std's is read as its schema reads it
+abbrev pub std_read : StdType → ReadGrammar (List Part)
+std_read F32 = shown_read (bits_shown F32) (made_read (λ v. v) (AsRead (AreBits binary32)) [] (number_read 4 true))
+std_read F64 = shown_read (bits_shown F64) (made_read (λ v. v) (AsRead (AreBits binary64)) [] (number_read 8 true))
+std_read Duration = time_read Duration (2 ^ 64)
+std_read SystemTime = time_read SystemTime (2 ^ 63)
+std_read Ipv4Addr = address_read Ipv4Addr 4
+std_read Ipv6Addr = address_read Ipv6Addr 16
 
 -- the scheme by which the length of a list is read
 abbrev pub scheme_of : LengthScheme → Scheme
@@ -94,6 +153,8 @@ abbrev mutual
   -- The grammar of the type's values, each shown in parts: made of those of its parts, as its schema is.
   pub described_read : Described → ReadGrammar (List Part)
   described_read (type.Integer i) = integer_read i
+  described_read (type.NonZero i) = nonzero_read i
+  described_read (type.Std k) = std_read k
   described_read type.Bool = shown_read (λ b. Flag b ∷ []) bool_read
   described_read type.Char = shown_read (λ c. Character c ∷ []) char_read
   described_read type.Unit = shown_read (λ u. Nothing ∷ []) unit_read

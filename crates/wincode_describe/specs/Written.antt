@@ -1,10 +1,12 @@
 -- The text of a described type.
 use Rattle.std.specs.Prelude.{ℕ, List, ◌++◌, codes}
 use Rattle.std.specs.Fmt.{decimal}
-use Rattle.wincode_describe.specs.Forms.{Form, Number, Flag, Letter, Nothing, Words, Bytes, ByteBlock, Maybe, Either, Held, Many, Several, Pairs}
+use Rattle.wincode_describe.specs.Forms.{Form, Number, NotZero, Standard, Flag, Letter, Nothing, Words, Bytes, ByteBlock, Maybe, Either, Held, Many, Several, Pairs}
 use Rattle.wincode_describe.specs.Forms.{Block, Group, Record, Both, Named, Choice, LastCase, OneCase}
 use Rattle.wincode_describe.specs.declared.described.Integer.{Integer}
 use Rattle.wincode_describe.specs.declared.described.Integer.TheVariants.{U8, U16, U32, U64, U128, Usize, I8, I16, I32, I64, I128, Isize}
+use Rattle.wincode_describe.specs.declared.described.StdType.{StdType}
+use Rattle.wincode_describe.specs.declared.described.StdType.TheVariants.{F32, F64, Duration, SystemTime, Ipv4Addr, Ipv6Addr}
 use Rattle.wincode_describe.specs.declared.described.LengthScheme.{LengthScheme}
 use Rattle.wincode_describe.specs.declared.described.LengthScheme.TheVariants.{Eight, Short}
 use Rattle.wincode_describe.specs.declared.described.TagSize.{TagSize}
@@ -25,6 +27,30 @@ integer_name I64 = codes "i64"
 integer_name I128 = codes "i128"
 integer_name Isize = codes "isize"
 
+-- the word of the type of an integer that isn't 0
+abbrev pub nonzero_name : Integer → List ℕ
+nonzero_name U8 = codes "NonZeroU8"
+nonzero_name U16 = codes "NonZeroU16"
+nonzero_name U32 = codes "NonZeroU32"
+nonzero_name U64 = codes "NonZeroU64"
+nonzero_name U128 = codes "NonZeroU128"
+nonzero_name Usize = codes "NonZeroUsize"
+nonzero_name I8 = codes "NonZeroI8"
+nonzero_name I16 = codes "NonZeroI16"
+nonzero_name I32 = codes "NonZeroI32"
+nonzero_name I64 = codes "NonZeroI64"
+nonzero_name I128 = codes "NonZeroI128"
+nonzero_name Isize = codes "NonZeroIsize"
+
+-- the word of a type of std's
+abbrev pub std_name : StdType → List ℕ
+std_name F32 = codes "f32"
+std_name F64 = codes "f64"
+std_name Duration = codes "Duration"
+std_name SystemTime = codes "SystemTime"
+std_name Ipv4Addr = codes "Ipv4Addr"
+std_name Ipv6Addr = codes "Ipv6Addr"
+
 -- what a list is called
 abbrev pub list_name : LengthScheme → List ℕ
 list_name Eight = codes "Vec"
@@ -40,6 +66,8 @@ tag_name tag.U64 = codes "u64"
 -- a type as a Rust programmer writes it, the parts of a tuple, a struct, a map and an enum behind commas
 abbrev pub written : Form → List ℕ
 written (Number i) = integer_name i
+written (NotZero i) = nonzero_name i
+written (Standard k) = std_name k
 written Flag = codes "bool"
 written Letter = codes "char"
 written Nothing = codes "()"

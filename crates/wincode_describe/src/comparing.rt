@@ -35,7 +35,7 @@ pub struct Comparison {
 }
 
 /// Whether two parts are the same.
-fn is_same_part(one: &Shown, other: &Shown) -> bool
+pub(crate) fn is_same_part(one: &Shown, other: &Shown) -> bool
     ensures same { seen one.now ≡ seen other.now → result ≡ true }
     ensures other { result ≡ true → seen one.now ≡ seen other.now }
 {
@@ -52,6 +52,10 @@ fn is_same_part(one: &Shown, other: &Shown) -> bool
                 integer: i,
                 value: v,
             } => *integer == *i && *value == *v,
+            _ => false,
+        },
+        Shown::Std { kind, number } => match other {
+            Shown::Std { kind: k, number: n } => *kind == *k && *number == *n,
             _ => false,
         },
         Shown::Flag(flag) => match other {

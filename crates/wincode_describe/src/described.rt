@@ -17,6 +17,17 @@ pub enum Integer {
     Isize,
 }
 
+/// Which of std's types, each of which is one part of so many bytes.
+#[derive(Debug, Clone, Copy, PartialEq, Eq)]
+pub enum StdType {
+    F32,
+    F64,
+    Duration,
+    SystemTime,
+    Ipv4Addr,
+    Ipv6Addr,
+}
+
 /// How the length of a list is written.
 #[derive(Debug, Clone, Copy, PartialEq, Eq)]
 pub enum LengthScheme {
@@ -40,6 +51,9 @@ pub enum TagSize {
 #[derive(Debug, Drop)]
 pub enum Described {
     Integer(Integer),
+    /// `NonZeroU8` and the others.
+    NonZero(Integer),
+    Std(StdType),
     Bool,
     Char,
     /// `()`

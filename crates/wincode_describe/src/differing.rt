@@ -2,7 +2,7 @@
 use crate::described::{Cases, Described, LengthScheme, TagSize};
 use crate::likeness::{Likeness, case_of, head_at, is_row, likeness_of, list_in, opened, wider};
 use crate::lines::push_front;
-use crate::parts::integer_size;
+use crate::parts::{integer_size, std_size};
 use crate::sizes::{prealloc_size, tag_bytes};
 use std::alloc::{AllocError, Global};
 use wincode_base::len::PREALLOCATION_LIMIT;
@@ -85,11 +85,16 @@ fn push_items(bytes: &mut Vec<u8>, item: &Described, n: usize) -> Result<(), All
     Ok(())
 }
 
-/// A value of the type that is as small as can be: numbers are 0, lists are empty, options are none.
+/// A value of the type that is as small as can be: numbers are 0, or 1 where they may not be, lists are empty, options are none.
 #[cycle(smallest)]
 fn push_smallest(bytes: &mut Vec<u8>, described: &Described) -> Result<(), AllocError> {
     match described {
         Described::Integer(integer) => push_zeros(bytes, integer_size(*integer)),
+        Described::NonZero(integer) => {
+            bytes.push(1)?;
+            push_zeros(bytes, integer_size(*integer).saturating_sub(1))
+        }
+        Described::Std(kind) => push_zeros(bytes, std_size(*kind)),
         Described::Bool | Described::Char | Described::Option(_) => push_zeros(bytes, 1),
         Described::Unit => Ok(()),
         Described::ByteList(scheme) | Described::List(scheme, _) => push_count(bytes, *scheme, 0),
@@ -343,7 +348,11 @@ fn search_part(
         },
         _ => match likeness_of(old, new) {
             Likeness::Unlike => found.replace(old, new, place),
-            _ => Ok(()),
+            Likeness::Reads => {
+                let why = format!(in found.alloc; "`{old}` became `{new}`")?;
+                found.tell(ChangeKind::Extended, place, why)
+            }
+            Likeness::Same => Ok(()),
         },
     }
 }

@@ -1,19 +1,30 @@
 //! Parts without parts: each is read by its schema.
-ghost use Rattle.std.specs.Prelude.{◌∷◌, [], true};
+ghost use Rattle.std.specs.Prelude.{◌≡◌, ◌∷◌, [], true};
 ghost use Rattle.wincode_base.specs.Leaves.{number_read};
 ghost use Rattle.wincode_base.specs.Lengths.{length_read};
 ghost use Rattle.wincode_base.specs.Lists.{list_read};
 ghost use Rattle.wincode_base.specs.Outcomes.{GetOutcome};
-ghost use Rattle.wincode_describe.specs.Parts.{Bytes};
+ghost use Rattle.wincode_describe.specs.Parts.{Bytes, seen};
 ghost use Rattle.wincode_describe.specs.declared.described.Described.TheVariants as Described;
 ghost use Rattle.wincode_describe.specs.ShownGrammars.{ShowOutcome, shown_read};
-ghost use Rattle.wincode_describe.specs.Types.{described_read, scheme_of, tag_bytes, integer_read, natural_shown};
+ghost use Rattle.wincode_describe.specs.Types.{
+  described_read,
+  scheme_of,
+  tag_bytes,
+  integer_read,
+  natural_shown,
+  nonzero_read,
+  std_read,
+  time_read,
+  zero_shown,
+};
 
-use crate::described::{Integer, LengthScheme, TagSize};
+use crate::comparing::is_same_part;
+use crate::described::{Integer, LengthScheme, StdType, TagSize};
 use crate::shown::Shown;
 use crate::sink::PartSink;
 use std::alloc::Global;
-use wincode_base::error::ReadResult;
+use wincode_base::error::{ReadError, ReadResult};
 use wincode_base::len::{BincodeLen, PREALLOCATION_LIMIT, SeqLen, ShortU16Len};
 use wincode_base::tag::read_tag;
 use wincode_io::{Lending, ReadWindow, Reader};
@@ -51,17 +62,64 @@ pub(crate) fn read_case_tag<L: Lending, R: Reader<L>>(
     }
 }
 
-/// An unsigned number of up to eight bytes.
-fn show_natural<L: Lending, R: Reader<L>, S: PartSink>(
+/// An unsigned number of up to eight bytes, as a part.
+fn get_natural<L: Lending, R: Reader<L>>(
     integer: Integer,
     size: TagSize,
     reader: &mut R,
-    shown: &mut S,
-) -> ReadResult<()>
-    ensures { ShowOutcome S.took (shown_read (natural_shown integer) (number_read (tag_bytes size) true)) (R.state reader.old) (R.state reader.new) shown.old shown.new result }
+) -> ReadResult<Shown>
+    ensures { GetOutcome (shown_read (natural_shown integer) (number_read (tag_bytes size) true)) (λ part. seen part ∷ []) (R.state reader.old) (R.state reader.new) result }
 {
     let value = read_case_tag::<L, R>(size, reader)? as u128;
-    shown.add(Shown::Natural { integer, value })
+    Ok(Shown::Natural { integer, value })
+}
+
+/// An integer, as a part.
+fn get_integer<L: Lending, R: Reader<L>>(
+    alloc: Global,
+    integer: Integer,
+    reader: &mut R,
+) -> ReadResult<Shown>
+    ensures { GetOutcome (integer_read integer) (λ part. seen part ∷ []) (R.state reader.old) (R.state reader.new) result }
+{
+    match integer {
+        Integer::U8 => get_natural::<L, R>(integer, TagSize::U8, reader),
+        Integer::U16 => get_natural::<L, R>(integer, TagSize::U16, reader),
+        Integer::U32 => get_natural::<L, R>(integer, TagSize::U32, reader),
+        Integer::U64 => get_natural::<L, R>(integer, TagSize::U64, reader),
+        Integer::Usize => {
+            let value = <usize as SchemaGet<L>>::get::<R>(alloc, reader)? as u128;
+            Ok(Shown::Natural { integer, value })
+        }
+        Integer::U128 => {
+            let value = <u128 as SchemaGet<L>>::get::<R>(alloc, reader)?;
+            Ok(Shown::Natural { integer, value })
+        }
+        Integer::I8 => {
+            let value = <i8 as SchemaGet<L>>::get::<R>(alloc, reader)? as i128;
+            Ok(Shown::Signed { integer, value })
+        }
+        Integer::I16 => {
+            let value = <i16 as SchemaGet<L>>::get::<R>(alloc, reader)? as i128;
+            Ok(Shown::Signed { integer, value })
+        }
+        Integer::I32 => {
+            let value = <i32 as SchemaGet<L>>::get::<R>(alloc, reader)? as i128;
+            Ok(Shown::Signed { integer, value })
+        }
+        Integer::I64 => {
+            let value = <i64 as SchemaGet<L>>::get::<R>(alloc, reader)? as i128;
+            Ok(Shown::Signed { integer, value })
+        }
+        Integer::Isize => {
+            let value = <isize as SchemaGet<L>>::get::<R>(alloc, reader)? as i128;
+            Ok(Shown::Signed { integer, value })
+        }
+        Integer::I128 => {
+            let value = <i128 as SchemaGet<L>>::get::<R>(alloc, reader)?;
+            Ok(Shown::Signed { integer, value })
+        }
+    }
 }
 
 /// An integer.
@@ -73,44 +131,121 @@ pub(crate) fn show_integer<L: Lending, R: Reader<L>, S: PartSink>(
 ) -> ReadResult<()>
     ensures { ShowOutcome S.took (integer_read integer) (R.state reader.old) (R.state reader.new) shown.old shown.new result }
 {
+    let part = get_integer::<L, R>(alloc, integer, reader)?;
+    shown.add(part)
+}
+
+/// The 0 of an integer, as a part.
+fn zero_of(integer: Integer) -> Shown
+    ensures { seen result ∷ [] ≡ zero_shown integer }
+{
     match integer {
-        Integer::U8 => show_natural::<L, R, S>(integer, TagSize::U8, reader, shown),
-        Integer::U16 => show_natural::<L, R, S>(integer, TagSize::U16, reader, shown),
-        Integer::U32 => show_natural::<L, R, S>(integer, TagSize::U32, reader, shown),
-        Integer::U64 => show_natural::<L, R, S>(integer, TagSize::U64, reader, shown),
-        Integer::Usize => {
-            let value = <usize as SchemaGet<L>>::get::<R>(alloc, reader)? as u128;
-            shown.add(Shown::Natural { integer, value })
+        Integer::U8 | Integer::U16 | Integer::U32 | Integer::U64 | Integer::U128 | Integer::Usize =>
+            Shown::Natural { integer, value: 0 },
+        Integer::I8 | Integer::I16 | Integer::I32 | Integer::I64 | Integer::I128 | Integer::Isize =>
+            Shown::Signed { integer, value: 0 },
+    }
+}
+
+/// An integer that isn't 0, as a part.
+fn get_nonzero<L: Lending, R: Reader<L>>(
+    alloc: Global,
+    integer: Integer,
+    reader: &mut R,
+) -> ReadResult<Shown>
+    ensures { GetOutcome (nonzero_read integer) (λ part. seen part ∷ []) (R.state reader.old) (R.state reader.new) result }
+{
+    let part = get_integer::<L, R>(alloc, integer, reader)?;
+    if is_same_part(&part, &zero_of(integer)) {
+        return Err(ReadError::Custom("zero"));
+    }
+    Ok(part)
+}
+
+/// An integer that isn't 0.
+pub(crate) fn show_nonzero<L: Lending, R: Reader<L>, S: PartSink>(
+    alloc: Global,
+    integer: Integer,
+    reader: &mut R,
+    shown: &mut S,
+) -> ReadResult<()>
+    ensures { ShowOutcome S.took (nonzero_read integer) (R.state reader.old) (R.state reader.new) shown.old shown.new result }
+{
+    let part = get_nonzero::<L, R>(alloc, integer, reader)?;
+    shown.add(part)
+}
+
+/// Seconds and nanoseconds, as a part. Nanoseconds past a second carry over, and the seconds are then below the limit.
+fn get_time<L: Lending, R: Reader<L>>(
+    alloc: Global,
+    kind: StdType,
+    limit: u128,
+    reader: &mut R,
+) -> ReadResult<Shown>
+    ensures { GetOutcome (time_read kind limit) (λ part. seen part ∷ []) (R.state reader.old) (R.state reader.new) result }
+{
+    let (seconds, nanos) = <(u64, u32) as SchemaGet<L>>::get::<R>(alloc, reader)?;
+    let whole = seconds as u128 + (nanos / 1_000_000_000) as u128;
+    if whole >= limit {
+        return Err(ReadError::Custom("overflow"));
+    }
+    let number = seconds as u128 + nanos as u128 * 18446744073709551616;
+    Ok(Shown::Std { kind, number })
+}
+
+/// A value of a type of std's, as a part.
+fn get_std<L: Lending, R: Reader<L>>(
+    alloc: Global,
+    kind: StdType,
+    reader: &mut R,
+) -> ReadResult<Shown>
+    ensures { GetOutcome (std_read kind) (λ part. seen part ∷ []) (R.state reader.old) (R.state reader.new) result }
+{
+    match kind {
+        StdType::F32 => {
+            let number = <u32 as SchemaGet<L>>::get::<R>(alloc, reader)? as u128;
+            Ok(Shown::Std { kind, number })
         }
-        Integer::U128 => {
-            let value = <u128 as SchemaGet<L>>::get::<R>(alloc, reader)?;
-            shown.add(Shown::Natural { integer, value })
+        StdType::F64 => {
+            let number = <u64 as SchemaGet<L>>::get::<R>(alloc, reader)? as u128;
+            Ok(Shown::Std { kind, number })
         }
-        Integer::I8 => {
-            let value = <i8 as SchemaGet<L>>::get::<R>(alloc, reader)? as i128;
-            shown.add(Shown::Signed { integer, value })
+        StdType::Duration => get_time::<L, R>(
+            alloc,
+            StdType::Duration,
+            18446744073709551616,
+            reader,
+        ),
+        StdType::SystemTime => get_time::<L, R>(
+            alloc,
+            StdType::SystemTime,
+            9223372036854775808,
+            reader,
+        ),
+        StdType::Ipv4Addr => {
+            let octets = <[u8; 4] as SchemaGet<L>>::get::<R>(alloc, reader)?;
+            let number = u32::from_le_bytes(octets) as u128;
+            Ok(Shown::Std { kind, number })
         }
-        Integer::I16 => {
-            let value = <i16 as SchemaGet<L>>::get::<R>(alloc, reader)? as i128;
-            shown.add(Shown::Signed { integer, value })
-        }
-        Integer::I32 => {
-            let value = <i32 as SchemaGet<L>>::get::<R>(alloc, reader)? as i128;
-            shown.add(Shown::Signed { integer, value })
-        }
-        Integer::I64 => {
-            let value = <i64 as SchemaGet<L>>::get::<R>(alloc, reader)? as i128;
-            shown.add(Shown::Signed { integer, value })
-        }
-        Integer::Isize => {
-            let value = <isize as SchemaGet<L>>::get::<R>(alloc, reader)? as i128;
-            shown.add(Shown::Signed { integer, value })
-        }
-        Integer::I128 => {
-            let value = <i128 as SchemaGet<L>>::get::<R>(alloc, reader)?;
-            shown.add(Shown::Signed { integer, value })
+        StdType::Ipv6Addr => {
+            let octets = <[u8; 16] as SchemaGet<L>>::get::<R>(alloc, reader)?;
+            let number = u128::from_le_bytes(octets);
+            Ok(Shown::Std { kind, number })
         }
     }
+}
+
+/// A value of a type of std's.
+pub(crate) fn show_std<L: Lending, R: Reader<L>, S: PartSink>(
+    alloc: Global,
+    kind: StdType,
+    reader: &mut R,
+    shown: &mut S,
+) -> ReadResult<()>
+    ensures { ShowOutcome S.took (std_read kind) (R.state reader.old) (R.state reader.new) shown.old shown.new result }
+{
+    let part = get_std::<L, R>(alloc, kind, reader)?;
+    shown.add(part)
 }
 
 /// A flag.

@@ -4,7 +4,7 @@
 //! - `reading`, `windows`: a value of a described type read part by part, from any reader.
 //! - `shown`, `sink`, `parts`, `spans`: the parts, where they go, their bytes, and where each stands.
 //! - `explaining`, `streaming`: the parts of bytes in memory, or of bytes as they come.
-//! - `lines`, `places`: what is printed of them.
+//! - `lines`, `places`: what is printed of them; `line_printer`, `upcoming`: so, each line as its part comes.
 //! - `comparing`, `likeness`, `differing`: two types compared; what is known of them, and where they differ.
 //!
 //! The grammar of a described type is made of those of the schemas: `specs/Types.antt`.
@@ -17,6 +17,7 @@ pub mod error;
 pub mod explaining;
 mod leaves;
 pub mod likeness;
+mod line_printer;
 pub mod lines;
 pub mod parsing;
 pub mod parts;
@@ -29,6 +30,7 @@ mod sizes;
 pub mod spans;
 pub mod streaming;
 mod tokens;
+mod upcoming;
 mod windows;
 
 pub use comparing::{Answer, Comparison, are_same_parts, compare, compared_lines};
@@ -36,6 +38,7 @@ pub use described::Described;
 pub use differing::{Change, ChangeKind};
 pub use error::{DescribeError, DescribeResult};
 pub use explaining::{Checked, Explained, check, check_read, explain, explain_read};
+pub use line_printer::{PrintError, print_source_lines};
 pub use lines::{
     TYPES, checked_line, checked_source_line, explained_lines, explained_source_lines,
 };

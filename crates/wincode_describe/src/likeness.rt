@@ -137,12 +137,22 @@ pub(crate) fn wider(scheme: LengthScheme, old: usize, new: usize) -> Likeness
 }
 
 /// Of types that have no parts.
+#[tactic(auto, using(crate::proofs::Likes::nonzero_like))]
 fn leaf_likeness(old: &Described, new: &Described) -> Likeness
     ensures { IsLike result (described_read old.now) (described_read new.now) }
 {
     match old {
         Described::Integer(integer) => match new {
             Described::Integer(other) if *integer == *other => Likeness::Same,
+            _ => Likeness::Unlike,
+        },
+        Described::NonZero(integer) => match new {
+            Described::NonZero(other) if *integer == *other => Likeness::Same,
+            Described::Integer(other) if *integer == *other => Likeness::Reads,
+            _ => Likeness::Unlike,
+        },
+        Described::Std(kind) => match new {
+            Described::Std(other) if *kind == *other => Likeness::Same,
             _ => Likeness::Unlike,
         },
         Described::Bool => match new {

@@ -33,15 +33,17 @@ ghost use Rattle.wincode_describe.specs.Lines.{
 ghost use Rattle.wincode_describe.specs.Parts.{Part, seen};
 ghost use Rattle.wincode_describe.specs.Spans.{AreSpans};
 
-use crate::described::{Described, LengthScheme};
+use crate::described::{Described, LengthScheme, StdType};
 use crate::explaining::{Checked, Explained, check, check_read, explain};
 use crate::parts::part_size;
 use crate::places::places_of;
-use crate::printing::integer_word;
+use crate::printing::{integer_word, std_word};
 use crate::shown::Shown;
 use crate::spans::{Span, spans};
 use crate::streaming::{bytes_left, explain_source};
 use std::alloc::{AllocError, Global};
+use std::net::{Ipv4Addr, Ipv6Addr};
+use std::num;
 use wincode_base::error::{ReadError, ReadResult};
 use wincode_base::len::{BincodeLen, PREALLOCATION_LIMIT, SeqLen, ShortU16Len};
 use wincode_io::{Lifetime, Source, StreamReader};
@@ -64,6 +66,52 @@ fn hexadecimal(alloc: Global, bytes: &[u8]) -> Result<String, AllocError> {
     Ok(text)
 }
 
+/// Seconds, with what is left of nanoseconds behind a point.
+fn time_text(alloc: Global, seconds: u64, nanos: u32) -> Result<String, AllocError> {
+    let whole = seconds as u128 + (nanos / 1_000_000_000) as u128;
+    let left = nanos % 1_000_000_000;
+    if left == 0 {
+        return format!(in alloc; "{whole}s");
+    }
+    let digits = format!(in alloc; "{left:09}")?;
+    let digits = digits.as_str().trim_end_matches('0');
+    format!(in alloc; "{whole}.{digits}s")
+}
+
+/// What a value of a type of std's is, as text.
+fn std_text(alloc: Global, kind: StdType, number: u128) -> Result<String, AllocError> {
+    let word = std_word(kind);
+    let octets = number.to_le_bytes();
+    let [a, b, c, d, e, f, g, h, i, j, k, l, ..] = octets;
+    let low = u64::from_le_bytes([a, b, c, d, e, f, g, h]);
+    match kind {
+        StdType::F32 => {
+            let value = num::f32_from_bits_with_nan(u32::from_le_bytes([a, b, c, d]));
+            format!(in alloc; "{word} {value}")
+        }
+        StdType::F64 => {
+            let value = num::f64_from_bits_with_nan(low);
+            format!(in alloc; "{word} {value}")
+        }
+        StdType::Duration => {
+            let value = time_text(alloc, low, u32::from_le_bytes([i, j, k, l]))?;
+            format!(in alloc; "{word} {value}")
+        }
+        StdType::SystemTime => {
+            let value = time_text(alloc, low, u32::from_le_bytes([i, j, k, l]))?;
+            format!(in alloc; "{word} {value} since 1970")
+        }
+        StdType::Ipv4Addr => {
+            let value = Ipv4Addr::from_octets([a, b, c, d]);
+            format!(in alloc; "{word} {value}")
+        }
+        StdType::Ipv6Addr => {
+            let value = Ipv6Addr::from_octets(octets);
+            format!(in alloc; "{word} {value}")
+        }
+    }
+}
+
 /// What a part is, as text.
 fn value_text(alloc: Global, part: &Shown) -> Result<String, AllocError> {
     match part {
@@ -75,6 +123,7 @@ fn value_text(alloc: Global, part: &Shown) -> Result<String, AllocError> {
             let word = integer_word(*integer);
             format!(in alloc; "{word} {value}")
         }
+        Shown::Std { kind, number } => std_text(alloc, *kind, *number),
         Shown::Flag(flag) => format!(in alloc; "flag {flag}"),
         Shown::Character(character) => format!(in alloc; "char {character:?}"),
         Shown::Text(text) => format!(in alloc; "text {text:?}"),
@@ -133,19 +182,18 @@ fn push_place(text: &mut String, place: &str) -> Result<(), AllocError>
     Ok(())
 }
 
-/// A line of a part.
-fn push_line(
+/// A line of a part that stands there and has these bytes.
+pub(crate) fn push_line(
     alloc: Global,
     text: &mut String,
+    offset: usize,
     bytes: &[u8],
-    span: Span,
     place: &str,
     part: &Shown,
 ) -> Result<(), AllocError>
-    ensures { OnOk result (IsLine span.offset place.now (string_bytes text.old) (string_bytes text.new)) }
+    ensures { OnOk result (IsLine offset place.now (string_bytes text.old) (string_bytes text.new)) }
 {
-    let offset = span.offset;
-    let digits = hexadecimal(alloc, bytes_at(bytes, span))?;
+    let digits = hexadecimal(alloc, bytes)?;
     let value = value_text(alloc, part)?;
     let begin = format!(in alloc; "{offset}: {digits}")?;
     text.push_str(begin.as_str())?;
@@ -156,7 +204,7 @@ fn push_line(
 }
 
 /// The line of a refusal.
-fn push_refusal(
+pub(crate) fn push_refusal(
     alloc: Global,
     text: &mut String,
     at: usize,
@@ -188,7 +236,15 @@ fn part_lines(
         let Some(part) = parts.get(i) else {
             return Ok(text);
         };
-        push_line(alloc, &mut text, bytes, *span, place_at(places, i), part)?;
+        let front = bytes_at(bytes, *span);
+        push_line(
+            alloc,
+            &mut text,
+            span.offset,
+            front,
+            place_at(places, i),
+            part,
+        )?;
     }
     Ok(text)
 }
@@ -301,11 +357,12 @@ fn push_length(bytes: &mut Vec<u8>, scheme: LengthScheme, count: usize) -> Resul
 }
 
 /// Adds the bytes of a part.
-fn push_bytes(bytes: &mut Vec<u8>, part: &Shown) -> Result<(), AllocError> {
+pub(crate) fn push_bytes(bytes: &mut Vec<u8>, part: &Shown) -> Result<(), AllocError> {
     let size = part_size(part);
     match part {
         Shown::Natural { value, .. } => push_front(bytes, &value.to_le_bytes(), size),
         Shown::Signed { value, .. } => push_front(bytes, &value.to_le_bytes(), size),
+        Shown::Std { number, .. } => push_front(bytes, &number.to_le_bytes(), size),
         Shown::Flag(flag) => push_front(bytes, &[*flag as u8], size),
         Shown::Character(character) => {
             let mut room = [0u8; 4];
@@ -364,16 +421,22 @@ pub fn checked_source_line<S: Source + Drop>(
 pub const TYPES: &str = "\
 integers      u8 to u128, i8 to i128, usize, isize
 flags         bool
+floats        f32, f64
+not 0         NonZeroU8 to NonZeroU128, NonZeroI8 to NonZeroI128, NonZeroUsize, NonZeroIsize
+times         Duration, SystemTime
+addresses     Ipv4Addr, Ipv6Addr, IpAddr, SocketAddrV4, SocketAddrV6, SocketAddr
 characters    char
-texts         String
+texts         String, also as PathBuf, BoxedStr, CowStr; RcStr, ArcStr
 nothing       ()
-lists         Vec<u64>, also as VecDeque, LinkedList, BinaryHeap
+lists         Vec<u64>, also as VecDeque, LinkedList, BinaryHeap, CowSlice
 short lists   short Vec<u8>, behind a length of one to three bytes
 maps          BTreeMap<u64, String>, also as HashMap
 sets          BTreeSet<u32>, also as HashSet
 options       Option<u16>
 results       Result<u64, String>
-boxes         Box<u64>, also as Rc
+boxes         Box<u64>, also as Rc, Arc
+ranges        Range<u64>, RangeInclusive<u64>
+wrappers      Wrapping<u64>, Saturating, Reverse, RangeFrom, RangeTo
 arrays        [u8; 32]
 tuples        (u64, bool, [u8; 32])
 structs       struct { id: u64, name: String }

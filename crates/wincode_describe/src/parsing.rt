@@ -1,5 +1,5 @@
 //! The text of a type, as a Rust programmer writes it, to its description.
-ghost use Rattle.std.specs.Prelude.{◌≡◌, ◌<◌, option_map, length};
+ghost use Rattle.std.specs.Prelude.{◌≡◌, ◌<◌, option_map, length, IfOk};
 ghost use Rattle.std.specs.String.{string_bytes};
 ghost use Rattle.std.specs.Str.{chars};
 ghost use Rattle.wincode_derive_text.specs.Splits.{tokens_in};
@@ -17,12 +17,15 @@ ghost use Rattle.wincode_describe.specs.Readers.{
   has_tag,
   held_form,
   item_by,
+  known_form,
   list_form,
   opening_of,
   pair_form,
   plain_of,
   readers,
   short_by,
+  socket_form,
+  std_plain_of,
   struct_by,
   tag_of,
   two_by,
@@ -31,9 +34,10 @@ ghost use Rattle.wincode_describe.specs.Readers.{
 ghost use Rattle.wincode_describe.specs.Spelled.{IsType};
 ghost use Rattle.wincode_describe.specs.Written.{written};
 
-use crate::described::{Cases, Described, Integer, LengthScheme, TagSize};
+use crate::described::{Cases, Described, Integer, LengthScheme, StdType, TagSize};
 use crate::error::{DescribeError, DescribeResult, wanted};
 use crate::tokens::Tokens;
+use crate::upcoming::copied;
 use std::alloc::Global;
 use wincode_derive_text::{
     Declaration, DeclaredShape, Field, Fields, Token, Variant, declarations_of, tokens_of,
@@ -54,9 +58,13 @@ impl Described {
 
     /// As `parse`, where the structs and enums that a Rust source file declares have their names: `Vec<Account>`. A
     /// struct is `struct { .. }`, where a field without a name has its number; an enum is one of cases by their tags. What
-    /// `// wincode: with = ..` says stands for the field's type, as in `wincode_derive`.
-    pub fn parse_with(alloc: Global, source: &str, text: &str) -> DescribeResult<Described> {
+    /// `// wincode: with = ..` says stands for the field's type, as in `wincode_derive`. A declared type that has the name of
+    /// one of std's is refused, since the name stands for that one.
+    pub fn parse_with(alloc: Global, source: &str, text: &str) -> DescribeResult<Described>
+        ensures ok { IfOk result (λ d. (form : Form) → IsType MAX_DEPTH form → text.now ≡ written form → seen d ≡ form) }
+    {
         let source = tokens_of(alloc, source)?;
+        refuse_names(alloc, source.as_slice())?;
         whole_type(alloc, source.as_slice(), text, MAX_DEPTH)
     }
 }
@@ -66,8 +74,12 @@ impl Described {
 enum Holder {
     Option,
     Boxed,
+    /// A box that several hold: of a text it holds a `String`, where `Box` is one itself.
+    Shared,
     Set,
     List,
+    /// What adds nothing to what it holds.
+    Bare,
 }
 
 /// What holds two types.
@@ -75,6 +87,16 @@ enum Holder {
 enum Pair {
     Result,
     Map,
+}
+
+/// What is a type by its word, made of others.
+#[derive(Clone, Copy)]
+enum Known {
+    SharedText,
+    IpAddr,
+    SocketAddrV4,
+    SocketAddrV6,
+    SocketAddr,
 }
 
 /// What is to stand behind a word.
@@ -86,6 +108,10 @@ enum Opening {
     One(Holder),
     Two(Pair),
     Container,
+    Range,
+    Cow,
+    /// Nothing.
+    Known(Known),
     /// Nothing: it may be the name of a declared type.
     Name,
 }
@@ -97,7 +123,7 @@ fn plain(word: &str) -> Option<Described>
     let integer = match word {
         "bool" => return Some(Described::Bool),
         "char" => return Some(Described::Char),
-        "String" => return Some(Described::Text),
+        "String" | "BoxedStr" | "CowStr" | "PathBuf" => return Some(Described::Text),
         "u8" => Integer::U8,
         "u16" => Integer::U16,
         "u32" => Integer::U32,
@@ -110,9 +136,37 @@ fn plain(word: &str) -> Option<Described>
         "i64" => Integer::I64,
         "i128" => Integer::I128,
         "isize" => Integer::Isize,
-        _ => return None,
+        _ => return std_plain(word),
     };
     Some(Described::Integer(integer))
+}
+
+/// So, of std's types.
+fn std_plain(word: &str) -> Option<Described>
+    ensures { option_map seen result ≡ std_plain_of word.now }
+{
+    let described = match word {
+        "f32" => Described::Std(StdType::F32),
+        "f64" => Described::Std(StdType::F64),
+        "Duration" => Described::Std(StdType::Duration),
+        "SystemTime" => Described::Std(StdType::SystemTime),
+        "Ipv4Addr" => Described::Std(StdType::Ipv4Addr),
+        "Ipv6Addr" => Described::Std(StdType::Ipv6Addr),
+        "NonZeroU8" => Described::NonZero(Integer::U8),
+        "NonZeroU16" => Described::NonZero(Integer::U16),
+        "NonZeroU32" => Described::NonZero(Integer::U32),
+        "NonZeroU64" => Described::NonZero(Integer::U64),
+        "NonZeroU128" => Described::NonZero(Integer::U128),
+        "NonZeroUsize" => Described::NonZero(Integer::Usize),
+        "NonZeroI8" => Described::NonZero(Integer::I8),
+        "NonZeroI16" => Described::NonZero(Integer::I16),
+        "NonZeroI32" => Described::NonZero(Integer::I32),
+        "NonZeroI64" => Described::NonZero(Integer::I64),
+        "NonZeroI128" => Described::NonZero(Integer::I128),
+        "NonZeroIsize" => Described::NonZero(Integer::Isize),
+        _ => return None,
+    };
+    Some(described)
 }
 
 /// What is to stand behind a word that is no type by itself.
@@ -126,9 +180,20 @@ fn opened_by(word: &str) -> Opening
         "Result" => Opening::Two(Pair::Result),
         "BTreeMap" | "HashMap" => Opening::Two(Pair::Map),
         "Option" => Opening::One(Holder::Option),
-        "Box" | "Rc" => Opening::One(Holder::Boxed),
+        "Box" => Opening::One(Holder::Boxed),
+        "Rc" | "Arc" => Opening::One(Holder::Shared),
         "BTreeSet" | "HashSet" => Opening::One(Holder::Set),
-        "Vec" | "VecDeque" | "LinkedList" | "BinaryHeap" => Opening::One(Holder::List),
+        "Vec" | "VecDeque" | "LinkedList" | "BinaryHeap" | "CowSlice" => Opening::One(Holder::List),
+        "Wrapping" | "Saturating" | "Reverse" | "RangeFrom" | "RangeTo" => {
+            Opening::One(Holder::Bare)
+        }
+        "Range" | "RangeInclusive" => Opening::Range,
+        "Cow" => Opening::Cow,
+        "RcStr" | "ArcStr" => Opening::Known(Known::SharedText),
+        "IpAddr" => Opening::Known(Known::IpAddr),
+        "SocketAddrV4" => Opening::Known(Known::SocketAddrV4),
+        "SocketAddrV6" => Opening::Known(Known::SocketAddrV6),
+        "SocketAddr" => Opening::Known(Known::SocketAddr),
         "containers" => Opening::Container,
         _ => Opening::Name,
     }
@@ -185,10 +250,58 @@ fn held(alloc: Global, holder: Holder, part: Described) -> DescribeResult<Descri
 {
     match holder {
         Holder::Option => Ok(Described::Option(Box::new(alloc, part)?)),
-        Holder::Boxed => Ok(Described::Boxed(Box::new(alloc, part)?)),
+        Holder::Boxed | Holder::Shared => Ok(Described::Boxed(Box::new(alloc, part)?)),
         Holder::Set => Ok(Described::Set(Box::new(alloc, part)?)),
         Holder::List => list(alloc, LengthScheme::Eight, part),
+        Holder::Bare => Ok(part),
     }
+}
+
+/// The address of a socket: a struct of an address of this type, and of a port.
+fn socket(alloc: Global, ip: StdType) -> DescribeResult<Described>
+    ensures { Makes seen (socket_form ip) result }
+{
+    let ip = field(alloc, String::from_str(alloc, "ip")?, Described::Std(ip))?;
+    let port = Described::Integer(Integer::U16);
+    let port = field(alloc, String::from_str(alloc, "port")?, port)?;
+    let fields = joined(alloc, ip, port)?;
+    structure(alloc, fields)
+}
+
+/// What is a type by its word, made of others.
+fn known_type(alloc: Global, known: Known) -> DescribeResult<Described>
+    ensures { Makes seen (known_form known) result }
+{
+    match known {
+        Known::SharedText => Ok(Described::Boxed(Box::new(alloc, Described::Text)?)),
+        Known::IpAddr => {
+            let four = Described::Std(StdType::Ipv4Addr);
+            paired(alloc, Pair::Result, four, Described::Std(StdType::Ipv6Addr))
+        }
+        Known::SocketAddrV4 => socket(alloc, StdType::Ipv4Addr),
+        Known::SocketAddrV6 => socket(alloc, StdType::Ipv6Addr),
+        Known::SocketAddr => {
+            let four = socket(alloc, StdType::Ipv4Addr)?;
+            let six = socket(alloc, StdType::Ipv6Addr)?;
+            paired(alloc, Pair::Result, four, six)
+        }
+    }
+}
+
+/// What holds a `str`, which stands at that byte, behind it.
+fn text_at(
+    alloc: Global,
+    tokens: &mut Tokens,
+    holder: Holder,
+    at: usize,
+) -> DescribeResult<Described> {
+    let text = match holder {
+        Holder::Boxed => Described::Text,
+        Holder::Shared => known_type(alloc, Known::SharedText)?,
+        _ => return Err(wanted("a type", at)),
+    };
+    tokens.expect(">", "`>`")?;
+    Ok(text)
 }
 
 /// Two parts, one after the other.
@@ -330,6 +443,9 @@ fn type_at(alloc: Global, tokens: &mut Tokens, levels: usize) -> DescribeResult<
         Opening::Two(pair) => two_at(alloc, tokens, pair, below),
         Opening::One(holder) => one_at(alloc, tokens, holder, below),
         Opening::Container => container_at(alloc, tokens, below),
+        Opening::Range => range_at(alloc, tokens, below),
+        Opening::Cow => cow_at(alloc, tokens, below),
+        Opening::Known(known) => known_type(alloc, known),
         Opening::Name => named_type(alloc, tokens.source, word.as_str(), at, below),
     }
 }
@@ -409,6 +525,10 @@ fn one_at(
         result (left tokens.new) }
 {
     tokens.expect("<", "`<`")?;
+    let at = tokens.place();
+    if tokens.takes_word("str") {
+        return text_at(alloc, tokens, holder, at);
+    }
     let part = type_at(alloc, tokens, levels)?;
     tokens.expect(">", "`>`")?;
     held(alloc, holder, part)
@@ -535,6 +655,38 @@ fn container_at(alloc: Global, tokens: &mut Tokens, levels: usize) -> DescribeRe
     list(alloc, scheme, item)
 }
 
+/// A range of two bounds, behind its word: a struct of both. Within a range there is half of the levels, since its type
+/// stands there twice.
+#[cycle(parsing)]
+fn range_at(alloc: Global, tokens: &mut Tokens, levels: usize) -> DescribeResult<Described> {
+    tokens.expect("<", "`<`")?;
+    let start = type_at(alloc, tokens, levels / 2)?;
+    tokens.expect(">", "`>`")?;
+    let end = copied(alloc, &start)?;
+    let start = field(alloc, String::from_str(alloc, "start")?, start)?;
+    let end = field(alloc, String::from_str(alloc, "end")?, end)?;
+    let fields = joined(alloc, start, end)?;
+    structure(alloc, fields)
+}
+
+/// `Cow<'_, str>` or `Cow<'_, [T]>`, behind its word, also without the lifetime.
+#[cycle(parsing)]
+fn cow_at(alloc: Global, tokens: &mut Tokens, levels: usize) -> DescribeResult<Described> {
+    tokens.expect("<", "`<`")?;
+    if tokens.takes_lifetime() {
+        tokens.expect(",", "`,`")?;
+    }
+    if tokens.takes_word("str") {
+        tokens.expect(">", "`>`")?;
+        return Ok(Described::Text);
+    }
+    tokens.expect("[", "`str` or `[`")?;
+    let item = type_at(alloc, tokens, levels)?;
+    tokens.expect("]", "`]`")?;
+    tokens.expect(">", "`>`")?;
+    list(alloc, LengthScheme::Eight, item)
+}
+
 /// The declaration of that name, if there is one.
 fn declaration(alloc: Global, source: &[Token], name: &str) -> DescribeResult<Option<Declaration>> {
     if source.is_empty() || name.is_empty() {
@@ -543,6 +695,40 @@ fn declaration(alloc: Global, source: &[Token], name: &str) -> DescribeResult<Op
     let mut names = Vec::new(alloc);
     names.push(String::from_str(alloc, name)?)?;
     Ok(declarations_of(alloc, source, names.as_slice())?.pop())
+}
+
+/// The names of std's types that a source file may declare for its own.
+const STD_NAMES: [&str; 14] = [
+    "Wrapping",
+    "Saturating",
+    "Reverse",
+    "Range",
+    "RangeInclusive",
+    "RangeFrom",
+    "RangeTo",
+    "Cow",
+    "Duration",
+    "SystemTime",
+    "IpAddr",
+    "Ipv4Addr",
+    "Ipv6Addr",
+    "SocketAddr",
+];
+
+/// Refuses a file that declares a type of such a name.
+fn refuse_names(alloc: Global, source: &[Token]) -> DescribeResult<()> {
+    if source.is_empty() {
+        return Ok(());
+    }
+    let mut names = Vec::new(alloc);
+    for name in &STD_NAMES {
+        names.push(String::from_str(alloc, name)?)?;
+    }
+    if declarations_of(alloc, source, names.as_slice())?.is_empty() {
+        return Ok(());
+    }
+    let text = String::from_str(alloc, "a declaration with the name of one of std's types")?;
+    Err(DescribeError::Undescribed(text))
 }
 
 /// The type that is declared by that name, which stands at that byte.

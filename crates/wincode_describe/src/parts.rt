@@ -1,9 +1,9 @@
 //! The bytes of parts.
 ghost use Rattle.std.specs.Int.{byte_len};
 ghost use Rattle.std.specs.Prelude.{◌≡◌, length};
-ghost use Rattle.wincode_describe.specs.Parts.{seen, part_bytes, width_of, length_bytes};
+ghost use Rattle.wincode_describe.specs.Parts.{seen, part_bytes, width_of, length_bytes, std_size};
 
-use crate::described::{Integer, LengthScheme};
+use crate::described::{Integer, LengthScheme, StdType};
 use crate::shown::Shown;
 
 /// How many bytes an integer has.
@@ -16,6 +16,18 @@ pub(crate) fn integer_size(integer: Integer) -> usize
         Integer::U32 | Integer::I32 => 4,
         Integer::U64 | Integer::I64 | Integer::Usize | Integer::Isize => 8,
         Integer::U128 | Integer::I128 => 16,
+    }
+}
+
+/// How many bytes a value of a type of std's has.
+pub(crate) fn std_size(kind: StdType) -> usize
+    ensures { result ≡ std_size kind }
+{
+    match kind {
+        StdType::F32 | StdType::Ipv4Addr => 4,
+        StdType::F64 => 8,
+        StdType::Duration | StdType::SystemTime => 12,
+        StdType::Ipv6Addr => 16,
     }
 }
 
@@ -38,6 +50,7 @@ pub fn part_size(part: &Shown) -> usize
     match part {
         Shown::Natural { integer, .. } => integer_size(*integer),
         Shown::Signed { integer, .. } => integer_size(*integer),
+        Shown::Std { kind, .. } => std_size(*kind),
         Shown::Flag(_) => 1,
         Shown::Character(c) => c.len_utf8(),
         Shown::Text(text) => text.len(),

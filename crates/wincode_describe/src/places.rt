@@ -55,7 +55,7 @@ pub fn places_of(
 }
 
 /// The number of a part: of a length its items, of a tag the tag.
-fn number_of(part: &Shown) -> Option<usize>
+pub(crate) fn number_of(part: &Shown) -> Option<usize>
     ensures { result ≡ number_of (seen part.now) }
 {
     match part {

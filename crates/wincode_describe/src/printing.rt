@@ -2,9 +2,9 @@
 ghost use Rattle.std.specs.Prelude.{◌≡◌, ◌++◌, Some};
 ghost use Rattle.std.specs.Fmt.{DisplaysOnOk};
 ghost use Rattle.wincode_describe.specs.Forms.{seen, seen_cases};
-ghost use Rattle.wincode_describe.specs.Written.{integer_name, list_name, tag_name, written};
+ghost use Rattle.wincode_describe.specs.Written.{nonzero_name, std_name, integer_name, list_name, tag_name, written};
 
-use crate::described::{Cases, Described, Integer, LengthScheme, TagSize};
+use crate::described::{Cases, Described, Integer, LengthScheme, StdType, TagSize};
 use std::fmt::{self, Display, Formatter, Write};
 
 /// The word of an integer.
@@ -24,6 +24,40 @@ pub(crate) fn integer_word(integer: Integer) -> &'static str
         Integer::I64 => "i64",
         Integer::I128 => "i128",
         Integer::Isize => "isize",
+    }
+}
+
+/// The word of the type of an integer that isn't 0.
+fn nonzero_word(integer: Integer) -> &'static str
+    ensures { result.now ≡ nonzero_name integer }
+{
+    match integer {
+        Integer::U8 => "NonZeroU8",
+        Integer::U16 => "NonZeroU16",
+        Integer::U32 => "NonZeroU32",
+        Integer::U64 => "NonZeroU64",
+        Integer::U128 => "NonZeroU128",
+        Integer::Usize => "NonZeroUsize",
+        Integer::I8 => "NonZeroI8",
+        Integer::I16 => "NonZeroI16",
+        Integer::I32 => "NonZeroI32",
+        Integer::I64 => "NonZeroI64",
+        Integer::I128 => "NonZeroI128",
+        Integer::Isize => "NonZeroIsize",
+    }
+}
+
+/// The word of a type of std's.
+pub(crate) fn std_word(kind: StdType) -> &'static str
+    ensures { result.now ≡ std_name kind }
+{
+    match kind {
+        StdType::F32 => "f32",
+        StdType::F64 => "f64",
+        StdType::Duration => "Duration",
+        StdType::SystemTime => "SystemTime",
+        StdType::Ipv4Addr => "Ipv4Addr",
+        StdType::Ipv6Addr => "Ipv6Addr",
     }
 }
 
@@ -72,6 +106,8 @@ impl Display for Described {
     fn fmt<W: Write>(&self, f: &mut Formatter<W>) -> fmt::Result {
         match self {
             Described::Integer(integer) => f.write_str(integer_word(*integer)),
+            Described::NonZero(integer) => f.write_str(nonzero_word(*integer)),
+            Described::Std(kind) => f.write_str(std_word(*kind)),
             Described::Bool => f.write_str("bool"),
             Described::Char => f.write_str("char"),
             Described::Unit => f.write_str("()"),

@@ -13,7 +13,7 @@ ghost use Rattle.wincode_base.specs.Tags.{option_read};
 use crate::described::{Cases, Described, LengthScheme, TagSize};
 use crate::leaves::{
     read_case_tag, read_length, show_byte_array, show_bytes, show_character, show_flag,
-    show_integer, show_nothing, show_text,
+    show_integer, show_nonzero, show_nothing, show_std, show_text,
 };
 use crate::shown::Shown;
 use crate::sink::PartSink;
@@ -39,6 +39,8 @@ pub fn show_parts<L: Lending, R: Reader<L>, S: PartSink>(
 {
     match described {
         Described::Integer(integer) => show_integer::<L, R, S>(alloc, *integer, reader, shown),
+        Described::NonZero(integer) => show_nonzero::<L, R, S>(alloc, *integer, reader, shown),
+        Described::Std(kind) => show_std::<L, R, S>(alloc, *kind, reader, shown),
         Described::Bool => show_flag::<L, R, S>(alloc, reader, shown),
         Described::Char => show_character::<L, R, S>(alloc, reader, shown),
         Described::Unit => show_nothing::<L, R, S>(alloc, reader, shown),

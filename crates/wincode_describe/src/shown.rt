@@ -1,5 +1,5 @@
 //! What is shown of a value: its parts, in the order in which they stand.
-use crate::described::{Integer, LengthScheme};
+use crate::described::{Integer, LengthScheme, StdType};
 
 /// A part of a value.
 #[derive(Debug, Drop)]
@@ -8,6 +8,8 @@ pub enum Shown {
     Natural { integer: Integer, value: u128 },
     /// A signed number.
     Signed { integer: Integer, value: i128 },
+    /// A value of a type of std's, by the number whose bytes it has, the lowest first.
+    Std { kind: StdType, number: u128 },
     Flag(bool),
     Character(char),
     /// The text behind its length.

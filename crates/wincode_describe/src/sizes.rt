@@ -1,9 +1,9 @@
 //! What is known of the sizes of described types.
 ghost use Rattle.std.specs.Prelude.{◌≡◌, true};
 ghost use Rattle.wincode_base.specs.Tags.{sides_meta};
-ghost use Rattle.wincode_describe.specs.Types.{described_read, cases_read, integer_read, tag_bytes};
+ghost use Rattle.wincode_describe.specs.Types.{std_read, described_read, cases_read, integer_read, tag_bytes};
 
-use crate::described::{Cases, Described, Integer, TagSize};
+use crate::described::{Cases, Described, Integer, StdType, TagSize};
 use wincode_base::meta::TypeMeta;
 use wincode_base::sizes::{pair_meta, reference_meta, result_meta, times_meta};
 
@@ -46,6 +46,18 @@ fn integer_meta(integer: Integer) -> TypeMeta
     }
 }
 
+/// The size of a value of a type of std's.
+fn std_meta(kind: StdType) -> TypeMeta
+    ensures { result ≡ (std_read kind).meta }
+{
+    match kind {
+        StdType::F32 | StdType::Ipv4Addr => reference_meta(plain(4)),
+        StdType::F64 => reference_meta(plain(8)),
+        StdType::Duration | StdType::SystemTime => reference_meta(plain(12)),
+        StdType::Ipv6Addr => reference_meta(plain(16)),
+    }
+}
+
 /// The size of one of two cases.
 fn sides_meta(one: TypeMeta, other: TypeMeta) -> TypeMeta
     ensures { result ≡ sides_meta one other }
@@ -68,6 +80,8 @@ pub fn type_meta(described: &Described) -> TypeMeta
 {
     match described {
         Described::Integer(integer) => integer_meta(*integer),
+        Described::NonZero(integer) => reference_meta(integer_meta(*integer)),
+        Described::Std(kind) => std_meta(*kind),
         Described::Bool => TypeMeta::Static {
             size: 1,
             zero_copy: false,
@@ -115,13 +129,26 @@ fn integer_prealloc(integer: Integer) -> usize
     }
 }
 
+/// What a value of a type of std's counts.
+fn std_prealloc(kind: StdType) -> usize
+    ensures { result ≡ (std_read kind).prealloc }
+{
+    match kind {
+        StdType::F32 | StdType::Ipv4Addr => 4,
+        StdType::F64 => 8,
+        StdType::Duration | StdType::SystemTime => 12,
+        StdType::Ipv6Addr => 16,
+    }
+}
+
 /// What each value of the type counts, in bytes, against the limit of a list of them; at least 1.
 #[cycle(counts)]
 pub fn prealloc_size(described: &Described) -> usize
     ensures { result ≡ (described_read described.now).prealloc }
 {
     match described {
-        Described::Integer(integer) => integer_prealloc(*integer),
+        Described::Integer(integer) | Described::NonZero(integer) => integer_prealloc(*integer),
+        Described::Std(kind) => std_prealloc(*kind),
         Described::Bool | Described::Unit => 1,
         Described::Char => 4,
         Described::Boxed(_) => 8,

@@ -1,9 +1,9 @@
 //! The tokens of a type's text, one after another.
-ghost use Rattle.std.specs.Prelude.{◌≡◌, ◌<◌, ◌==◌, if◌then◌else◌, length, drop, MatchResult, string_bytes};
+ghost use Rattle.std.specs.Prelude.{◌≡◌, ◌<◌, ◌==◌, if◌then◌else◌, length, drop, true, MatchResult, string_bytes};
 ghost use Rattle.std.specs.Bool.{OnFalse};
 ghost use Rattle.std.specs.Str.{chars};
 ghost use Rattle.wincode_derive_text.specs.Splits.{tokens_in};
-ghost use Rattle.wincode_describe.specs.Phrases.{HasTokens, Reads, behind_sign, front_text, front_word, left, number_front};
+ghost use Rattle.wincode_describe.specs.Phrases.{HasTokens, Reads, behind_sign, front_text, front_word, left, number_front, word_front};
 ghost use Rattle.wincode_describe.specs.Readers.{sign_front};
 ghost use Rattle.wincode_describe.specs.declared.error.DescribeError.TheVariants.{OutOfMemory};
 
@@ -95,6 +95,28 @@ impl<'a> Tokens<'a> {
         } else {
             Err(wanted(what, self.place()))
         }
+    }
+
+    /// Takes the word, if it is the next token.
+    pub(crate) fn takes_word(&mut self, word: &str) -> bool
+        requires { 0 < length word.now }
+        ensures taken { result ≡ true → word_front (left self.old) ≡ Some (word.now, left self.new) }
+        ensures kept { OnFalse result (left self.new ≡ left self.old) }
+    {
+        if self.text_of(Kind::Word) != word {
+            return false;
+        }
+        self.skip();
+        true
+    }
+
+    /// Takes a lifetime, if one is the next token.
+    pub(crate) fn takes_lifetime(&mut self) -> bool {
+        let is_there = !self.text_of(Kind::Lifetime).is_empty();
+        if is_there {
+            self.skip();
+        }
+        is_there
     }
 
     /// Takes the word that is the next token; it is empty where no word is.

@@ -8,8 +8,7 @@ use wincode::ReadError;
 use wincode::io::StdSource;
 use wincode_derive_text::shown;
 use wincode_describe::{
-    DescribeError, Described, checked_line, checked_source_line, explained_lines,
-    explained_source_lines,
+    DescribeError, Described, PrintError, checked_line, checked_source_line, print_source_lines,
 };
 
 /// What `--help` prints.
@@ -22,7 +21,7 @@ wincode_show compare OLD NEW                whether NEW reads what was written o
 wincode_show layout SOURCE                  the types that this Rust source declares, a line each, as OLD or NEW may be given
 wincode_show types                          what can be written in a type, with an example each
 Without a file the bytes are read from standard input. OLD and NEW are types. The options, which stand before a type, are:
-  --stream                                  the bytes are read as they come
+  --stream                                  check reads the bytes as they come, as explain does
   --types SOURCE                            structs and enums have the names that this Rust source gives them
 A shape stands for a type: nested for Vec<Vec<u64>>, text for String, short for short Vec<u8>, record for
 (u64, bool, [u8; 32]) and pairs for BTreeMap<u8, u8>. Status 0: a value was read; 1: none was, or a fault of memory, input
@@ -241,47 +240,51 @@ impl Question {
         })
     }
 
-    /// What is printed of what comes of the source; and whether a value was read.
-    fn answer_source<R: Read + Drop>(
-        &self,
-        alloc: Global,
-        input: R,
-    ) -> Result<(bool, String), Fault> {
-        let source = StdSource::new(input);
-        if self.is_check {
-            Ok(checked_source_line(alloc, &self.described, source)?)
-        } else {
-            Ok(explained_source_lines(alloc, &self.described, source)?)
-        }
-    }
-
-    /// What is printed of the bytes; and whether a value was read.
-    fn answer_bytes(&self, alloc: Global, bytes: &[u8]) -> Result<(bool, String), Fault> {
-        if self.is_check {
-            Ok(checked_line(alloc, &self.described, bytes)?)
-        } else {
-            Ok(explained_lines(alloc, &self.described, bytes)?)
-        }
-    }
-
-    /// Prints what is answered of the input; and whether a value was read.
-    pub fn answer<R: Read + Drop, W: Write>(
+    /// Prints whether a value stands at the front of the input, on one line; and answers so.
+    fn check<R: Read + Drop, W: Write>(
         &self,
         alloc: Global,
         mut input: R,
         output: &mut W,
     ) -> Result<bool, Fault> {
-        let (is_ok, mut text) = if self.is_stream {
-            self.answer_source(alloc, input)?
+        let (is_ok, mut line) = if self.is_stream {
+            checked_source_line(alloc, &self.described, StdSource::new(input))?
         } else {
             let bytes = gather(alloc, &mut input)?;
-            self.answer_bytes(alloc, bytes.as_slice())?
+            checked_line(alloc, &self.described, bytes.as_slice())?
         };
-        if self.is_check {
-            text.push('\n')?;
-        }
-        print(output, text.as_str())?;
+        line.push('\n')?;
+        print(output, line.as_str())?;
         Ok(is_ok)
+    }
+
+    /// Prints what is answered of the input, where its parts are asked for each as it comes; and whether a value was read.
+    /// The output comes back.
+    pub fn answer<R: Read + Drop, W: Write + Drop>(
+        &self,
+        alloc: Global,
+        input: R,
+        mut output: W,
+    ) -> (W, Result<bool, Fault>) {
+        if self.is_check {
+            let answer = self.check(alloc, input, &mut output);
+            return (output, answer);
+        }
+        let source = StdSource::new(input);
+        let (output, answer) = print_source_lines(alloc, &self.described, source, output);
+        (output, ended(answer))
+    }
+}
+
+/// How printing lines ended. A closed pipe ends quietly, before a value was read.
+fn ended(answer: Result<bool, PrintError>) -> Result<bool, Fault> {
+    match answer {
+        Ok(is_read) => Ok(is_read),
+        Err(PrintError::Output(error)) => match error.kind() {
+            ErrorKind::BrokenPipe => Ok(false),
+            _ => Err(Fault::Unwritten(error)),
+        },
+        Err(PrintError::OutOfMemory) => Err(Fault::OutOfMemory),
     }
 }
 

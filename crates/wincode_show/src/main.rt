@@ -53,14 +53,15 @@ fn look(
     let asked = Asked::of(words)?;
     let source = source_of(rt, asked.types)?;
     let question = Question::of(alloc, is_check, &asked, source.as_str())?;
-    let mut output = io::writer(rt);
-    match asked.file {
-        None => question.answer(alloc, rt.reader(), &mut output),
+    let output = io::writer(rt);
+    let (_output, answer) = match asked.file {
+        None => question.answer(alloc, rt.reader(), output),
         Some(path) => match File::open(rt, path) {
-            Ok(file) => question.answer(alloc, file, &mut output),
-            Err(error) => Err(Fault::Unread(error)),
+            Ok(file) => question.answer(alloc, file, output),
+            Err(error) => (output, Err(Fault::Unread(error))),
         },
-    }
+    };
+    answer
 }
 
 /// Compares two types, and prints what changed; the status.

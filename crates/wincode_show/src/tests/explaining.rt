@@ -1,6 +1,8 @@
 //! Explained and checked inputs: for each shape some that are explained whole and some that are refused.
+use super::devices::{Given, long_size};
 use crate::asking::{Asked, Fault, Question};
 use std::alloc::Global;
+use std::cell::Cell;
 use std::io::{self, ErrorKind, Write};
 use std::test::Fail;
 use testkit_schemas::rows::bytes_of;
@@ -135,8 +137,8 @@ fn question(
 
 /// What is printed of the bytes, and whether a value was read.
 fn printed(alloc: Global, question: &Question, bytes: &[u8]) -> Result<(bool, String), Fail> {
-    let mut output = Vec::new(alloc);
-    match question.answer(alloc, bytes, &mut output) {
+    let (output, answer) = question.answer(alloc, bytes, Vec::new(alloc));
+    match answer {
         Ok(is_read) => Ok((
             is_read,
             String::from_str(alloc, str::from_utf8(output.as_slice())?)?,
@@ -184,7 +186,7 @@ fn declared_types(rt: HostRuntime) -> Result<(), Fail> {
 #[test]
 fn wrong_declarations(rt: HostRuntime) -> Result<(), Fail> {
     let alloc = rt.alloc();
-    let source = "struct Point {\n    x: u8,\n    y: Arc<u8>,\n}\n";
+    let source = "struct Point {\n    x: u8,\n    y: str,\n}\n";
     let words = ["--types", "points.rs", "Vec<Point>"];
     let said = match question(alloc, false, &words, source) {
         Err(fault) => format!(in alloc; "{fault}")?,
@@ -192,7 +194,7 @@ fn wrong_declarations(rt: HostRuntime) -> Result<(), Fail> {
     };
     assert_eq!(rt;
         said.as_str(),
-        "points.rs:3:8: `Point.y`: no schema for `Arc<u8>`: take `Rc` or `Box`\n    y: Arc<u8>,\n       ^"
+        "points.rs:3:8: `Point.y`: no schema for `str`: take `String`\n    y: str,\n       ^"
     );
     Ok(())
 }
@@ -237,15 +239,61 @@ impl Write for Broken {
     }
 }
 
-/// A closed pipe ends quietly, and no other output does.
+/// How an answer to an output that fails in this way ends.
+fn answer_to(alloc: Global, is_check: bool, kind: ErrorKind) -> Result<Result<bool, Fault>, Fault> {
+    let question = question(alloc, is_check, &["u8"], "")?;
+    let (_, answer) = question.answer(alloc, [1u8].as_slice(), Broken(kind));
+    Ok(answer)
+}
+
+/// A closed pipe ends quietly, and no other output does: of a check behind what was read, of what is explained before it.
 #[test]
 fn a_closed_pipe(rt: HostRuntime) -> Result<(), Fail> {
     let alloc = rt.alloc();
-    let check = question(alloc, true, &["u8"], "")?;
-    let bytes = [1u8].as_slice();
-    let answer = check.answer(alloc, bytes, &mut Broken(ErrorKind::BrokenPipe));
+    for is_check in [true, false] {
+        let answer = answer_to(alloc, is_check, ErrorKind::BrokenPipe)?;
+        assert!(rt; matches!(&answer, Ok(is_read) if *is_read == is_check));
+        let answer = answer_to(alloc, is_check, ErrorKind::Other)?;
+        assert!(rt; matches!(&answer, Err(Fault::Unwritten(_))));
+    }
+    Ok(())
+}
+
+/// How many bytes of the input a buffer holds.
+const BUFFER: usize = 8_192;
+
+/// Takes lines, and counts how many bytes of the input were given when the first one came.
+#[derive(Drop)]
+struct First<'a> {
+    given: &'a Cell<usize>,
+    at_first: &'a Cell<usize>,
+}
+
+impl Write for First<'_> {
+    fn write(&mut self, bytes: &[u8]) -> io::Result<usize> {
+        if self.at_first.get() == 0 {
+            self.at_first.set(self.given.get());
+        }
+        Ok(bytes.len())
+    }
+
+    fn flush(&mut self) -> io::Result<()> {
+        Ok(())
+    }
+}
+
+/// Of half a mebibyte the first line is there when no more was read than a buffer holds.
+#[test]
+fn lines_come_as_the_bytes_do(rt: HostRuntime) -> Result<(), Fail> {
+    let (given, at_first) = (Cell::new(0), Cell::new(0));
+    let output = First {
+        given: &given,
+        at_first: &at_first,
+    };
+    let question = question(rt.alloc(), false, &["nested"], "")?;
+    let (_, answer) = question.answer(rt.alloc(), Given::new(&given), output);
     assert!(rt; matches!(&answer, Ok(true)));
-    let answer = check.answer(alloc, bytes, &mut Broken(ErrorKind::Other));
-    assert!(rt; matches!(&answer, Err(Fault::Unwritten(_))));
+    assert_eq!(rt; given.get(), long_size());
+    assert!(rt; at_first.get() <= BUFFER);
     Ok(())
 }

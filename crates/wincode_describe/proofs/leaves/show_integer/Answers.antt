@@ -1,56 +1,15 @@
-use Rattle.std.proofs.Common.{true, false}
-use Rattle.std.specs.Int.{w8, w16, w32, w64, w128}
-use Rattle.wincode_base.specs.Leaves.{number_read, signed_read}
-use Rattle.wincode_describe.specs.ShownGrammars.{shown_read}
-use Rattle.wincode_describe.specs.Types.{natural_shown, signed_shown}
-use Rattle.wincode_describe.specs.declared.described.Integer.TheVariants.{U128, Usize, I8, I16, I32, I64, I128, Isize}
-use Rattle.wincode_describe.proofs.Shows.{show_refused, shown_refused, began_none}
+use Rattle.wincode_describe.specs.Types.{integer_read}
+use Rattle.wincode_describe.proofs.Gets.{show_got, integer_memory}
+use Rattle.wincode_describe.proofs.Shows.{show_refused, began_none}
 use Rattle.wincode_describe.proofs.leaves.show_integer.Goals as goal
 
-pub returns-in_err-value-in-Usize : goal.returns-in_err-value-in-Usize
-returns-in_err-value-in-Usize g c =
-    let o = c.in_err-value-in-Usize.ensures in
-    rw c.in-Usize.is (show_refused (shown_read (natural_shown Usize) (number_read 8 false)) _ _ _ _ c.from_residual.ensures
-    (shown_refused (natural_shown Usize) (number_read 8 false) _ _ _ (o.refused, o.place)) (began_none g.S.PartSink.sink_laws _ _))
+pub returns-in_err-part : goal.returns-in_err-part
+returns-in_err-part g c =
+    let o = c.in_err-part.ensures in
+    show_refused (integer_read c.args.integer) _ _ _ _ c.from_residual.ensures (o.refused, o.place) (began_none g.S.PartSink.sink_laws _ _)
 
-pub returns-in_err-value-in-U128 : goal.returns-in_err-value-in-U128
-returns-in_err-value-in-U128 g c =
-    let o = c.in_err-value-in-U128.ensures in
-    rw c.in-U128.is (show_refused (shown_read (natural_shown U128) (number_read 16 true)) _ _ _ _ c.from_residual-in_err-value-in-U128.ensures
-    (shown_refused (natural_shown U128) (number_read 16 true) _ _ _ (o.refused, o.place)) (began_none g.S.PartSink.sink_laws _ _))
-
-pub returns-in_err-value-in-I8 : goal.returns-in_err-value-in-I8
-returns-in_err-value-in-I8 g c =
-    let o = c.in_err-value-in-I8.ensures in
-    rw c.in-I8.is (show_refused (shown_read (signed_shown I8) (signed_read w8 true)) _ _ _ _ c.from_residual-in_err-value-in-I8.ensures
-    (shown_refused (signed_shown I8) (signed_read w8 true) _ _ _ (o.refused, o.place)) (began_none g.S.PartSink.sink_laws _ _))
-
-pub returns-in_err-value-in-I16 : goal.returns-in_err-value-in-I16
-returns-in_err-value-in-I16 g c =
-    let o = c.in_err-value-in-I16.ensures in
-    rw c.in-I16.is (show_refused (shown_read (signed_shown I16) (signed_read w16 true)) _ _ _ _ c.from_residual-in_err-value-in-I16.ensures
-    (shown_refused (signed_shown I16) (signed_read w16 true) _ _ _ (o.refused, o.place)) (began_none g.S.PartSink.sink_laws _ _))
-
-pub returns-in_err-value-in-I32 : goal.returns-in_err-value-in-I32
-returns-in_err-value-in-I32 g c =
-    let o = c.in_err-value-in-I32.ensures in
-    rw c.in-I32.is (show_refused (shown_read (signed_shown I32) (signed_read w32 true)) _ _ _ _ c.from_residual-in_err-value-in-I32.ensures
-    (shown_refused (signed_shown I32) (signed_read w32 true) _ _ _ (o.refused, o.place)) (began_none g.S.PartSink.sink_laws _ _))
-
-pub returns-in_err-value-in-I64 : goal.returns-in_err-value-in-I64
-returns-in_err-value-in-I64 g c =
-    let o = c.in_err-value-in-I64.ensures in
-    rw c.in-I64.is (show_refused (shown_read (signed_shown I64) (signed_read w64 true)) _ _ _ _ c.from_residual-in_err-value-in-I64.ensures
-    (shown_refused (signed_shown I64) (signed_read w64 true) _ _ _ (o.refused, o.place)) (began_none g.S.PartSink.sink_laws _ _))
-
-pub returns-in_err-value-in-Isize : goal.returns-in_err-value-in-Isize
-returns-in_err-value-in-Isize g c =
-    let o = c.in_err-value-in-Isize.ensures in
-    rw c.in-Isize.is (show_refused (shown_read (signed_shown Isize) (signed_read w64 false)) _ _ _ _ c.from_residual-in_err-value-in-Isize.ensures
-    (shown_refused (signed_shown Isize) (signed_read w64 false) _ _ _ (o.refused, o.place)) (began_none g.S.PartSink.sink_laws _ _))
-
-pub returns-in_err-value-in-I128 : goal.returns-in_err-value-in-I128
-returns-in_err-value-in-I128 g c =
-    let o = c.in_err-value-in-I128.ensures in
-    rw c.in-I128.is (show_refused (shown_read (signed_shown I128) (signed_read w128 true)) _ _ _ _ c.from_residual-in_err-value-in-I128.ensures
-    (shown_refused (signed_shown I128) (signed_read w128 true) _ _ _ (o.refused, o.place)) (began_none g.S.PartSink.sink_laws _ _))
+pub returns : goal.returns
+returns g c =
+    let o = c.in_ok-part.ensures in
+    show_got g.S.PartSink.sink_laws (integer_read c.args.integer) _ _ c.in_ok-part.part c.add.result o.ok
+    (integer_memory (integer_read c.args.integer).reads _ _ _ o.ok c.args.integer) c.add.ensures.ok c.add.ensures.err

@@ -5,11 +5,11 @@ use Rattle.std.proofs.lemmas.Result.{err_from_is_err_and}
 use Rattle.std.specs.String.{string_bytes}
 use Rattle.wincode_describe.specs.Forms.{seen, seen_cases}
 use Rattle.wincode_describe.specs.Phrases.{left, word_front}
-use Rattle.wincode_describe.specs.Readers.{and_then, readers, array_or_word, word_by, several_by, unread, tag_of, plain_of, opening_of}
+use Rattle.wincode_describe.specs.Readers.{and_then, held_form, readers, array_or_word, word_by, several_by, unread, tag_of, plain_of, opening_of}
 use Rattle.wincode_describe.specs.declared.parsing.Opening.TheVariants as opening
 use Rattle.wincode_describe.proofs.ReadSteps.{next_ok, next_err, next_word, made, sign_taken, sign_left, one_level, no_level, below_is, members_is}
 use Rattle.wincode_describe.proofs.ReadSteps.{tuple_is, below_members, below_members_is, word_plain, word_opening, no_word, chosen_is, chosen_is_none}
-use Rattle.wincode_describe.proofs.ReadSteps.{test_true, test_false, parsed_no_tokens, parsed_err, parsed_ok, parsed_more}
+use Rattle.wincode_describe.proofs.ReadSteps.{held_by, text_read, word_left, test_true, test_false, parsed_no_tokens, parsed_err, parsed_ok, parsed_more}
 use Rattle.wincode_describe.proofs.parsing.+parsing.Goals as goal
 
 pub members_at-returns-in_err-first : goal.members_at-returns-in_err-first
@@ -84,11 +84,20 @@ pub one_at-returns-in_err-expect-2 : goal.one_at-returns-in_err-expect-2
 one_at-returns-in_err-expect-2 t c =
     let p = err_from_is_err_and c.from_residual-in_err-expect-2.result c.from_residual-in_err-expect-2.ensures.1 in
     rw (p.1, p.2) (next_ok (λ u. u) seen _ c.in_ok-expect.field-0 _ _ _ _ c.in_ok-expect.ensures
-    (next_ok seen seen _ c.in_ok-part.part _ _ _ _ c.in_ok-part.ensures (next_err (λ u. u) seen _ _ _ _ _ c.in_err-expect-2.ensures)))
+    (word_left seen c.takes_word.result (left c.expect.new.self) (left c.takes_word.new.self)
+    (held_by (readers c.args.levels).types (held_form c.args.holder)) _ _ c.takes_word.ensures.kept c.if-takes_word.false
+    (next_ok seen seen _ c.in_ok-part.part _ _ _ _ c.in_ok-part.ensures (next_err (λ u. u) seen _ _ _ _ _ c.in_err-expect-2.ensures))))
+
+pub one_at-returns-then-takes_word : goal.one_at-returns-then-takes_word
+one_at-returns-then-takes_word t c =
+    next_ok (λ u. u) seen _ c.in_ok-expect.field-0 _ _ _ _ c.in_ok-expect.ensures
+    (text_read seen c.args.levels _ _ _ _ _ (c.takes_word.ensures.taken c.if-takes_word.true))
 
 pub one_at-returns : goal.one_at-returns
 one_at-returns t c =
-    (next_ok (λ u. u) seen _ c.in_ok-expect.field-0 _ _ _ _ c.in_ok-expect.ensures
+    next_ok (λ u. u) seen _ c.in_ok-expect.field-0 _ _ _ _ c.in_ok-expect.ensures
+    (word_left seen c.takes_word.result (left c.expect.new.self) (left c.takes_word.new.self)
+    (held_by (readers c.args.levels).types (held_form c.args.holder)) _ _ c.takes_word.ensures.kept c.if-takes_word.false
     (next_ok seen seen _ c.in_ok-part.part _ _ _ _ c.in_ok-part.ensures
     (next_ok (λ u. u) seen _ c.in_ok-expect-2.field-0 _ _ _ _ c.in_ok-expect-2.ensures (made seen _ _ _ c.held.ensures))))
 
@@ -414,6 +423,42 @@ type_at-returns-in-Container t c =
     (λ ts. and_then (word_front ts) (word_by (readers c.in-Some.below))) _ _ c.takes-2.ensures.taken c.takes-2.ensures.kept c.if-takes-2.false
     (next_word seen (string_bytes c.in_ok-word.word) _ (left c.word.new.self) (word_by (readers c.in-Some.below)) _ _ c.in_ok-word.ensures
     (word_opening (readers c.in-Some.below) (string_bytes c.in_ok-word.word) (left c.word.new.self) (opening.Container) _ _ p q tt))))
+
+pub type_at-returns-in-Range : goal.type_at-returns-in-Range
+type_at-returns-in-Range t c =
+    let l : c.args.levels ≡ suc c.in-Some.below = below_is _ _ c.in-Some.ensures.0 c.in-Some.ensures.1 in
+    let p = ap plain_of (sym c.as_str.ensures.value) ∙ sym c.plain.ensures ∙ ap (option_map seen) c.in_default-plain.is in
+    let q = ap opening_of (sym c.as_str-2.ensures.value) ∙ sym c.opened_by.ensures ∙ c.in-Range.is in
+    rw (one_level _ _ l) (sign_left seen (codes "(") (left c.args.tokens.now) c.takes.result (left c.takes.new.self) _
+    (array_or_word (readers c.in-Some.below)) _ _ c.takes.ensures.taken c.takes.ensures.kept c.if-takes.false
+    (sign_left seen (codes "[") (left c.takes.new.self) c.takes-2.result (left c.takes-2.new.self) _
+    (λ ts. and_then (word_front ts) (word_by (readers c.in-Some.below))) _ _ c.takes-2.ensures.taken c.takes-2.ensures.kept c.if-takes-2.false
+    (next_word seen (string_bytes c.in_ok-word.word) _ (left c.word.new.self) (word_by (readers c.in-Some.below)) _ _ c.in_ok-word.ensures
+    (word_opening (readers c.in-Some.below) (string_bytes c.in_ok-word.word) (left c.word.new.self) (opening.Range) _ _ p q tt))))
+
+pub type_at-returns-in-Cow : goal.type_at-returns-in-Cow
+type_at-returns-in-Cow t c =
+    let l : c.args.levels ≡ suc c.in-Some.below = below_is _ _ c.in-Some.ensures.0 c.in-Some.ensures.1 in
+    let p = ap plain_of (sym c.as_str.ensures.value) ∙ sym c.plain.ensures ∙ ap (option_map seen) c.in_default-plain.is in
+    let q = ap opening_of (sym c.as_str-2.ensures.value) ∙ sym c.opened_by.ensures ∙ c.in-Cow.is in
+    rw (one_level _ _ l) (sign_left seen (codes "(") (left c.args.tokens.now) c.takes.result (left c.takes.new.self) _
+    (array_or_word (readers c.in-Some.below)) _ _ c.takes.ensures.taken c.takes.ensures.kept c.if-takes.false
+    (sign_left seen (codes "[") (left c.takes.new.self) c.takes-2.result (left c.takes-2.new.self) _
+    (λ ts. and_then (word_front ts) (word_by (readers c.in-Some.below))) _ _ c.takes-2.ensures.taken c.takes-2.ensures.kept c.if-takes-2.false
+    (next_word seen (string_bytes c.in_ok-word.word) _ (left c.word.new.self) (word_by (readers c.in-Some.below)) _ _ c.in_ok-word.ensures
+    (word_opening (readers c.in-Some.below) (string_bytes c.in_ok-word.word) (left c.word.new.self) (opening.Cow) _ _ p q tt))))
+
+pub type_at-returns-in-Known : goal.type_at-returns-in-Known
+type_at-returns-in-Known t c =
+    let l : c.args.levels ≡ suc c.in-Some.below = below_is _ _ c.in-Some.ensures.0 c.in-Some.ensures.1 in
+    let p = ap plain_of (sym c.as_str.ensures.value) ∙ sym c.plain.ensures ∙ ap (option_map seen) c.in_default-plain.is in
+    let q = ap opening_of (sym c.as_str-2.ensures.value) ∙ sym c.opened_by.ensures ∙ c.in-Known.is in
+    rw (one_level _ _ l) (sign_left seen (codes "(") (left c.args.tokens.now) c.takes.result (left c.takes.new.self) _
+    (array_or_word (readers c.in-Some.below)) _ _ c.takes.ensures.taken c.takes.ensures.kept c.if-takes.false
+    (sign_left seen (codes "[") (left c.takes.new.self) c.takes-2.result (left c.takes-2.new.self) _
+    (λ ts. and_then (word_front ts) (word_by (readers c.in-Some.below))) _ _ c.takes-2.ensures.taken c.takes-2.ensures.kept c.if-takes-2.false
+    (next_word seen (string_bytes c.in_ok-word.word) _ (left c.word.new.self) (word_by (readers c.in-Some.below)) _ _ c.in_ok-word.ensures
+    (word_opening (readers c.in-Some.below) (string_bytes c.in_ok-word.word) (left c.word.new.self) (opening.Known c.in-Known.known) _ _ p q (made seen _ _ _ c.known_type.ensures)))))
 
 pub type_at-returns : goal.type_at-returns
 type_at-returns t c =

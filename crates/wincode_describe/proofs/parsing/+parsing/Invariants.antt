@@ -40,6 +40,12 @@ decreases-whole_type l = 5 * l.levels + 2
 abbrev pub decreases-container_at : goal.decreases-container_at
 decreases-container_at l = 5 * l.levels + 2
 
+abbrev pub decreases-range_at : goal.decreases-range_at
+decreases-range_at l = 5 * l.levels + 2
+
+abbrev pub decreases-cow_at : goal.decreases-cow_at
+decreases-cow_at l = 5 * l.levels + 2
+
 abbrev pub decreases-named_type : goal.decreases-named_type
 decreases-named_type l = 5 * l.levels + 5
 
