@@ -96,9 +96,9 @@ abbrev pub AnswersPage : List ℕ → List ℕ → ℕ → List ℕ → List ℕ
 AnswersPage text bytes from old new r p n = ((d : Described) × IsTextOf text d × ReportsPage d bytes from old new r no_page p n)
     ⊎ ((f : Untyped) × Untypes text f × FaultReported f r n × (new ≡ old) × (p ≡ no_page))
 
--- The text of some type stands over the front of the room; or memory for the text was refused, or there is a fault, and
--- nothing is put there.
-abbrev pub PutsLayout : List ℕ → List ℕ → ℕ → ℤ → Type 0
-PutsLayout old new count n = ((d : Described) × PutsText (written (seen d)) old new count n)
+-- The text of some type stands over the front of the room, of that whose text it is where no name of a source stands in
+-- it; or memory for the text was refused, or there is a fault, and nothing is put there.
+abbrev pub PutsLayout : List ℕ → List ℕ → List ℕ → ℕ → ℤ → Type 0
+PutsLayout text old new count n = ((d : Described) × IsTextOf text d × PutsText (written (seen d)) old new count n)
     ⊎ ((n ≡ neg_ℤ (pos 5)) × (new ≡ old) × (count ≡ 0))
     ⊎ ((f : Untyped) × (n ≡ fault_number f) × (new ≡ old) × (count ≡ fault_place f))

@@ -64,7 +64,9 @@ pub(crate) fn described_by(alloc: Global, text: &[u8]) -> Result<Described, Unty
 }
 
 /// The type that the text describes, where what the source declares has its name.
-pub(crate) fn declared_by(alloc: Global, source: &[u8], text: &[u8]) -> Result<Described, Untyped> {
+pub(crate) fn declared_by(alloc: Global, source: &[u8], text: &[u8]) -> Result<Described, Untyped>
+    ensures ok { IfOk result (IsTextOf text.now) }
+{
     let declarations = words_of(source)?;
     let words = words_of(text)?;
     match Described::parse_with(alloc, declarations, words) {
