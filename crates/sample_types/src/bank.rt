@@ -1,4 +1,4 @@
-//! Enums whose cases hold arrays, texts, options and nothing, in whatever order.
+//! An enum whose cases hold arrays, texts, options and nothing, in whatever order.
 mod schemas;
 
 /// What is asked of a bank.
@@ -16,16 +16,4 @@ pub enum Request {
     Close,
     Paid(u64, String),
     Ended,
-}
-
-/// Why it is refused.
-#[derive(Debug, Drop)]
-pub enum Refusal {
-    NotFound,
-    Denied,
-    Busy,
-    Timeout,
-    Closed,
-    Invalid(u32),
-    Other(String),
 }

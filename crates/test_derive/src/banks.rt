@@ -1,6 +1,6 @@
-//! Enums whose cases hold arrays, texts, options and nothing, in whatever order.
+//! An enum whose cases hold arrays, texts, options and nothing, in whatever order.
 use crate::encoded::{is_encoded, is_no_tag, reads_as, twice};
-use sample_types::bank::{Refusal, Request};
+use sample_types::bank::Request;
 use std::test::Fail;
 
 /// The encoding of what is opened with 1 and 2, by 32 sevens.
@@ -47,18 +47,5 @@ fn requests(rt: HostRuntime) -> Result<(), Fail> {
     let list = twice(alloc, PAID.as_slice())?;
     reads_as::<Vec<Request>>(alloc, list.as_slice())?;
     assert!(rt; is_no_tag::<Request>(alloc, [8u8, 0, 0, 0].as_slice(), 8));
-    Ok(())
-}
-
-#[test]
-fn refusals(rt: HostRuntime) -> Result<(), Fail> {
-    let alloc = rt.alloc();
-    is_encoded::<Refusal>(alloc, &Refusal::NotFound, [0u8, 0, 0, 0].as_slice())?;
-    is_encoded::<Refusal>(alloc, &Refusal::Closed, [4u8, 0, 0, 0].as_slice())?;
-    let wrong = [5u8, 0, 0, 0, 1, 2, 0, 0];
-    is_encoded::<Refusal>(alloc, &Refusal::Invalid(513), wrong.as_slice())?;
-    let other = Refusal::Other(String::from_str(alloc, "a")?);
-    is_encoded::<Refusal>(alloc, &other, named(6).as_slice())?;
-    assert!(rt; is_no_tag::<Refusal>(alloc, [7u8, 0, 0, 0].as_slice(), 7));
     Ok(())
 }

@@ -2,6 +2,8 @@
 #![tactic(auto)]
 
 #[cfg(test)]
+mod answers;
+#[cfg(test)]
 mod banks;
 #[cfg(test)]
 mod encoded;
@@ -9,6 +11,8 @@ mod encoded;
 mod keys;
 #[cfg(test)]
 mod labels;
+#[cfg(test)]
+mod machine;
 #[cfg(test)]
 mod marks;
 #[cfg(test)]

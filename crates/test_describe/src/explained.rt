@@ -136,6 +136,96 @@ fn each_kind_of_part(rt: HostRuntime) -> Result<(), Fail> {
     Ok(())
 }
 
+/// A type of std's, bytes and their lines.
+const STD_ROWS: [(&str, &[u8], &str); 20] = [
+    ("f32", &[0, 0, 0x48, 0x41], "0: 00004841 f32 12.5\n"),
+    (
+        "f64",
+        &[0x9a, 0x99, 0x99, 0x99, 0x99, 0x99, 0xb9, 0x3f],
+        "0: 9a9999999999b93f f64 0.1\n",
+    ),
+    ("f32", &[1, 0, 0xc0, 0xff], "0: 0100c0ff f32 NaN\n"),
+    ("f32", &[1, 0], "0: refused: Attempting to read 4 bytes\n"),
+    ("NonZeroU16", &[2, 1, 9], "0: 0201 u16 258\n"),
+    ("NonZeroI8", &[255], "0: ff i8 -1\n"),
+    ("NonZeroU16", &[0, 0], "0: refused: Custom error: zero\n"),
+    (
+        "(u8, NonZeroI16)",
+        &[7, 0, 0],
+        "0: 07 .0 u8 7\n1: .1 refused: Custom error: zero\n",
+    ),
+    (
+        "Duration",
+        &[1, 0, 0, 0, 0, 0, 0, 0, 0, 0x65, 0xcd, 0x1d],
+        "0: 01000000000000000065cd1d Duration 1.5s\n",
+    ),
+    (
+        "Duration",
+        &[7, 0, 0, 0, 0, 0, 0, 0, 255, 255, 255, 255],
+        "0: 0700000000000000ffffffff Duration 11.294967295s\n",
+    ),
+    (
+        "Duration",
+        &[255, 255, 255, 255, 255, 255, 255, 255, 0, 0xca, 0x9a, 0x3b],
+        "0: refused: Custom error: overflow\n",
+    ),
+    (
+        "SystemTime",
+        &[2, 0, 0, 0, 0, 0, 0, 0, 0, 0, 0, 0],
+        "0: 020000000000000000000000 SystemTime 2s since 1970\n",
+    ),
+    (
+        "SystemTime",
+        &[0, 0, 0, 0, 0, 0, 0, 128, 0, 0, 0, 0],
+        "0: refused: Custom error: overflow\n",
+    ),
+    (
+        "Ipv6Addr",
+        &[
+            0x20, 1, 0x0d, 0xb8, 0, 0, 0x12, 0x34, 0, 0, 0, 0, 0x89, 0xab, 0xcd, 0xef,
+        ],
+        "0: 20010db8000012340000000089abcdef Ipv6Addr 2001:db8:0:1234::89ab:cdef\n",
+    ),
+    (
+        "IpAddr",
+        &[0, 0, 0, 0, 127, 0, 0, 1],
+        "0: 00000000 tag 0\n4: 7f000001 Ipv4Addr 127.0.0.1\n",
+    ),
+    (
+        "SocketAddrV4",
+        &[127, 0, 0, 1, 80, 0],
+        "0: 7f000001 .ip Ipv4Addr 127.0.0.1\n4: 5000 .port u16 80\n",
+    ),
+    (
+        "SocketAddr",
+        &[
+            1, 0, 0, 0, 0, 0, 0, 0, 0, 0, 0, 0, 0, 0, 0, 0, 0, 0, 0, 1, 80, 0,
+        ],
+        "0: 01000000 tag 1\n4: 00000000000000000000000000000001 .ip Ipv6Addr ::1\n20: 5000 .port u16 80\n",
+    ),
+    (
+        "SocketAddrV4",
+        &[127, 0, 0, 1, 80],
+        "0: .ip refused: Attempting to read 6 bytes\n",
+    ),
+    ("Range<u8>", &[1, 2], "0: 01 .start u8 1\n1: 02 .end u8 2\n"),
+    (
+        "Vec<NonZeroU16>",
+        &[2, 0, 0, 0, 0, 0, 0, 0, 1, 0, 0, 0],
+        "0: 0200000000000000 length 2\n8: 0100 [0] u16 1\n10: [1] refused: Custom error: zero\n",
+    ),
+];
+
+#[test]
+fn types_of_std(rt: HostRuntime) -> Result<(), Fail> {
+    let alloc = rt.alloc();
+    for (text, bytes, printed) in STD_ROWS {
+        let lines = lines(alloc, text, bytes)?;
+        assert_eq!(rt; lines.as_str(), printed);
+    }
+    Ok(())
+}
+
 /// A short length of two and of three bytes, before so many bytes.
 #[test]
 fn short_lengths(rt: HostRuntime) -> Result<(), Fail> {

@@ -8,7 +8,7 @@ use std::test::Fail;
 use wincode_describe::{DescribeResult, Described};
 
 /// What is written of each is the second text, which parses as itself.
-const WRITTEN: [(&str, &str); 24] = [
+const WRITTEN: [(&str, &str); 48] = [
     ("u8", "u8"),
     (" u128 ", "u128"),
     ("isize", "isize"),
@@ -41,6 +41,36 @@ const WRITTEN: [(&str, &str); 24] = [
     (
         "enum u32 { 0: u64, 7: String }",
         "enum u32 { 0: u64, 7: String }",
+    ),
+    ("Arc<u64>", "Box<u64>"),
+    ("BoxedStr", "String"),
+    ("CowStr", "String"),
+    ("PathBuf", "String"),
+    ("RcStr", "Box<String>"),
+    ("ArcStr", "Box<String>"),
+    ("Box<str>", "String"),
+    ("Vec<Rc<str>>", "Vec<Box<String>>"),
+    ("Cow<'a, str>", "String"),
+    ("Cow<[u8]>", "Vec<u8>"),
+    ("CowSlice<u16>", "Vec<u16>"),
+    ("Vec<Wrapping<u8>>", "Vec<u8>"),
+    ("Reverse<(u8, Saturating<i16>)>", "(u8, i16)"),
+    ("RangeFrom<RangeTo<u8>>", "u8"),
+    ("Range<u64>", "struct { start: u64, end: u64 }"),
+    ("f32", "f32"),
+    ("NonZeroU8", "NonZeroU8"),
+    ("Vec<NonZeroIsize>", "Vec<NonZeroIsize>"),
+    ("(Duration, SystemTime)", "(Duration, SystemTime)"),
+    ("Ipv6Addr", "Ipv6Addr"),
+    ("IpAddr", "Result<Ipv4Addr, Ipv6Addr>"),
+    ("SocketAddrV6", "struct { ip: Ipv6Addr, port: u16 }"),
+    (
+        "SocketAddr",
+        "Result<struct { ip: Ipv4Addr, port: u16 }, struct { ip: Ipv6Addr, port: u16 }>",
+    ),
+    (
+        "RangeInclusive<(u8, String)>",
+        "struct { start: (u8, String), end: (u8, String) }",
     ),
 ];
 
@@ -78,7 +108,7 @@ fn are_parsed_as_they_are_written(rt: HostRuntime) -> Result<(), Fail> {
 }
 
 /// Each is refused so.
-const REFUSED: [(&str, &str); 14] = [
+const REFUSED: [(&str, &str); 17] = [
     ("", "a type is wanted at byte 0"),
     ("u7", "a type is wanted at byte 0"),
     ("Vec u8", "`<` is wanted at byte 4"),
@@ -92,6 +122,9 @@ const REFUSED: [(&str, &str); 14] = [
     ),
     ("[u8, 2]", "`;` is wanted at byte 3"),
     ("short String", "`Vec` is wanted at byte 6"),
+    ("Option<str>", "a type is wanted at byte 7"),
+    ("Cow<u8>", "`str` or `[` is wanted at byte 4"),
+    ("Range<u8, u8>", "`>` is wanted at byte 8"),
     ("struct { : u8 }", "a field is wanted at byte 9"),
     (
         "enum i8 { 0: u8 }",
@@ -202,10 +235,20 @@ enum Level {
     Low,
     High(u8),
 }
+
+struct Visit {
+    at: SystemTime,
+    took: Duration,
+    from: Option<SocketAddrV4>,
+    share: f64,
+    pages: Range<NonZeroU32>,
+    name: BoxedStr,
+    count: Arc<Wrapping<u16>>,
+}
 ";
 
 /// A type by these declarations, and what it is.
-const DECLARED: [(&str, &str); 6] = [
+const DECLARED: [(&str, &str); 7] = [
     ("Owner", "struct { 0: String, 1: [u8; 4] }"),
     ("Option<Nothing>", "Option<()>"),
     (
@@ -218,6 +261,10 @@ const DECLARED: [(&str, &str); 6] = [
     ),
     ("containers::Vec<u8, BincodeLen>", "Vec<u8>"),
     ("Level", "enum u32 { 0: (), 1: struct { 0: u8 } }"),
+    (
+        "Visit",
+        "struct { at: SystemTime, took: Duration, from: Option<struct { ip: Ipv4Addr, port: u16 }>, share: f64, pages: struct { start: NonZeroU32, end: NonZeroU32 }, name: String, count: Box<u16> }",
+    ),
 ];
 
 #[test]
@@ -265,4 +312,20 @@ fn are_refused_by_declarations(rt: HostRuntime) -> Result<(), Fail> {
         }
     }
     Ok(())
+}
+
+/// A declaration that has the name of one of std's types would be taken for that.
+#[test]
+fn no_declaration_has_a_name_of_std(rt: HostRuntime) -> Result<(), Fail> {
+    let alloc = rt.alloc();
+    match Described::parse_with(alloc, "struct Duration(u64);", "Vec<Duration>") {
+        Ok(_) => Err(Fail::from("parsed")),
+        Err(error) => {
+            assert_eq!(rt;
+                format!(in alloc; "{error}")?.as_str(),
+                "`a declaration with the name of one of std's types` describes no type"
+            );
+            Ok(())
+        }
+    }
 }

@@ -5,6 +5,7 @@ use std::test::Fail;
 use wincode::io::StdSource;
 use wincode_describe::{
     Described, checked_line, checked_source_line, explained_lines, explained_source_lines,
+    print_source_lines,
 };
 
 const SIZES: [usize; 5] = [1, 2, 3, 7, 8192];
@@ -37,6 +38,18 @@ const ROWS: [(&str, &[u8]); 7] = [
     ),
 ];
 
+/// Whether these lines are printed as the bytes come in pieces of this size, and so is said whether a value was read.
+fn is_printed(
+    alloc: Global,
+    (described, bytes, size): (&Described, &[u8], usize),
+    (is_ok, lines): (bool, &str),
+) -> Result<bool, Fail> {
+    let source = in_pieces(alloc, bytes, size, false)?;
+    let (output, answer) = print_source_lines(alloc, described, source, Vec::new(alloc));
+    let is_said = matches!(&answer, Ok(is_read) if *is_read == is_ok);
+    Ok(is_said && output.as_slice() == lines.as_bytes())
+}
+
 /// The first size of pieces in which these bytes are explained or checked otherwise than in a slice, if there is one.
 fn first_unlike(alloc: Global, described: &Described, bytes: &[u8]) -> Result<Option<usize>, Fail> {
     let (_, lines) = explained_lines(alloc, described, bytes)?;
@@ -50,6 +63,9 @@ fn first_unlike(alloc: Global, described: &Described, bytes: &[u8]) -> Result<Op
         let source = in_pieces(alloc, bytes, size, false)?;
         let (ok, found) = checked_source_line(alloc, described, source)?;
         if ok != is_ok || found != line {
+            return Ok(Some(size));
+        }
+        if !is_printed(alloc, (described, bytes, size), (is_ok, lines.as_str()))? {
             return Ok(Some(size));
         }
     }

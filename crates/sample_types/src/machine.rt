@@ -1,0 +1,48 @@
+//! What a machine does: forty cases, one of which owns memory.
+mod schemas;
+
+/// What a machine does next.
+// wincode: tag_encoding = u8
+#[derive(Debug, Drop)]
+pub enum Step {
+    Nop,
+    Halt,
+    Load(u32),
+    Store(u32),
+    Push(u64),
+    Pop,
+    Dup,
+    Swap,
+    Add,
+    Sub,
+    Mul,
+    Div,
+    Rem,
+    Neg,
+    And,
+    Or,
+    Xor,
+    Not,
+    Shl,
+    Shr,
+    Eq,
+    Lt,
+    Gt,
+    Jump(u32),
+    JumpIf(u32),
+    Call(u32),
+    Return,
+    Enter,
+    Leave,
+    Read,
+    Write,
+    Open,
+    Close,
+    Seek,
+    Wait,
+    Wake,
+    Log(String),
+    Trap,
+    Reset,
+    Exit,
+}
