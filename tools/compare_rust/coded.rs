@@ -126,6 +126,7 @@ macro_rules! number {
 
 number!(u32, 4);
 number!(u64, 8);
+number!(f64, 8);
 
 impl Coded for u8 {
     const SIZE: usize = 1;

@@ -45,6 +45,12 @@ impl Made for u64 {
     }
 }
 
+impl Made for f64 {
+    fn made(number: u64, _lengths: &[u64]) -> f64 {
+        number as f64
+    }
+}
+
 impl Made for [u8; 32] {
     fn made(number: u64, _lengths: &[u64]) -> [u8; 32] {
         std::array::from_fn(|i| number.wrapping_add(i as u64) as u8)

@@ -1,13 +1,16 @@
 //! Reads and writes the values of `run_bench --time` in plain Rust, as a careful hand would write it over `Vec<u8>` and
 //! `&[u8]`: what has one size is copied at once, each length is looked at before memory is asked for, and what is cut off
-//! or is no value is refused. Prints a row for each measurement, named as there: the least time of 40 runs in nanoseconds.
+//! or is no value is refused. Prints a row for each measurement, named as there: the least time of 40 runs in nanoseconds. As
+//! there, a run ends when what it made was looked at and its memory given back.
 //!
 //! `tools/compare` builds it by `rustc` alone and runs it beside the bench. Arguments are words, as the bench's: only cases
 //! whose names have one are timed. Their number is what the values are made of, which no compiler knows.
 mod coded;
+mod look;
 mod made;
 
 use coded::{Coded, LIMIT, LONG_LIMIT, Refused};
+use look::Look;
 use made::{Event, Made, Pod, Record};
 use std::collections::{BTreeMap, HashMap, VecDeque};
 use std::hint::black_box;
@@ -20,17 +23,18 @@ fn is_asked(name: &str) -> bool {
     std::env::args().len() < 2 || std::env::args().skip(1).any(|word| name.contains(&word))
 }
 
-/// The least time of the runs, in nanoseconds.
+/// The least time of the runs, in nanoseconds: each makes a value, looks at it, and gives its memory back.
 #[inline(never)]
-fn least<T>(mut run: impl FnMut() -> T) -> u128 {
+fn least<T: Look>(mut run: impl FnMut() -> Result<T, Refused>) -> u128 {
     let mut least = u128::MAX;
     for _ in 0..RUNS {
         let start = Instant::now();
         let made = run();
-        let taken = start.elapsed().as_nanos();
-        black_box(&made);
+        if let Ok(value) = black_box(&made) {
+            black_box(value.lengths());
+        }
         drop(made);
-        least = least.min(taken);
+        least = least.min(start.elapsed().as_nanos());
     }
     least
 }
@@ -47,13 +51,13 @@ fn serialize<T: Coded>(value: &T) -> Result<Vec<u8>, Refused> {
 }
 
 /// Times a value's reading and writing.
-fn time_value<T: Made + Coded, const MAX: usize>(name: &str, first: u64, lengths: &[u64]) -> Result<(), Refused> {
+fn time_value<T: Made + Coded + Look, const MAX: usize>(name: &str, first: u64, lengths: &[u64]) -> Result<(), Refused> {
     if !is_asked(name) {
         return Ok(());
     }
     let value = T::made(first, lengths);
     let text = serialize(&value)?;
-    row(name, "copied", least(|| black_box(&text[..]).to_vec()));
+    row(name, "copied", least(|| Ok(black_box(&text[..]).to_vec())));
     row(name, "read", least(|| T::read::<MAX>(&mut black_box(&text[..]))));
     row(name, "written", least(|| serialize(black_box(&value))));
     Ok(())
@@ -68,7 +72,8 @@ fn time_numbers(first: u64) -> Result<(), Refused> {
     time_value::<Vec<u8>, LONG_LIMIT>("more bytes", first, &[16_000_000])?;
     time_value::<Vec<Vec<u64>>, LIMIT>("lists of numbers", first, &[1_000, 1_000])?;
     time_value::<Vec<Vec<Vec<Vec<u32>>>>, LIMIT>("nested four deep", first, &[20, 20, 20, 20])?;
-    time_value::<VecDeque<u64>, LIMIT>("queue", first, &[500_000])
+    time_value::<VecDeque<u64>, LIMIT>("queue", first, &[500_000])?;
+    time_value::<Vec<f64>, LIMIT>("floats", first, &[500_000])
 }
 
 fn time_texts(first: u64) -> Result<(), Refused> {
@@ -104,7 +109,7 @@ fn time_records(first: u64) -> Result<(), Refused> {
         bytes
     };
     let text = join(&records);
-    row(name, "copied", least(|| black_box(&text[..]).to_vec()));
+    row(name, "copied", least(|| Ok(black_box(&text[..]).to_vec())));
     let read = || -> Result<u64, Refused> {
         let mut rest = black_box(&text[..]);
         let mut sum = 0u64;
@@ -115,7 +120,7 @@ fn time_records(first: u64) -> Result<(), Refused> {
         Ok(sum)
     };
     row(name, "read", least(read));
-    row(name, "written", least(|| join(black_box(&records))));
+    row(name, "written", least(|| Ok(join(black_box(&records)))));
     Ok(())
 }
 

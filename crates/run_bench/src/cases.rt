@@ -48,7 +48,7 @@ macro_rules! case {
     };
 }
 
-/// Numbers: in lists, in lists of lists, in a queue, and bytes.
+/// Numbers: in lists, in lists of lists, in a queue, bytes, and floats.
 fn time_numbers(rt: &(impl Clock + Print + AllocGlobal), asked: &Asked) -> Result<(), Failure> {
     case!(rt, asked, Vec<u64>, "numbers", [500_000]);
     for (name, count) in MILLIONS {
@@ -59,6 +59,7 @@ fn time_numbers(rt: &(impl Clock + Print + AllocGlobal), asked: &Asked) -> Resul
     case!(rt, asked, Vec<Vec<u64>>, "lists of numbers", [1_000, 1_000]);
     case!(rt, asked, Nested, "nested four deep", [20, 20, 20, 20]);
     case!(rt, asked, VecDeque<u64>, "queue", [500_000]);
+    case!(rt, asked, Vec<f64>, "floats", [500_000]);
     Ok(())
 }
 

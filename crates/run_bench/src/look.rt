@@ -3,6 +3,7 @@ use crate::made::{Record, Sample};
 use example_schemas::event::Event;
 use example_schemas::message::Message;
 use std::collections::{BTreeMap, HashMap, VecDeque};
+use std::num;
 
 /// A value that is looked at.
 pub trait Look {
@@ -57,6 +58,12 @@ impl Look for u32 {
 impl Look for u64 {
     fn look(&self) -> u64 {
         *self
+    }
+}
+
+impl Look for f64 {
+    fn look(&self) -> u64 {
+        num::saturating_f64_to_u64(*self)
     }
 }
 

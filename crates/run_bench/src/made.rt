@@ -6,6 +6,7 @@ use example_schemas::event::Event;
 use example_schemas::message::Message;
 use std::alloc::Global;
 use std::collections::{BTreeMap, HashMap, VecDeque};
+use std::num;
 use wincode::io::Writer;
 use wincode::schema::tuples::{encode_front_members_3, size_of_members_3, write_members_3};
 use wincode::{Shape, WriteResult};
@@ -95,6 +96,12 @@ impl Made for u32 {
 impl Made for u64 {
     fn made(_alloc: Global, number: u64, _lengths: &[u64]) -> Result<u64, Failure> {
         Ok(number)
+    }
+}
+
+impl Made for f64 {
+    fn made(_alloc: Global, number: u64, _lengths: &[u64]) -> Result<f64, Failure> {
+        Ok(num::nearest_u64_to_f64(number))
     }
 }
 
