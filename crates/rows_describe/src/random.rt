@@ -237,6 +237,8 @@ fn std_size(kind: StdType) -> usize {
         StdType::F64 => 8,
         StdType::Duration | StdType::SystemTime => 12,
         StdType::Ipv6Addr => 16,
+        StdType::SocketAddrV4 => 6,
+        StdType::SocketAddrV6 => 18,
     }
 }
 

@@ -194,19 +194,19 @@ const STD_ROWS: [(&str, &[u8], &str); 20] = [
     (
         "SocketAddrV4",
         &[127, 0, 0, 1, 80, 0],
-        "0: 7f000001 .ip Ipv4Addr 127.0.0.1\n4: 5000 .port u16 80\n",
+        "0: 7f0000015000 SocketAddrV4 127.0.0.1:80\n",
     ),
     (
         "SocketAddr",
         &[
             1, 0, 0, 0, 0, 0, 0, 0, 0, 0, 0, 0, 0, 0, 0, 0, 0, 0, 0, 1, 80, 0,
         ],
-        "0: 01000000 tag 1\n4: 00000000000000000000000000000001 .ip Ipv6Addr ::1\n20: 5000 .port u16 80\n",
+        "0: 01000000 tag 1\n4: 00000000000000000000000000000001.. (18 bytes) SocketAddrV6 [::1]:80\n",
     ),
     (
         "SocketAddrV4",
         &[127, 0, 0, 1, 80],
-        "0: .ip refused: Attempting to read 6 bytes\n",
+        "0: refused: Attempting to read 6 bytes\n",
     ),
     ("Range<u8>", &[1, 2], "0: 01 .start u8 1\n1: 02 .end u8 2\n"),
     (

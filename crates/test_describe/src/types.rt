@@ -63,11 +63,8 @@ const WRITTEN: [(&str, &str); 48] = [
     ("(Duration, SystemTime)", "(Duration, SystemTime)"),
     ("Ipv6Addr", "Ipv6Addr"),
     ("IpAddr", "Result<Ipv4Addr, Ipv6Addr>"),
-    ("SocketAddrV6", "struct { ip: Ipv6Addr, port: u16 }"),
-    (
-        "SocketAddr",
-        "Result<struct { ip: Ipv4Addr, port: u16 }, struct { ip: Ipv6Addr, port: u16 }>",
-    ),
+    ("SocketAddrV6", "SocketAddrV6"),
+    ("SocketAddr", "Result<SocketAddrV4, SocketAddrV6>"),
     (
         "RangeInclusive<(u8, String)>",
         "struct { start: (u8, String), end: (u8, String) }",
@@ -263,7 +260,7 @@ const DECLARED: [(&str, &str); 7] = [
     ("Level", "enum u32 { 0: (), 1: struct { 0: u8 } }"),
     (
         "Visit",
-        "struct { at: SystemTime, took: Duration, from: Option<struct { ip: Ipv4Addr, port: u16 }>, share: f64, pages: struct { start: NonZeroU32, end: NonZeroU32 }, name: String, count: Box<u16> }",
+        "struct { at: SystemTime, took: Duration, from: Option<SocketAddrV4>, share: f64, pages: struct { start: NonZeroU32, end: NonZeroU32 }, name: String, count: Box<u16> }",
     ),
 ];
 

@@ -21,11 +21,12 @@ use Rattle.wincode_describe.specs.Parts.{Part, seen}
 use Rattle.wincode_describe.specs.ShownGrammars.{shown_read, Took, SinkLaws, ShowOutcome}
 use Rattle.wincode_describe.specs.TypeLaws.{integer_laws}
 use Rattle.wincode_describe.specs.Types.{natural_shown, signed_shown, integer_read, zero_shown, nonzero_read, AsRead, bits_shown, time_shown, octets_shown}
+use Rattle.wincode_describe.specs.Types.{socket_shown, socket_parts_read, socket_read}
 use Rattle.wincode_describe.specs.Types.{time_read, address_read, std_read}
 use Rattle.wincode_describe.specs.declared.described.Integer.{Integer}
 use Rattle.wincode_describe.specs.declared.described.Integer.TheVariants.{U8, U16, U32, U64, U128, Usize, I8, I16, I32, I64, I128, Isize}
 use Rattle.wincode_describe.specs.declared.described.StdType.{StdType}
-use Rattle.wincode_describe.specs.declared.described.StdType.TheVariants.{F32, F64, Duration, SystemTime, Ipv4Addr, Ipv6Addr}
+use Rattle.wincode_describe.specs.declared.described.StdType.TheVariants.{F32, F64, Duration, SystemTime, Ipv4Addr, Ipv6Addr, SocketAddrV4, SocketAddrV6}
 use Rattle.wincode_describe.specs.declared.shown.Shown.{Shown}
 use Rattle.wincode_describe.proofs.Shows.{shown_gives, shown_refused, shown_memory, show_last, began_none}
 
@@ -85,6 +86,8 @@ module _ {U : Type 0} (R : List ℕ → U → Type 0) (old new : ReaderState) (u
       (made_read (λ v. v) (AsRead IsSame) [] (windowed_read (array_read 4 (number_read 1 true)))) R old new u r
   std_memory Ipv6Addr = shown_memory (octets_shown Ipv6Addr)
       (made_read (λ v. v) (AsRead IsSame) [] (windowed_read (array_read 16 (number_read 1 true)))) R old new u r
+  std_memory SocketAddrV4 = shown_memory (socket_shown SocketAddrV4) (made_read (λ v. v) (AsRead IsSame) [] (socket_parts_read 4)) R old new u r
+  std_memory SocketAddrV6 = shown_memory (socket_shown SocketAddrV6) (made_read (λ v. v) (AsRead IsSame) [] (socket_parts_read 16)) R old new u r
 
 -- ---- an integer that isn't 0
 
@@ -173,3 +176,17 @@ module _ (k : StdType) (n : ℕ) {old new : ReaderState} where
   pub octets_got : (v : List ℕ) (p : Shown) → octets_shown k v ≡ seen p ∷ [] → Gives (Octets n).reads old new v
       → GetOutcome (address_read k n) (λ part. seen part ∷ []) old new (Ok p)
   octets_got v p is r = got (octets_shown k) (Addresses n) v p is (made_gives (λ v. v) (AsRead IsSame) [] (Octets n) v v r (refl, (v, refl)))
+
+-- ---- octets and a port
+
+abbrev Sockets : ℕ → ReadGrammar (List ℕ × ℕ)
+Sockets n = made_read (λ v. v) (AsRead IsSame) [] (socket_parts_read n)
+
+module _ (k : StdType) (n : ℕ) {old new : ReaderState} where
+  pub socket_refused : (r : Result Shown ReadError) (e : ReadError) → IsPassed r e → SchemaReadRefused (socket_parts_read n) old new e
+      → GetOutcome (socket_read k n) (λ part. seen part ∷ []) old new r
+  socket_refused r e h d = got_refused (socket_shown k) (Sockets n) r e h (parts_refused (λ v. v) (AsRead IsSame) [] (socket_parts_read n) e d)
+
+  pub socket_got : (v : List ℕ × ℕ) (p : Shown) → socket_shown k v ≡ seen p ∷ [] → Gives (socket_parts_read n).reads old new v
+      → GetOutcome (socket_read k n) (λ part. seen part ∷ []) old new (Ok p)
+  socket_got v p is r = got (socket_shown k) (Sockets n) v p is (made_gives (λ v. v) (AsRead IsSame) [] (socket_parts_read n) v v r (refl, (v, refl)))

@@ -69,6 +69,8 @@ std_back std.Duration below rest = refl
 std_back std.SystemTime below rest = refl
 std_back std.Ipv4Addr below rest = refl
 std_back std.Ipv6Addr below rest = refl
+std_back std.SocketAddrV4 below rest = refl
+std_back std.SocketAddrV6 below rest = refl
 
 list_many : (s : LengthScheme) (d : Form) → (d ≡ Number U8 → ⊥) → list_form s d ≡ Many s d
 list_many s (Number U8) h = absurd (h refl)

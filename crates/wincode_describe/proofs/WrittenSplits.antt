@@ -117,6 +117,8 @@ std_some std.Duration = omega arith
 std_some std.SystemTime = omega arith
 std_some std.Ipv4Addr = omega arith
 std_some std.Ipv6Addr = omega arith
+std_some std.SocketAddrV4 = omega arith
+std_some std.SocketAddrV6 = omega arith
 
 std_word : (k : StdType) → all_of_word (std_name k) ≡ true
 std_word std.F32 = refl
@@ -125,6 +127,8 @@ std_word std.Duration = refl
 std_word std.SystemTime = refl
 std_word std.Ipv4Addr = refl
 std_word std.Ipv6Addr = refl
+std_word std.SocketAddrV4 = refl
+std_word std.SocketAddrV6 = refl
 
 -- a comma, a colon and a semicolon, each with a space behind it
 comma : (cs : List ℕ) (ts : List Piece) → tokens_from cs ≡ Some ts → tokens_from (codes ", " ++ cs) ≡ Some (sign (codes ",") ∷ ts)

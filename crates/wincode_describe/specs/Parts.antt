@@ -1,5 +1,5 @@
 -- What is shown of a value: its parts, in order.
-use Rattle.std.specs.Prelude.{ℕ, ℤ, Bool, List, [], ◌∷◌, ◌++◌, string_bytes, encode_utf8}
+use Rattle.std.specs.Prelude.{ℕ, ℤ, ◌-◌, Bool, List, [], ◌∷◌, ◌++◌, string_bytes, encode_utf8}
 use Rattle.std.specs.Int.{Width, byte_len, cast_unsigned, w8, w16, w32, w64, w128}
 use Rattle.wincode_io.specs.Numbers.{le}
 use Rattle.wincode_io.specs.ShortNumbers.{short_encoding}
@@ -9,16 +9,17 @@ use Rattle.wincode_describe.specs.declared.described.Integer.TheVariants.{U8, U1
 use Rattle.wincode_describe.specs.declared.described.LengthScheme.{LengthScheme}
 use Rattle.wincode_describe.specs.declared.described.LengthScheme.TheVariants.{Eight, Short}
 use Rattle.wincode_describe.specs.declared.described.StdType.{StdType}
-use Rattle.wincode_describe.specs.declared.described.StdType.TheVariants.{F32, F64, Duration, SystemTime, Ipv4Addr, Ipv6Addr}
+use Rattle.wincode_describe.specs.declared.described.StdType.TheVariants.{F32, F64, Duration, SystemTime, Ipv4Addr, Ipv6Addr, SocketAddrV4, SocketAddrV6}
 use Rattle.wincode_describe.specs.declared.shown.Shown.{Shown}
 use Rattle.wincode_describe.specs.declared.shown.Shown.TheVariants as shown
 
--- A part of a value: a number, a value of a type of std's by the number that its bytes are, a flag, a character, a text or bytes without their length, a length, a tag of so many bytes,
--- or a value without bytes.
+-- A part of a value: a number, a value of a type of std's by the number that its bytes are, a socket's host by such a number and
+-- its port, a flag, a character, a text or bytes without their length, a length, a tag of so many bytes, or a value without bytes.
 pub data Part : Type 0 where
   Natural : (integer : Integer) (n : ℕ) → Part
   Signed : (integer : Integer) (z : ℤ) → Part
   Std : (kind : StdType) (n : ℕ) → Part
+  Socket : (kind : StdType) (host port : ℕ) → Part
   Flag : (b : Bool) → Part
   Character : (c : ℕ) → Part
   Text : (bytes : List ℕ) → Part
@@ -32,6 +33,7 @@ abbrev pub seen : Shown → Part
 seen (shown.Natural i n) = Natural i n
 seen (shown.Signed i z) = Signed i z
 seen (shown.Std k n) = Std k n
+seen (shown.Socket k h p) = Socket k h p
 seen (shown.Flag b) = Flag b
 seen (shown.Character c) = Character c
 seen (shown.Text s) = Text (string_bytes s)
@@ -63,6 +65,8 @@ std_size Duration = 12
 std_size SystemTime = 12
 std_size Ipv4Addr = 4
 std_size Ipv6Addr = 16
+std_size SocketAddrV4 = 6
+std_size SocketAddrV6 = 18
 
 -- the bytes of a length
 abbrev pub length_bytes : LengthScheme → ℕ → List ℕ
@@ -74,6 +78,7 @@ abbrev pub part_bytes : Part → List ℕ
 part_bytes (Natural i n) = le (byte_len (width_of i)) n
 part_bytes (Signed i z) = le (byte_len (width_of i)) (cast_unsigned (width_of i) z)
 part_bytes (Std k n) = le (std_size k) n
+part_bytes (Socket k h p) = le (std_size k - 2) h ++ le 2 p
 part_bytes (Flag b) = bool_byte b ∷ []
 part_bytes (Character c) = encode_utf8 c
 part_bytes (Text bytes) = bytes

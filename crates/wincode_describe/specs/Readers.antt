@@ -6,7 +6,6 @@ use Rattle.wincode_describe.specs.Forms.{Pairs, Block, Group, Record, Both, Name
 use Rattle.wincode_describe.specs.Phrases.{Piece, behind_sign, word_front, number_front}
 use Rattle.wincode_describe.specs.declared.described.Described.{Described}
 use Rattle.wincode_describe.specs.declared.described.Integer.TheVariants.{U8, U16, U32, U64, U128, Usize, I8, I16, I32, I64, I128, Isize}
-use Rattle.wincode_describe.specs.declared.described.StdType.{StdType}
 use Rattle.wincode_describe.specs.declared.described.StdType.TheVariants as std
 use Rattle.wincode_describe.specs.declared.described.LengthScheme.{LengthScheme}
 use Rattle.wincode_describe.specs.declared.described.LengthScheme.TheVariants.{Eight, Short}
@@ -50,6 +49,8 @@ std_plain_of w =
     else if bytes_eq w (codes "SystemTime") then Some (Standard std.SystemTime)
     else if bytes_eq w (codes "Ipv4Addr") then Some (Standard std.Ipv4Addr)
     else if bytes_eq w (codes "Ipv6Addr") then Some (Standard std.Ipv6Addr)
+    else if bytes_eq w (codes "SocketAddrV4") then Some (Standard std.SocketAddrV4)
+    else if bytes_eq w (codes "SocketAddrV6") then Some (Standard std.SocketAddrV6)
     else if bytes_eq w (codes "NonZeroU8") then Some (NotZero U8)
     else if bytes_eq w (codes "NonZeroU16") then Some (NotZero U16)
     else if bytes_eq w (codes "NonZeroU32") then Some (NotZero U32)
@@ -118,8 +119,6 @@ opening_of w =
     else if bytes_eq w (codes "RcStr") then opening.Known known.SharedText
     else if bytes_eq w (codes "ArcStr") then opening.Known known.SharedText
     else if bytes_eq w (codes "IpAddr") then opening.Known known.IpAddr
-    else if bytes_eq w (codes "SocketAddrV4") then opening.Known known.SocketAddrV4
-    else if bytes_eq w (codes "SocketAddrV6") then opening.Known known.SocketAddrV6
     else if bytes_eq w (codes "SocketAddr") then opening.Known known.SocketAddr
     else if bytes_eq w (codes "containers") then opening.Container
     else opening.Name
@@ -159,17 +158,11 @@ held_form holder.Set d = Several d
 held_form holder.List d = list_form Eight d
 held_form holder.Bare d = d
 
--- the address of a socket: an address of this type, and a port
-abbrev pub socket_form : StdType → Form
-socket_form k = Record (Both (Named (codes "ip") (Standard k)) (Named (codes "port") (Number U16)))
-
 -- what such a word is by itself, made of other types
 abbrev pub known_form : Known → Form
 known_form known.SharedText = Held Words
 known_form known.IpAddr = Either (Standard std.Ipv4Addr) (Standard std.Ipv6Addr)
-known_form known.SocketAddrV4 = socket_form std.Ipv4Addr
-known_form known.SocketAddrV6 = socket_form std.Ipv6Addr
-known_form known.SocketAddr = Either (socket_form std.Ipv4Addr) (socket_form std.Ipv6Addr)
+known_form known.SocketAddr = Either (Standard std.SocketAddrV4) (Standard std.SocketAddrV6)
 
 -- the two that stand in the angle brackets of such a word
 abbrev pub pair_form : Pair → Form → Form → Form

@@ -21,10 +21,10 @@ use Rattle.wincode_base.specs.declared.sizes.ItemSize.{ItemSize}
 use Rattle.wincode_describe.specs.Parts.{Part, Flag, Character, Bytes, Nothing}
 use Rattle.wincode_describe.specs.ShownGrammars.{shown_read, joined}
 use Rattle.wincode_describe.specs.Types.{natural_shown, signed_shown, scheme_of, text_shown, bytes_shown, list_shown, option_shown, result_shown}
-use Rattle.wincode_describe.specs.Types.{AsRead, bits_shown, time_shown, octets_shown}
+use Rattle.wincode_describe.specs.Types.{AsRead, bits_shown, time_shown, octets_shown, socket_shown, socket_parts_read}
 use Rattle.wincode_describe.specs.Types.{both_shown, described_read}
 use Rattle.wincode_describe.specs.declared.described.Integer.TheVariants.{U8, U16, U32, U64, U128, Usize, I8, I16, I32, I64, I128, Isize}
-use Rattle.wincode_describe.specs.declared.described.StdType.TheVariants.{F32, F64, Duration, SystemTime, Ipv4Addr, Ipv6Addr}
+use Rattle.wincode_describe.specs.declared.described.StdType.TheVariants.{F32, F64, Duration, SystemTime, Ipv4Addr, Ipv6Addr, SocketAddrV4, SocketAddrV6}
 use Rattle.wincode_describe.specs.declared.described.LengthScheme.{LengthScheme}
 use Rattle.wincode_describe.specs.declared.described.LengthScheme.TheVariants.{Eight}
 use Rattle.wincode_describe.specs.declared.described.Described.{Described}
@@ -189,6 +189,12 @@ ipv4_covers = record { meta = refl; prealloc = refl; reads = as_read (octets_sho
 
 pub ipv6_covers : Covers (made_read (λ v. v) IsSame [] (octets_read 16)) (type.Std Ipv6Addr)
 ipv6_covers = record { meta = refl; prealloc = refl; reads = as_read (octets_shown Ipv6Addr) IsSame [] (octets_read 16) }
+
+pub socket_v4_covers : Covers (made_read (λ v. v) IsSame [] (socket_parts_read 4)) (type.Std SocketAddrV4)
+socket_v4_covers = record { meta = refl; prealloc = refl; reads = as_read (socket_shown SocketAddrV4) IsSame [] (socket_parts_read 4) }
+
+pub socket_v6_covers : Covers (made_read (λ v. v) IsSame [] (socket_parts_read 16)) (type.Std SocketAddrV6)
+socket_v6_covers = record { meta = refl; prealloc = refl; reads = as_read (socket_shown SocketAddrV6) IsSame [] (socket_parts_read 16) }
 
 pub bool_covers : Covers bool_read type.Bool
 bool_covers = record { meta = refl; prealloc = refl; reads = λ b v r. (Flag v ∷ [], (v, r, refl)) }

@@ -1,5 +1,5 @@
 -- The bytes of the parts of a value, joined, are its encoding.
-use Rattle.std.proofs.Common.{◌≡◌, ◌∙◌, sym, ap, subst, ℕ, zero, suc, ◌+◌, ◌*◌, ◌/◌, ◌%◌, arith, ◌<◌, ◌^◌, Bool, true, false, List, [], ◌∷◌, ◌++◌, length, append-nil, append_assoc, Some, None}
+use Rattle.std.proofs.Common.{◌≡◌, ◌∙◌, sym, ap, subst, ℕ, zero, suc, ◌+◌, ◌-◌, ◌*◌, ◌/◌, ◌%◌, arith, ◌<◌, ◌^◌, Bool, true, false, List, [], ◌∷◌, ◌++◌, length, append-nil, append_assoc, Some, None}
 use Rattle.std.proofs.Common.{Ok, Err, nat_eq, refl}
 use Rattle.std.specs.Prelude.{Result, Option}
 use Rattle.std.proofs.Math.Nat.{mul_assoc, pow-succ'}
@@ -14,14 +14,14 @@ use Rattle.wincode_base.specs.Lengths.{preallocation_limit}
 use Rattle.wincode_base.specs.Lists.{list_read}
 use Rattle.wincode_base.specs.ShortLaws.{short_is}
 use Rattle.wincode_base.specs.Tags.{option_read, result_read}
-use Rattle.wincode_describe.specs.Parts.{Part, Std, Bytes, Tag, std_size, part_bytes, parts_bytes, length_bytes}
+use Rattle.wincode_describe.specs.Parts.{Part, Std, Socket, Bytes, Tag, std_size, part_bytes, parts_bytes, length_bytes}
 use Rattle.wincode_describe.specs.ShownGrammars.{shown_read, joined, chosen_read, nameless_read, read_if, CaseGrammars}
-use Rattle.wincode_describe.specs.Types.{time_read, address_read, std_read}
+use Rattle.wincode_describe.specs.Types.{time_read, address_read, socket_read, std_read}
 use Rattle.wincode_describe.specs.Types.{integer_read, scheme_of, bytes_shown, list_of, option_shown, result_shown, tag_bytes, described_read, cases_read}
 use Rattle.wincode_describe.specs.declared.described.Integer.{Integer}
 use Rattle.wincode_describe.specs.declared.described.Integer.TheVariants.{U8, U16, U32, U64, U128, Usize, I8, I16, I32, I64, I128, Isize}
 use Rattle.wincode_describe.specs.declared.described.StdType.{StdType}
-use Rattle.wincode_describe.specs.declared.described.StdType.TheVariants.{F32, F64, Duration, SystemTime, Ipv4Addr, Ipv6Addr}
+use Rattle.wincode_describe.specs.declared.described.StdType.TheVariants.{F32, F64, Duration, SystemTime, Ipv4Addr, Ipv6Addr, SocketAddrV4, SocketAddrV6}
 use Rattle.wincode_describe.specs.declared.described.LengthScheme.{LengthScheme}
 use Rattle.wincode_describe.specs.declared.described.LengthScheme.TheVariants.{Eight, Short}
 use Rattle.wincode_describe.specs.declared.described.Described.{Described}
@@ -131,6 +131,18 @@ address_bytes k n e b w r =
     one_part b (Std k (worth r.0)) w
     (joins ∙ sym (le-worth_within n p (joined_are_bytes p b j.1) j.0) ∙ ap (λ m. le m (worth p)) (sym e) ∙ ap (λ v. le (std_size k) (worth v)) same) r.2
 
+socket_bytes : (k : StdType) (n : ℕ) → std_size k - 2 ≡ n → HasBytes (socket_read k n).reads
+socket_bytes k n e b w r =
+    let p = r.1.0 in
+    let same : p ≡ r.0 = sym r.1.3.0 ∙ r.1.4 in
+    let j = r.1.2 in
+    let octets = j.2 in
+    let host : j.0 ≡ p.0 = bytes_joined p.0 j.0 octets.1 in
+    let joins : b ≡ p.0 ++ le 2 p.1 = j.4 ∙ ap (λ t. t ++ j.1) host ∙ ap (λ t. p.0 ++ t) j.3.1 in
+    let number : p.0 ≡ le n (worth p.0) = sym (le-worth_within n p.0 (joined_are_bytes p.0 j.0 octets.1) octets.0) in
+    one_part b (Socket k (worth r.0.0) r.0.1) w
+    (joins ∙ ap (λ t. t ++ le 2 p.1) number ∙ ap (λ m. le m (worth p.0) ++ le 2 p.1) (sym e) ∙ ap (λ v. le (std_size k - 2) (worth v.0) ++ le 2 v.1) same) r.2
+
 std_bytes : (k : StdType) → HasBytes (std_read k).reads
 std_bytes F32 b w r = one_part b (Std F32 r.0) w (r.1.2.1 ∙ ap (le 4) (sym r.1.3.0 ∙ r.1.4)) r.2
 std_bytes F64 b w r = one_part b (Std F64 r.0) w (r.1.2.1 ∙ ap (le 8) (sym r.1.3.0 ∙ r.1.4)) r.2
@@ -138,6 +150,8 @@ std_bytes Duration b w r = time_bytes Duration (2 ^ 64) refl b w r
 std_bytes SystemTime b w r = time_bytes SystemTime (2 ^ 63) refl b w r
 std_bytes Ipv4Addr b w r = address_bytes Ipv4Addr 4 refl b w r
 std_bytes Ipv6Addr b w r = address_bytes Ipv6Addr 16 refl b w r
+std_bytes SocketAddrV4 b w r = socket_bytes SocketAddrV4 4 refl b w r
+std_bytes SocketAddrV6 b w r = socket_bytes SocketAddrV6 16 refl b w r
 
 -- ---- tags
 

@@ -19,12 +19,13 @@ use Rattle.wincode_describe.specs.Parts.{Part, Flag, Character, Bytes, Nothing}
 use Rattle.wincode_describe.specs.ShownGrammars.{shown_read, joined, nameless_read, read_if}
 use Rattle.wincode_describe.specs.ShownLaws.{any, any_laws, shown_laws, CasesLaws, one_case_laws, or_case_laws, chosen_laws}
 use Rattle.wincode_describe.specs.Types.{natural_shown, signed_shown, integer_read, scheme_of, text_shown, bytes_shown, list_shown, option_shown}
-use Rattle.wincode_describe.specs.Types.{zero_shown, AsRead, bits_shown, time_shown, octets_shown, time_read, address_read, std_read}
+use Rattle.wincode_describe.specs.Types.{zero_shown, AsRead, bits_shown, time_shown, octets_shown, socket_shown}
+use Rattle.wincode_describe.specs.Types.{time_read, address_read, socket_read, std_read}
 use Rattle.wincode_describe.specs.Types.{result_shown, both_shown, list_of, tag_bytes, described_read, cases_read}
 use Rattle.wincode_describe.specs.declared.described.Integer.{Integer}
 use Rattle.wincode_describe.specs.declared.described.Integer.TheVariants.{U8, U16, U32, U64, U128, Usize, I8, I16, I32, I64, I128, Isize}
 use Rattle.wincode_describe.specs.declared.described.StdType.{StdType}
-use Rattle.wincode_describe.specs.declared.described.StdType.TheVariants.{F32, F64, Duration, SystemTime, Ipv4Addr, Ipv6Addr}
+use Rattle.wincode_describe.specs.declared.described.StdType.TheVariants.{F32, F64, Duration, SystemTime, Ipv4Addr, Ipv6Addr, SocketAddrV4, SocketAddrV6}
 use Rattle.wincode_describe.specs.declared.described.LengthScheme.{LengthScheme}
 use Rattle.wincode_describe.specs.declared.described.LengthScheme.TheVariants.{Eight, Short}
 use Rattle.wincode_describe.specs.declared.described.Described.{Described}
@@ -65,6 +66,10 @@ time_laws k limit = as_read_laws (time_shown k) (AreTime limit) is_overflow
 address_laws : (k : StdType) (n : ℕ) → ReadLaws any (address_read k n)
 address_laws k n = as_read_laws (octets_shown k) IsSame [] (windowed_read_laws (array_read_laws n _ _ (number_read_laws 1 true (lit≤ tt))))
 
+socket_laws : (k : StdType) (n : ℕ) → ReadLaws any (socket_read k n)
+socket_laws k n = as_read_laws (socket_shown k) IsSame []
+    (windowed_read_laws (pair_read_laws (windowed_read_laws (array_read_laws n _ _ (number_read_laws 1 true (lit≤ tt)))) (number_read_laws 2 true (lit≤ tt))))
+
 std_laws : (k : StdType) → ReadLaws any (std_read k)
 std_laws F32 = as_read_laws (bits_shown F32) (AreBits binary32) [] (number_read_laws 4 true (lit≤ tt))
 std_laws F64 = as_read_laws (bits_shown F64) (AreBits binary64) [] (number_read_laws 8 true (lit≤ tt))
@@ -72,6 +77,8 @@ std_laws Duration = time_laws Duration (2 ^ 64)
 std_laws SystemTime = time_laws SystemTime (2 ^ 63)
 std_laws Ipv4Addr = address_laws Ipv4Addr 4
 std_laws Ipv6Addr = address_laws Ipv6Addr 16
+std_laws SocketAddrV4 = socket_laws SocketAddrV4 4
+std_laws SocketAddrV6 = socket_laws SocketAddrV6 16
 
 pub list_laws : (s : LengthScheme) {g : ReadGrammar (List Part)} → ReadLaws any g → ReadLaws any (list_of s g)
 list_laws s {g = g} l = shown_laws (list_shown s) (list_read_laws (scheme_of s) (scheme_laws s) 24 (lit≤ tt) any g l)
@@ -130,6 +137,8 @@ std_borrow Duration = refl
 std_borrow SystemTime = refl
 std_borrow Ipv4Addr = refl
 std_borrow Ipv6Addr = refl
+std_borrow SocketAddrV4 = refl
+std_borrow SocketAddrV6 = refl
 
 if_borrow : (b : Bool) (g h : ReadGrammar (List Part)) → g.borrow ≡ 0 → h.borrow ≡ 0 → (read_if b g h).borrow ≡ 0
 if_borrow true g h i j = i

@@ -15,12 +15,12 @@ use Rattle.wincode_base.specs.Pairs.{pair_read}
 use Rattle.wincode_base.specs.Short.{short_scheme}
 use Rattle.wincode_base.specs.Strings.{char_read, str_read}
 use Rattle.wincode_base.specs.Tags.{option_read, result_read}
-use Rattle.wincode_describe.specs.Parts.{Part, Natural, Signed, Std, Flag, Character, Text, Bytes, Length, Tag, Nothing}
+use Rattle.wincode_describe.specs.Parts.{Part, Natural, Signed, Std, Socket, Flag, Character, Text, Bytes, Length, Tag, Nothing}
 use Rattle.wincode_describe.specs.ShownGrammars.{shown_read, joined, chosen_read, CaseGrammars, one_case, or_case}
 use Rattle.wincode_describe.specs.declared.described.Integer.{Integer}
 use Rattle.wincode_describe.specs.declared.described.Integer.TheVariants.{U8, U16, U32, U64, U128, Usize, I8, I16, I32, I64, I128, Isize}
 use Rattle.wincode_describe.specs.declared.described.StdType.{StdType}
-use Rattle.wincode_describe.specs.declared.described.StdType.TheVariants.{F32, F64, Duration, SystemTime, Ipv4Addr, Ipv6Addr}
+use Rattle.wincode_describe.specs.declared.described.StdType.TheVariants.{F32, F64, Duration, SystemTime, Ipv4Addr, Ipv6Addr, SocketAddrV4, SocketAddrV6}
 use Rattle.wincode_describe.specs.declared.described.LengthScheme.{LengthScheme}
 use Rattle.wincode_describe.specs.declared.described.LengthScheme.TheVariants.{Eight, Short}
 use Rattle.wincode_describe.specs.declared.described.TagSize.{TagSize}
@@ -98,6 +98,18 @@ time_read k limit = shown_read (time_shown k)
 abbrev pub address_read : StdType → ℕ → ReadGrammar (List Part)
 address_read k n = shown_read (octets_shown k) (made_read (λ v. v) (AsRead IsSame) [] (windowed_read (array_read n (number_read 1 true))))
 
+-- the address of a socket is its octets and its port
+abbrev pub socket_shown : StdType → List ℕ × ℕ → List Part
+socket_shown k v = Socket k (worth v.0) v.1 ∷ []
+
+-- so many octets and a port
+abbrev pub socket_parts_read : ℕ → ReadGrammar (List ℕ × ℕ)
+socket_parts_read n = windowed_read (pair_read (windowed_read (array_read n (number_read 1 true))) (number_read 2 true))
+
+-- the address of a socket whose host has so many octets
+abbrev pub socket_read : StdType → ℕ → ReadGrammar (List Part)
+socket_read k n = shown_read (socket_shown k) (made_read (λ v. v) (AsRead IsSame) [] (socket_parts_read n))
+
 -- a type of std's is read as its schema reads it
 abbrev pub std_read : StdType → ReadGrammar (List Part)
 std_read F32 = shown_read (bits_shown F32) (made_read (λ v. v) (AsRead (AreBits binary32)) [] (number_read 4 true))
@@ -106,6 +118,8 @@ std_read Duration = time_read Duration (2 ^ 64)
 std_read SystemTime = time_read SystemTime (2 ^ 63)
 std_read Ipv4Addr = address_read Ipv4Addr 4
 std_read Ipv6Addr = address_read Ipv6Addr 16
+std_read SocketAddrV4 = socket_read SocketAddrV4 4
+std_read SocketAddrV6 = socket_read SocketAddrV6 16
 
 -- the scheme by which the length of a list is read
 abbrev pub scheme_of : LengthScheme → Scheme

@@ -6,7 +6,7 @@ use Rattle.wincode_describe.specs.Forms.{Block, Group, Record, Both, Named, Choi
 use Rattle.wincode_describe.specs.declared.described.Integer.{Integer}
 use Rattle.wincode_describe.specs.declared.described.Integer.TheVariants.{U8, U16, U32, U64, U128, Usize, I8, I16, I32, I64, I128, Isize}
 use Rattle.wincode_describe.specs.declared.described.StdType.{StdType}
-use Rattle.wincode_describe.specs.declared.described.StdType.TheVariants.{F32, F64, Duration, SystemTime, Ipv4Addr, Ipv6Addr}
+use Rattle.wincode_describe.specs.declared.described.StdType.TheVariants.{F32, F64, Duration, SystemTime, Ipv4Addr, Ipv6Addr, SocketAddrV4, SocketAddrV6}
 use Rattle.wincode_describe.specs.declared.described.LengthScheme.{LengthScheme}
 use Rattle.wincode_describe.specs.declared.described.LengthScheme.TheVariants.{Eight, Short}
 use Rattle.wincode_describe.specs.declared.described.TagSize.{TagSize}
@@ -50,6 +50,8 @@ std_name Duration = codes "Duration"
 std_name SystemTime = codes "SystemTime"
 std_name Ipv4Addr = codes "Ipv4Addr"
 std_name Ipv6Addr = codes "Ipv6Addr"
+std_name SocketAddrV4 = codes "SocketAddrV4"
+std_name SocketAddrV6 = codes "SocketAddrV6"
 
 -- what a list is called
 abbrev pub list_name : LengthScheme → List ℕ

@@ -58,6 +58,14 @@ pub(crate) fn is_same_part(one: &Shown, other: &Shown) -> bool
             Shown::Std { kind: k, number: n } => *kind == *k && *number == *n,
             _ => false,
         },
+        Shown::Socket { kind, host, port } => match other {
+            Shown::Socket {
+                kind: k,
+                host: h,
+                port: p,
+            } => *kind == *k && *host == *h && *port == *p,
+            _ => false,
+        },
         Shown::Flag(flag) => match other {
             Shown::Flag(f) => *flag == *f,
             _ => false,

@@ -26,6 +26,8 @@ pub enum StdType {
     SystemTime,
     Ipv4Addr,
     Ipv6Addr,
+    SocketAddrV4,
+    SocketAddrV6,
 }
 
 /// How the length of a list is written.

@@ -6,6 +6,7 @@ ghost use Rattle.wincode_base.specs.Lists.{list_read};
 ghost use Rattle.wincode_base.specs.Outcomes.{GetOutcome};
 ghost use Rattle.wincode_describe.specs.Parts.{Bytes, seen};
 ghost use Rattle.wincode_describe.specs.declared.described.Described.TheVariants as Described;
+ghost use Rattle.wincode_describe.specs.declared.described.StdType.TheVariants.{SocketAddrV4, SocketAddrV6};
 ghost use Rattle.wincode_describe.specs.ShownGrammars.{ShowOutcome, shown_read};
 ghost use Rattle.wincode_describe.specs.Types.{
   described_read,
@@ -14,6 +15,7 @@ ghost use Rattle.wincode_describe.specs.Types.{
   integer_read,
   natural_shown,
   nonzero_read,
+  socket_read,
   std_read,
   time_read,
   zero_shown,
@@ -193,6 +195,26 @@ fn get_time<L: Lending, R: Reader<L>>(
     Ok(Shown::Std { kind, number })
 }
 
+/// The address of a socket whose host has four octets, as a part.
+fn get_socket_v4<L: Lending, R: Reader<L>>(alloc: Global, reader: &mut R) -> ReadResult<Shown>
+    ensures { GetOutcome (socket_read SocketAddrV4 4) (λ part. seen part ∷ []) (R.state reader.old) (R.state reader.new) result }
+{
+    let (octets, port) = <([u8; 4], u16) as SchemaGet<L>>::get::<R>(alloc, reader)?;
+    let host = u32::from_le_bytes(octets) as u128;
+    let kind = StdType::SocketAddrV4;
+    Ok(Shown::Socket { kind, host, port })
+}
+
+/// So, of sixteen.
+fn get_socket_v6<L: Lending, R: Reader<L>>(alloc: Global, reader: &mut R) -> ReadResult<Shown>
+    ensures { GetOutcome (socket_read SocketAddrV6 16) (λ part. seen part ∷ []) (R.state reader.old) (R.state reader.new) result }
+{
+    let (octets, port) = <([u8; 16], u16) as SchemaGet<L>>::get::<R>(alloc, reader)?;
+    let host = u128::from_le_bytes(octets);
+    let kind = StdType::SocketAddrV6;
+    Ok(Shown::Socket { kind, host, port })
+}
+
 /// A value of a type of std's, as a part.
 fn get_std<L: Lending, R: Reader<L>>(
     alloc: Global,
@@ -232,6 +254,8 @@ fn get_std<L: Lending, R: Reader<L>>(
             let number = u128::from_le_bytes(octets);
             Ok(Shown::Std { kind, number })
         }
+        StdType::SocketAddrV4 => get_socket_v4::<L, R>(alloc, reader),
+        StdType::SocketAddrV6 => get_socket_v6::<L, R>(alloc, reader),
     }
 }
 

@@ -78,8 +78,8 @@ fn time_text(alloc: Global, seconds: u64, nanos: u32) -> Result<String, AllocErr
     format!(in alloc; "{whole}.{digits}s")
 }
 
-/// What a value of a type of std's is, as text.
-fn std_text(alloc: Global, kind: StdType, number: u128) -> Result<String, AllocError> {
+/// What a value of a type of std's is, as text; of the address of a socket, with its port.
+fn std_text(alloc: Global, kind: StdType, number: u128, port: u16) -> Result<String, AllocError> {
     let word = std_word(kind);
     let octets = number.to_le_bytes();
     let [a, b, c, d, e, f, g, h, i, j, k, l, ..] = octets;
@@ -109,6 +109,14 @@ fn std_text(alloc: Global, kind: StdType, number: u128) -> Result<String, AllocE
             let value = Ipv6Addr::from_octets(octets);
             format!(in alloc; "{word} {value}")
         }
+        StdType::SocketAddrV4 => {
+            let host = Ipv4Addr::from_octets([a, b, c, d]);
+            format!(in alloc; "{word} {host}:{port}")
+        }
+        StdType::SocketAddrV6 => {
+            let host = Ipv6Addr::from_octets(octets);
+            format!(in alloc; "{word} [{host}]:{port}")
+        }
     }
 }
 
@@ -123,7 +131,8 @@ fn value_text(alloc: Global, part: &Shown) -> Result<String, AllocError> {
             let word = integer_word(*integer);
             format!(in alloc; "{word} {value}")
         }
-        Shown::Std { kind, number } => std_text(alloc, *kind, *number),
+        Shown::Std { kind, number } => std_text(alloc, *kind, *number, 0),
+        Shown::Socket { kind, host, port } => std_text(alloc, *kind, *host, *port),
         Shown::Flag(flag) => format!(in alloc; "flag {flag}"),
         Shown::Character(character) => format!(in alloc; "char {character:?}"),
         Shown::Text(text) => format!(in alloc; "text {text:?}"),
@@ -363,6 +372,10 @@ pub(crate) fn push_bytes(bytes: &mut Vec<u8>, part: &Shown) -> Result<(), AllocE
         Shown::Natural { value, .. } => push_front(bytes, &value.to_le_bytes(), size),
         Shown::Signed { value, .. } => push_front(bytes, &value.to_le_bytes(), size),
         Shown::Std { number, .. } => push_front(bytes, &number.to_le_bytes(), size),
+        Shown::Socket { host, port, .. } => {
+            push_front(bytes, &host.to_le_bytes(), size.saturating_sub(2))?;
+            push_front(bytes, &port.to_le_bytes(), 2)
+        }
         Shown::Flag(flag) => push_front(bytes, &[*flag as u8], size),
         Shown::Character(character) => {
             let mut room = [0u8; 4];

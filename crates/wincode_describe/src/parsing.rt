@@ -24,7 +24,6 @@ ghost use Rattle.wincode_describe.specs.Readers.{
   plain_of,
   readers,
   short_by,
-  socket_form,
   std_plain_of,
   struct_by,
   tag_of,
@@ -94,8 +93,6 @@ enum Pair {
 enum Known {
     SharedText,
     IpAddr,
-    SocketAddrV4,
-    SocketAddrV6,
     SocketAddr,
 }
 
@@ -152,6 +149,8 @@ fn std_plain(word: &str) -> Option<Described>
         "SystemTime" => Described::Std(StdType::SystemTime),
         "Ipv4Addr" => Described::Std(StdType::Ipv4Addr),
         "Ipv6Addr" => Described::Std(StdType::Ipv6Addr),
+        "SocketAddrV4" => Described::Std(StdType::SocketAddrV4),
+        "SocketAddrV6" => Described::Std(StdType::SocketAddrV6),
         "NonZeroU8" => Described::NonZero(Integer::U8),
         "NonZeroU16" => Described::NonZero(Integer::U16),
         "NonZeroU32" => Described::NonZero(Integer::U32),
@@ -191,8 +190,6 @@ fn opened_by(word: &str) -> Opening
         "Cow" => Opening::Cow,
         "RcStr" | "ArcStr" => Opening::Known(Known::SharedText),
         "IpAddr" => Opening::Known(Known::IpAddr),
-        "SocketAddrV4" => Opening::Known(Known::SocketAddrV4),
-        "SocketAddrV6" => Opening::Known(Known::SocketAddrV6),
         "SocketAddr" => Opening::Known(Known::SocketAddr),
         "containers" => Opening::Container,
         _ => Opening::Name,
@@ -257,17 +254,6 @@ fn held(alloc: Global, holder: Holder, part: Described) -> DescribeResult<Descri
     }
 }
 
-/// The address of a socket: a struct of an address of this type, and of a port.
-fn socket(alloc: Global, ip: StdType) -> DescribeResult<Described>
-    ensures { Makes seen (socket_form ip) result }
-{
-    let ip = field(alloc, String::from_str(alloc, "ip")?, Described::Std(ip))?;
-    let port = Described::Integer(Integer::U16);
-    let port = field(alloc, String::from_str(alloc, "port")?, port)?;
-    let fields = joined(alloc, ip, port)?;
-    structure(alloc, fields)
-}
-
 /// What is a type by its word, made of others.
 fn known_type(alloc: Global, known: Known) -> DescribeResult<Described>
     ensures { Makes seen (known_form known) result }
@@ -278,12 +264,14 @@ fn known_type(alloc: Global, known: Known) -> DescribeResult<Described>
             let four = Described::Std(StdType::Ipv4Addr);
             paired(alloc, Pair::Result, four, Described::Std(StdType::Ipv6Addr))
         }
-        Known::SocketAddrV4 => socket(alloc, StdType::Ipv4Addr),
-        Known::SocketAddrV6 => socket(alloc, StdType::Ipv6Addr),
         Known::SocketAddr => {
-            let four = socket(alloc, StdType::Ipv4Addr)?;
-            let six = socket(alloc, StdType::Ipv6Addr)?;
-            paired(alloc, Pair::Result, four, six)
+            let four = Described::Std(StdType::SocketAddrV4);
+            paired(
+                alloc,
+                Pair::Result,
+                four,
+                Described::Std(StdType::SocketAddrV6),
+            )
         }
     }
 }
@@ -698,7 +686,7 @@ fn declaration(alloc: Global, source: &[Token], name: &str) -> DescribeResult<Op
 }
 
 /// The names of std's types that a source file may declare for its own.
-const STD_NAMES: [&str; 14] = [
+const STD_NAMES: [&str; 16] = [
     "Wrapping",
     "Saturating",
     "Reverse",
@@ -713,6 +701,8 @@ const STD_NAMES: [&str; 14] = [
     "Ipv4Addr",
     "Ipv6Addr",
     "SocketAddr",
+    "SocketAddrV4",
+    "SocketAddrV6",
 ];
 
 /// Refuses a file that declares a type of such a name.

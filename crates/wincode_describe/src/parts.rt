@@ -28,6 +28,8 @@ pub(crate) fn std_size(kind: StdType) -> usize
         StdType::F64 => 8,
         StdType::Duration | StdType::SystemTime => 12,
         StdType::Ipv6Addr => 16,
+        StdType::SocketAddrV4 => 6,
+        StdType::SocketAddrV6 => 18,
     }
 }
 
@@ -51,6 +53,7 @@ pub fn part_size(part: &Shown) -> usize
         Shown::Natural { integer, .. } => integer_size(*integer),
         Shown::Signed { integer, .. } => integer_size(*integer),
         Shown::Std { kind, .. } => std_size(*kind),
+        Shown::Socket { kind, .. } => std_size(*kind),
         Shown::Flag(_) => 1,
         Shown::Character(c) => c.len_utf8(),
         Shown::Text(text) => text.len(),

@@ -58,6 +58,8 @@ pub(crate) fn std_word(kind: StdType) -> &'static str
         StdType::SystemTime => "SystemTime",
         StdType::Ipv4Addr => "Ipv4Addr",
         StdType::Ipv6Addr => "Ipv6Addr",
+        StdType::SocketAddrV4 => "SocketAddrV4",
+        StdType::SocketAddrV6 => "SocketAddrV6",
     }
 }
 

@@ -55,6 +55,8 @@ fn std_meta(kind: StdType) -> TypeMeta
         StdType::F64 => reference_meta(plain(8)),
         StdType::Duration | StdType::SystemTime => reference_meta(plain(12)),
         StdType::Ipv6Addr => reference_meta(plain(16)),
+        StdType::SocketAddrV4 => reference_meta(plain(6)),
+        StdType::SocketAddrV6 => reference_meta(plain(18)),
     }
 }
 
@@ -138,6 +140,8 @@ fn std_prealloc(kind: StdType) -> usize
         StdType::F64 => 8,
         StdType::Duration | StdType::SystemTime => 12,
         StdType::Ipv6Addr => 16,
+        StdType::SocketAddrV4 => 6,
+        StdType::SocketAddrV6 => 18,
     }
 }
 

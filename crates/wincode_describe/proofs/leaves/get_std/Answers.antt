@@ -45,3 +45,9 @@ returns-in_ok-octets-in-Ipv6Addr g c =
     let same : worth v ≡ n = sym (c.from_le_bytes-number-in-Ipv6Addr.ensures ∙ from_le_bytes-worth w128 v (omega arith) size) in
     rw c.in-Ipv6Addr.is (octets_got Ipv6Addr 16 v (shown.Std Ipv6Addr n) (ap (λ t. Std Ipv6Addr t ∷ []) same)
     (subst P (map-id v) c.in_ok-octets-in-Ipv6Addr.ensures.ok))
+
+pub returns-in-SocketAddrV4 : goal.returns-in-SocketAddrV4
+returns-in-SocketAddrV4 g c = rw c.in-SocketAddrV4.is c.get_socket_v4.ensures
+
+pub returns-in-SocketAddrV6 : goal.returns-in-SocketAddrV6
+returns-in-SocketAddrV6 g c = rw c.in-SocketAddrV6.is c.get_socket_v6.ensures
