@@ -105,7 +105,7 @@ const GET_BY_ARMS: &str = "        match <@fields@ as SchemaGet<L>>::get(alloc, 
         }
 ";
 
-/// The same of more fields than a tuple has: their tuple is nested, and what the struct is of it is proved by itself.
+/// The same of many fields: what the struct is of their tuple is proved by itself.
 const GET_PARTS: &str = "        read_enum::<L, @fields@, @of_dst@, R>(alloc, reader, dst)
 ";
 
@@ -294,6 +294,9 @@ const KEYS: [&str; 29] = [
 
 /// How many fields stand in a tuple before what stands for the others.
 const EACH: usize = 11;
+
+/// More fields than so many are put together by a function of their own.
+const MANY: usize = 6;
 
 /// A letter for a place.
 fn letter_of(place: usize) -> char {
@@ -1101,7 +1104,7 @@ pub fn set_first_calls(
 
 /// By which template a struct is read.
 fn template_of(declaration: &Declaration, fields: &Fields) -> &'static str {
-    if is_long(fields) {
+    if has_many(fields) {
         GET_PARTS
     } else if declaration.generics.parameters.is_empty() {
         GET
@@ -1122,6 +1125,11 @@ fn set_read(alloc: Global, words: &mut Words, (declaration, fields): (&Declarati
     let is_decoded = has_plain(fields) && !is_long(fields);
     let decoding = text_of(alloc, if is_decoded { DECODING } else { "" }, words);
     words.set("decoding", decoding);
+}
+
+/// Whether there are more fields than `search` puts together by itself, whatever they are.
+fn has_many(fields: &Fields) -> bool {
+    fields.fields.len() > MANY
 }
 
 /// Whether there are more fields than a tuple has.
@@ -1250,10 +1258,10 @@ pub fn put_struct(
     let (mut words, is_bound) = all_words_of(alloc, (all, declaration), fields)?;
     fill(out, WRITING, &mut words)?;
     put_rests(alloc, out, (declaration, fields), (WRITING, is_bound))?;
-    if is_long(fields) && !declaration.generics.parameters.is_empty() {
+    if has_many(fields) && !declaration.generics.parameters.is_empty() {
         fill(out, OF, &mut words)?;
     }
-    if is_long(fields) {
+    if has_many(fields) {
         fill(out, PARTS, &mut words)?;
     }
     fill(out, READING, &mut words)?;
