@@ -748,8 +748,25 @@ RANGES = [
 ]
 
 
+# What isn't decoded over plain bytes.
+NOT_DECODED = """
+    #[inline(always)]
+    fn blank() -> Option<Self::Dst> {
+        None
+    }
+
+    #[inline(always)]
+    fn decode(bytes: &[u8], place: &mut Self::Dst) -> bool {
+        let _ = bytes.len();
+        let _ = &*place;
+        false
+    }
+"""
+
+
 def of_words(template, names, entry):
-    words = dict(zip(names, entry))
+    idle = {"at_once": READ_ONE_BY_ONE, "written_at_once": WRITTEN_ONE_BY_ONE, "not_decoded": NOT_DECODED}
+    words = {name: text.strip("\n") for name, text in idle.items()} | dict(zip(names, entry))
     return re.sub(r"\$(\w+)\$", lambda it: words[it[1]], template)
 
 
@@ -787,13 +804,7 @@ impl<L: Lending, T: SchemaRead<L>> SchemaRead<L> for $made$<T> {
         Ok(())
     }
 
-    #[inline(always)]
-    fn read_at_once<R: Reader<L>>(alloc: Global, reader: &mut R, n: usize, into: &mut Vec<Self::Dst>) -> Option<ReadResult<()>> {
-        let _ = (alloc, n);
-        let _ = &*reader;
-        let _ = &*into;
-        None
-    }
+$at_once$
 
     #[inline(always)]
     fn blank() -> Option<Self::Dst> {
@@ -836,13 +847,7 @@ impl<L: Lending, T: SchemaRead<L>> SchemaRead<L> for $made$<T> {
         Ok(())
     }
 
-    #[inline(always)]
-    fn read_at_once<R: Reader<L>>(alloc: Global, reader: &mut R, n: usize, into: &mut Vec<Self::Dst>) -> Option<ReadResult<()>> {
-        let _ = (alloc, n);
-        let _ = &*reader;
-        let _ = &*into;
-        None
-    }
+$at_once$
 
     #[inline(always)]
     fn blank() -> Option<Self::Dst> {
@@ -892,12 +897,7 @@ impl<T: SchemaWrite> SchemaWrite for $made$<T> {
         T::encode_front(&src.$field$, dst)
     }
 
-    #[inline(always)]
-    fn write_at_once<W: Writer>(writer: &mut W, items: &[Self::Src]) -> Option<WriteResult<()>> {
-        let _ = &*writer;
-        let _items = items.len();
-        None
-    }
+$written_at_once$
 
     #[inline(always)]
     fn known_size() -> Option<usize> {
@@ -937,12 +937,7 @@ impl<T: SchemaWrite> SchemaWrite for $made$<T> {
         encode_front_members_2::<T, T>($start$, $end$, dst)
     }
 
-    #[inline(always)]
-    fn write_at_once<W: Writer>(writer: &mut W, items: &[Self::Src]) -> Option<WriteResult<()>> {
-        let _ = &*writer;
-        let _items = items.len();
-        None
-    }
+$written_at_once$
 
     #[inline(always)]
     fn known_size() -> Option<usize> {
@@ -1017,25 +1012,9 @@ impl<L: Lending> SchemaRead<L> for $made$ {
         Ok(())
     }
 
-    #[inline(always)]
-    fn read_at_once<R: Reader<L>>(alloc: Global, reader: &mut R, n: usize, into: &mut Vec<Self::Dst>) -> Option<ReadResult<()>> {
-        let _ = (alloc, n);
-        let _ = &*reader;
-        let _ = &*into;
-        None
-    }
+$at_once$
 
-    #[inline(always)]
-    fn blank() -> Option<Self::Dst> {
-        None
-    }
-
-    #[inline(always)]
-    fn decode(bytes: &[u8], place: &mut Self::Dst) -> bool {
-        let _ = bytes.len();
-        let _ = &*place;
-        false
-    }
+$not_decoded$
 
     ghost read_laws = { str_read_laws 24 0 false (lit≤ tt) };
 }
@@ -1074,25 +1053,9 @@ impl<L: Lending> SchemaRead<L> for $made$ {
         }
     }
 
-    #[inline(always)]
-    fn read_at_once<R: Reader<L>>(alloc: Global, reader: &mut R, n: usize, into: &mut Vec<Self::Dst>) -> Option<ReadResult<()>> {
-        let _ = (alloc, n);
-        let _ = &*reader;
-        let _ = &*into;
-        None
-    }
+$at_once$
 
-    #[inline(always)]
-    fn blank() -> Option<Self::Dst> {
-        None
-    }
-
-    #[inline(always)]
-    fn decode(bytes: &[u8], place: &mut Self::Dst) -> bool {
-        let _ = bytes.len();
-        let _ = &*place;
-        false
-    }
+$not_decoded$
 
     ghost read_laws = { boxed_read_laws IsUtf8 (str_read 24 0 false) (str_read_laws 24 0 false (lit≤ tt)) };
 }
@@ -1141,12 +1104,7 @@ impl SchemaWrite for $made$ {
         encode_text($lend$, dst)
     }
 
-    #[inline(always)]
-    fn write_at_once<W: Writer>(writer: &mut W, items: &[Self::Src]) -> Option<WriteResult<()>> {
-        let _ = &*writer;
-        let _items = items.len();
-        None
-    }
+$written_at_once$
 
     #[inline(always)]
     fn known_size() -> Option<usize> {
