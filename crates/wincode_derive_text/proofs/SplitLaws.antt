@@ -6,7 +6,7 @@ use Rattle.std.proofs.lemmas.Str.{encode_ascii}
 use Rattle.std.specs.Char.{encode_utf8, is_ascii_digit}
 use Rattle.std.specs.Str.{all_ascii_digits}
 use Rattle.std.specs.Prelude.{option_map, option_and_then}
-use Rattle.wincode_derive_text.specs.Splits.{Taken, all_of_word, begun, in_front, of_word, splits, taken, tokens_from}
+use Rattle.wincode_derive_text.specs.Splits.{Reached, Taken, all_of_word, begun, in_front, kept, of_word, splits, taken, tokens_from}
 use Rattle.wincode_derive_text.specs.declared.tokens.Kind.{Kind}
 use Rattle.wincode_derive_text.specs.declared.tokens.Kind.TheVariants as kind
 use Rattle.wincode_derive_text.specs.declared.tokens.Place.TheVariants as place
@@ -22,8 +22,12 @@ and_right false b e = absurd (cc)
 pub ascii_of_word : (c : ℕ) → of_word c ≡ true → c < 128
 ascii_of_word c h = grind (arith, nat_tests)
 
+-- inside a word
+abbrev in_word : List ℕ → Reached
+in_word w = record { place = place.Word; word = w; depth = 0 }
+
 -- a character of a word begins one
-begins_word : (c : ℕ) → of_word c ≡ true → begun c ≡ Some (record { ended = []; reached = record { place = place.Word; word = encode_utf8 c } })
+begins_word : (c : ℕ) → of_word c ≡ true → begun c ≡ Some (kept place.Word [] 0 c)
 begins_word c h = grind (arith, nat_tests)
 
 -- a word ends where a character follows that is of none
@@ -33,24 +37,24 @@ more_of w t None ts e = absurd (cc)
 more_of w t (Some r) ts e = let same : t.ended ++ r ≡ ts = cc in ap (λ r. Some ((kind.Word, w) ∷ r)) same
 
 ends_by : (w : List ℕ) (t : Option Taken) (cs : List ℕ) (ts : List (Kind × List ℕ))
-    → option_and_then (λ t. option_map (λ r. t.ended ++ r) (splits t.reached.place t.reached.word cs)) t ≡ Some ts
-    → option_and_then (λ t. option_map (λ r. t.ended ++ r) (splits t.reached.place t.reached.word cs)) (in_front kind.Word w t) ≡ Some ((kind.Word, w) ∷ ts)
+    → option_and_then (λ t. option_map (λ r. t.ended ++ r) (splits t.reached cs)) t ≡ Some ts
+    → option_and_then (λ t. option_map (λ r. t.ended ++ r) (splits t.reached cs)) (in_front kind.Word w t) ≡ Some ((kind.Word, w) ∷ ts)
 ends_by w None cs ts e = absurd (cc)
-ends_by w (Some t) cs ts e = more_of w t (splits t.reached.place t.reached.word cs) ts e
+ends_by w (Some t) cs ts e = more_of w t (splits t.reached cs) ts e
 
-word_ends : (w : List ℕ) (c : ℕ) (cs : List ℕ) (ts : List (Kind × List ℕ)) → of_word c ≡ false → tokens_from (c ∷ cs) ≡ Some ts → splits place.Word w (c ∷ cs)
+word_ends : (w : List ℕ) (c : ℕ) (cs : List ℕ) (ts : List (Kind × List ℕ)) → of_word c ≡ false → tokens_from (c ∷ cs) ≡ Some ts → splits (in_word w) (c ∷ cs)
     ≡ Some ((kind.Word, w) ∷ ts)
 word_ends w c cs ts h e =
-    let ends : taken place.Word w c ≡ in_front kind.Word w (begun c) =
-    ap (λ b. cond b (Some (record { ended = []; reached = record { place = place.Word; word = w ++ encode_utf8 c } })) (in_front kind.Word w (begun c)))
+    let ends : taken (in_word w) c ≡ in_front kind.Word w (begun c) =
+    ap (λ b. cond b (Some (kept place.Word w 0 c)) (in_front kind.Word w (begun c)))
     h in
     let one : Option Taken → Option (List (Kind × List ℕ)) = λ t. option_and_then
-    (λ t. option_map (λ r. t.ended ++ r) (splits t.reached.place t.reached.word cs)) t in
+    (λ t. option_map (λ r. t.ended ++ r) (splits t.reached cs)) t in
     ap one ends ∙ ends_by w (begun c) cs ts e
 
 -- a word goes on
 word_on : (v w : List ℕ) (c : ℕ) (cs : List ℕ) (ts : List (Kind × List ℕ)) → all_of_word v ≡ true → of_word c ≡ false → tokens_from (c ∷ cs) ≡ Some ts
-    → splits place.Word w (v ++ (c ∷ cs)) ≡ Some ((kind.Word, w ++ v) ∷ ts)
+    → splits (in_word w) (v ++ (c ∷ cs)) ≡ Some ((kind.Word, w ++ v) ∷ ts)
 word_on [] w c cs ts all h e = rw (append-nil w) (word_ends w c cs ts h e)
 word_on (d ∷ ds) w c cs ts all h e =
     let first = and_left (of_word d) (all_of_word ds) all in

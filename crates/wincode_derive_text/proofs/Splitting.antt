@@ -4,8 +4,7 @@ use Rattle.std.proofs.Common.{Option, Some, None, Result, Ok, Err, refl, arith}
 use Rattle.std.proofs.Math.Seq.{drop-cons}
 use Rattle.std.proofs.lemmas.List.{append-nil, drop_all}
 use Rattle.std.specs.Prelude.{option_map, option_and_then}
-use Rattle.wincode_derive_text.specs.Splits.{Taken, TakesIfKnown, in_front, piece, splits, taken, tokens_in, Splits}
-use Rattle.std.specs.String.{string_bytes}
+use Rattle.wincode_derive_text.specs.Splits.{Taken, TakesIfKnown, between, in_front, none_left, piece, reached, splits, taken, tokens_in, Splits}
 use Rattle.wincode_derive_text.specs.declared.error.DeriveError.{DeriveError}
 use Rattle.wincode_derive_text.specs.declared.error.DeriveError.TheVariants.{OutOfMemory}
 use Rattle.wincode_derive_text.specs.declared.tokens.Kind.{Kind}
@@ -26,7 +25,7 @@ takes_both old middle new k word (Err x) (Some t) e h = h
 -- the tokens so far and those of what is left are all of them
 abbrev pub Left : Lexer → List ℕ → Option (List (Kind × List ℕ)) → Type 0
 Left lexer cs None = Unit
-Left lexer cs (Some all) = (more : List (Kind × List ℕ)) × (splits lexer.place (string_bytes lexer.word) cs ≡ Some more)
+Left lexer cs (Some all) = (more : List (Kind × List ℕ)) × (splits (reached lexer) cs ≡ Some more)
     × (map piece lexer.tokens.items ++ more ≡ all)
 
 -- what is left behind one more character
@@ -36,49 +35,49 @@ split_one t more None e = absurd (cc)
 split_one t more (Some ts) e = (ts, refl, cc)
 
 left_with : (old new : Lexer) (cs : List ℕ) (all more : List (Kind × List ℕ)) (u : Unit) (t : Option Taken)
-    → option_and_then (λ t. option_map (λ ts. t.ended ++ ts) (splits t.reached.place t.reached.word cs)) t ≡ Some more → map piece old.tokens.items ++ more
+    → option_and_then (λ t. option_map (λ ts. t.ended ++ ts) (splits t.reached cs)) t ≡ Some more → map piece old.tokens.items ++ more
     ≡ all → TakesIfKnown old new (Ok u) t → Left new cs (Some all)
 left_with old new cs all more u None e h k = absurd (cc)
 left_with old new cs all more u (Some t) e h k =
-    let s = split_one t more (splits t.reached.place t.reached.word cs) e in (
+    let s = split_one t more (splits t.reached cs) e in (
       s.0,
-      ap (λ r. splits r.place r.word cs) k.1 ∙ s.1,
+      ap (λ r. splits r cs) k.1 ∙ s.1,
       ap (λ ts. ts ++ s.0) k.0 ∙ append_assoc (map piece old.tokens.items) t.ended s.0
           ∙ ap (λ ts. map piece old.tokens.items ++ ts) s.2 ∙ h,
     )
 
 pub left_step : (old new : Lexer) (c : ℕ) (cs : List ℕ) (all : Option (List (Kind × List ℕ))) (u : Unit) → Left old (c ∷ cs) all
-    → TakesIfKnown old new (Ok u) (taken old.place (string_bytes old.word) c) → Left new cs all
+    → TakesIfKnown old new (Ok u) (taken (reached old) c) → Left new cs all
 left_step old new c cs None u h k = tt
-left_step old new c cs (Some all) u h k = left_with old new cs all h.0 u (taken old.place (string_bytes old.word) c) h.1 h.2 k
+left_step old new c cs (Some all) u h k = left_with old new cs all h.0 u (taken (reached old) c) h.1 h.2 k
 
 -- nothing but memory is refused
 refused_with : (old new : Lexer) (cs : List ℕ) (more : List (Kind × List ℕ)) (x : DeriveError) (t : Option Taken)
-    → option_and_then (λ t. option_map (λ ts. t.ended ++ ts) (splits t.reached.place t.reached.word cs)) t ≡ Some more → TakesIfKnown old new (Err x) t → x
+    → option_and_then (λ t. option_map (λ ts. t.ended ++ ts) (splits t.reached cs)) t ≡ Some more → TakesIfKnown old new (Err x) t → x
     ≡ OutOfMemory
 refused_with old new cs more x None e k = absurd (cc)
 refused_with old new cs more x (Some t) e k = k
 
 pub left_refused : (old new : Lexer) (c : ℕ) (cs : List ℕ) (all : Option (List (Kind × List ℕ))) (x : DeriveError) → Left old (c ∷ cs) all
-    → TakesIfKnown old new (Err x) (taken old.place (string_bytes old.word) c) → Splits all (Err x)
+    → TakesIfKnown old new (Err x) (taken (reached old) c) → Splits all (Err x)
 left_refused old new c cs None x h k = tt
-left_refused old new c cs (Some all) x h k = refused_with old new cs h.0 x (taken old.place (string_bytes old.word) c) h.1 k
+left_refused old new c cs (Some all) x h k = refused_with old new cs h.0 x (taken (reached old) c) h.1 k
 
 -- Nothing is left: all tokens are there, and none is being read.
-ended_at : (p : Place) (word : List ℕ) (more : List (Kind × List ℕ)) → splits p word [] ≡ Some more → (p ≡ place.Between) × (more ≡ [])
-ended_at place.Between word more e = (refl, cc)
-ended_at _ word more e = absurd (cc)
+ended_at : (p : Place) (more : List (Kind × List ℕ)) → none_left p ≡ Some more → (p ≡ place.Between) × (more ≡ [])
+ended_at place.Between more e = (refl, cc)
+ended_at _ more e = absurd (cc)
 
 pub left_ended : (lexer : Lexer) (all : Option (List (Kind × List ℕ))) → Left lexer [] all → Splits all (Ok lexer.tokens)
 left_ended lexer None h = tt
 left_ended lexer (Some all) h =
-    let e = ended_at lexer.place (string_bytes lexer.word) h.0 h.1 in
+    let e = ended_at lexer.place h.0 h.1 in
     sym (append-nil (map piece lexer.tokens.items)) ∙ ap (λ ts. map piece lexer.tokens.items ++ ts) (sym e.1) ∙ h.2
 
 pub left_not_between : (lexer : Lexer) (all : Option (List (Kind × List ℕ))) (x : DeriveError) → Left lexer [] all → ¬ (lexer.place ≡ place.Between)
     → Splits all (Err x)
 left_not_between lexer None x h k = tt
-left_not_between lexer (Some all) x h k = let e = ended_at lexer.place (string_bytes lexer.word) h.0 h.1 in absurd (k e.0)
+left_not_between lexer (Some all) x h k = let e = ended_at lexer.place h.0 h.1 in absurd (k e.0)
 
 -- the next character, and what is left behind it
 pub left_turn : (lexer : Lexer) (cs : List ℕ) (n c : ℕ) (all : Option (List (Kind × List ℕ))) → (n < length cs) × (c ≡ get_or cs n c)
@@ -95,12 +94,10 @@ left_last lexer cs n all t h =
     let P : List ℕ → Type 0 = λ ds. Left lexer (ds ++ 10 ∷ []) all in
     subst P (drop_all n cs (omega arith)) h
 
-first_of : (lexer : Lexer) (cs : List ℕ) (all : Option (List (Kind × List ℕ))) → lexer.tokens.items ≡ [] → splits lexer.place (string_bytes lexer.word) cs
-    ≡ all → Left lexer cs all
+first_of : (lexer : Lexer) (cs : List ℕ) (all : Option (List (Kind × List ℕ))) → lexer.tokens.items ≡ [] → splits (reached lexer) cs ≡ all → Left lexer cs all
 first_of lexer cs None e h = tt
 first_of lexer cs (Some all) e h = (all, h, ap (λ ts. map piece ts ++ all) e)
 
 -- in front of the first character
-pub left_first : (lexer : Lexer) (cs : List ℕ) → lexer.tokens.items ≡ [] → string_bytes lexer.word ≡ [] → lexer.place ≡ place.Between
-    → Left lexer (cs ++ 10 ∷ []) (tokens_in cs)
-left_first lexer cs no_tokens no_word at_first = first_of lexer (cs ++ 10 ∷ []) (tokens_in cs) no_tokens (rw (at_first, no_word) refl)
+pub left_first : (lexer : Lexer) (cs : List ℕ) → lexer.tokens.items ≡ [] → reached lexer ≡ between → Left lexer (cs ++ 10 ∷ []) (tokens_in cs)
+left_first lexer cs no_tokens at_first = first_of lexer (cs ++ 10 ∷ []) (tokens_in cs) no_tokens (ap (λ r. splits r (cs ++ 10 ∷ [])) at_first)

@@ -1,10 +1,57 @@
 //! Comment lines that begin with `wincode:`, and what looks like one.
+ghost use Rattle.std.specs.Prelude.{◌≡◌, false};
+ghost use Rattle.std.specs.Str.{str_eq_ignore_ascii_case};
+ghost use Rattle.wincode_derive_text.specs.Notes.{of_lead, behind_lead, has_name, may_be_note};
 
 /// The words that stand in comment lines.
 const WORDS: [&str; 5] = ["with", "tag", "tag_encoding", "counts", "from"];
 
 fn is_of_word(c: char) -> bool {
     c.is_ascii_alphanumeric() || c == '_'
+}
+
+/// Whether a byte may stand in front of the words of a comment: a stroke, a star, `!` or white space.
+fn is_of_lead(byte: u8) -> bool
+    ensures { result ≡ of_lead byte }
+{
+    matches!(byte, b'/' | b'*' | b'!' | b' ' | 9..=13)
+}
+
+/// What stands behind all of these at the front.
+fn words_of(mut comment: &[u8]) -> &[u8]
+    ensures { result.now ≡ behind_lead comment.entry.now }
+{
+    while let [first, rest @ ..] = comment
+        && is_of_lead(*first)
+    {
+        comment = rest;
+    }
+    comment
+}
+
+/// Whether two words are the same, in letters of any case.
+fn is_same_word(word: &[u8], other: &[u8]) -> bool
+    ensures { result ≡ str_eq_ignore_ascii_case word.now other.now }
+{
+    word.eq_ignore_ascii_case(other)
+}
+
+/// Whether the word `wincode` stands in front, in letters of any case.
+fn begins_with_name(words: &[u8]) -> bool
+    ensures { result ≡ has_name words.now }
+{
+    is_same_word(&words[..words.len().min(7)], b"wincode")
+}
+
+/// Whether a comment may be a note: `wincode` comes first in its words, or what isn't ASCII, and may be white space.
+fn can_be_note(comment: &str) -> bool
+    ensures { result ≡ may_be_note comment.now }
+{
+    let words = words_of(comment.as_bytes());
+    match words {
+        [first, ..] if *first > 127 => true,
+        _ => begins_with_name(words),
+    }
 }
 
 /// What a comment has behind the word `wincode`, in letters of any case, where it begins with it.
@@ -28,7 +75,12 @@ fn front_word(text: &str) -> &str {
 
 /// Whether a comment begins as `// wincode:` does, or nearly so: with other strokes or letters, or without the colon in
 /// front of one of the words.
-pub fn is_note(comment: &str) -> bool {
+pub fn is_note(comment: &str) -> bool
+    ensures { may_be_note comment.now ≡ false → result ≡ false }
+{
+    if !can_be_note(comment) {
+        return false;
+    }
     let Some(rest) = behind_name(comment) else {
         return false;
     };

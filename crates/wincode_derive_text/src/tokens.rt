@@ -1,11 +1,12 @@
 //! A source file as tokens.
-ghost use Rattle.std.specs.Prelude.{◌≡◌, [], ◌∷◌};
+ghost use Rattle.std.specs.Prelude.{◌≡◌};
 ghost use Rattle.std.specs.Str.{chars};
 ghost use Rattle.std.specs.String.{string_bytes};
-ghost use Rattle.wincode_derive_text.specs.Splits.{of_word, between, begun, in_front, reached, taken, Takes, TakesIfKnown, tokens_in, Splits};
+ghost use Rattle.wincode_derive_text.specs.Splits.{of_word, begun, in_front, ended, kept, closed, passed, behind_colon, behind_slash, in_line, in_block};
+ghost use Rattle.wincode_derive_text.specs.Splits.{reached, taken, Takes, TakesIfKnown, tokens_in, Splits};
 ghost use Rattle.wincode_derive_text.specs.declared.tokens.Kind.TheVariants.{Word as KindWord};
 
-use crate::error::{DeriveResult, Spot, refused_as};
+use crate::error::{DeriveError, DeriveResult, Spot, refused_as};
 use crate::notes::is_note;
 use std::alloc::Global;
 
@@ -130,8 +131,7 @@ fn text_place(tokens: &[Token], at: usize) -> Place {
 impl Lexer {
     /// Ends the token that was being read.
     fn end(&mut self, alloc: Global, kind: Kind) -> DeriveResult<()>
-        ensures { Takes self.old self.new result
-            (record { ended = (kind, string_bytes self.old.word) ∷ []; reached = between }) }
+        ensures { Takes self.old self.new result (ended kind (string_bytes self.old.word)) }
     {
         let text = String::from_str(alloc, self.word.as_str())?;
         let Mark { line, column, at } = self.begin;
@@ -144,6 +144,7 @@ impl Lexer {
         })?;
         self.word.clear();
         self.place = Place::Between;
+        self.depth = 0;
         Ok(())
     }
 
@@ -152,6 +153,7 @@ impl Lexer {
         ensures { TakesIfKnown self.old self.new result (begun c) }
     {
         self.word.clear();
+        self.depth = 0;
         self.begin = self.here;
         self.place = match c {
             '"' => text_place(self.tokens.as_slice(), self.here.at),
@@ -193,14 +195,19 @@ impl Lexer {
     }
 
     /// A character that belongs to the token, and where the next then stands.
-    fn keep(&mut self, c: char, place: Place) -> DeriveResult<()> {
+    fn keep(&mut self, c: char, place: Place) -> DeriveResult<()>
+        ensures { Takes self.old self.new result
+            (kept place (string_bytes self.old.word) self.old.depth c) }
+    {
         self.word.push(c)?;
         self.place = place;
         Ok(())
     }
 
     /// A character that belongs to the token, and ends it.
-    fn close(&mut self, alloc: Global, c: char, kind: Kind) -> DeriveResult<()> {
+    fn close(&mut self, alloc: Global, c: char, kind: Kind) -> DeriveResult<()>
+        ensures { Takes self.old self.new result (closed kind (string_bytes self.old.word) c) }
+    {
         self.word.push(c)?;
         self.end(alloc, kind)
     }
@@ -244,73 +251,93 @@ impl Lexer {
     }
 
     /// The end of a comment: a note, or nothing.
-    fn end_comment(&mut self, alloc: Global) -> DeriveResult<()> {
+    fn end_comment(&mut self, alloc: Global) -> DeriveResult<()>
+        ensures { TakesIfKnown self.old self.new result (passed (string_bytes self.old.word)) }
+    {
         if is_note(self.word.as_str()) {
             return self.end(alloc, Kind::Note);
         }
         self.word.clear();
         self.place = Place::Between;
+        self.depth = 0;
         Ok(())
     }
 
-    /// The next character of a comment.
-    fn commented(&mut self, alloc: Global, c: char) -> DeriveResult<()> {
-        match self.place {
-            Place::Comment if c == '\n' => return self.end_comment(alloc),
-            Place::Slash if c == '/' => self.place = Place::Comment,
-            Place::Slash if c == '*' => {
+    /// The next character behind a colon: another, or what stands behind the sign.
+    fn coloned(&mut self, alloc: Global, c: char) -> DeriveResult<()>
+        ensures { TakesIfKnown self.old self.new result (behind_colon (string_bytes self.old.word) c) }
+    {
+        if c == ':' {
+            return self.close(alloc, c, Kind::Sign);
+        }
+        self.end_and_begin(alloc, Kind::Sign, c)
+    }
+
+    /// The next character behind a slash: a comment begins, or the slash is a sign.
+    fn slashed(&mut self, alloc: Global, c: char) -> DeriveResult<()>
+        ensures { TakesIfKnown self.old self.new result
+            (behind_slash (string_bytes self.old.word) self.old.depth c) }
+    {
+        match c {
+            '/' => self.keep(c, Place::Comment),
+            '*' => {
                 self.depth = 1;
-                self.place = Place::Block;
+                self.keep(c, Place::Block)
             }
-            Place::Slash => return self.end_and_begin(alloc, Kind::Sign, c),
-            Place::BlockStar if c == '/' && self.depth <= 1 => {
-                self.word.push(c)?;
-                return self.end_comment(alloc);
+            _ => self.end_and_begin(alloc, Kind::Sign, c),
+        }
+    }
+
+    /// The next character of a comment that ends with its line.
+    fn lined(&mut self, alloc: Global, c: char) -> DeriveResult<()>
+        ensures { TakesIfKnown self.old self.new result
+            (in_line (string_bytes self.old.word) self.old.depth c) }
+    {
+        if c == '\n' {
+            return self.end_comment(alloc);
+        }
+        self.keep(c, Place::Comment)
+    }
+
+    /// The next character of a comment that `*/` ends.
+    fn blocked(&mut self, alloc: Global, c: char) -> DeriveResult<()>
+        ensures { TakesIfKnown self.old self.new result
+            (in_block self.old.place (string_bytes self.old.word) self.old.depth c) }
+    {
+        match self.place {
+            Place::BlockStar if c == '/' && self.depth > 1 => {
+                self.depth -= 1;
+                self.keep(c, Place::Block)
             }
             Place::BlockStar if c == '/' => {
-                self.depth = self.depth.saturating_sub(1);
-                self.place = Place::Block;
+                self.word.push(c)?;
+                self.end_comment(alloc)
             }
             Place::BlockSlash if c == '*' => {
-                self.depth = self.depth.saturating_add(1);
-                self.place = Place::Block;
+                // (no memory has room for the text of so many)
+                self.depth = self.depth.checked_add(1).ok_or(DeriveError::OutOfMemory)?;
+                self.keep(c, Place::Block)
             }
-            Place::Comment => {}
-            _ if c == '*' => self.place = Place::BlockStar,
-            _ if c == '/' => self.place = Place::BlockSlash,
-            _ => self.place = Place::Block,
+            _ if c == '*' => self.keep(c, Place::BlockStar),
+            _ if c == '/' => self.keep(c, Place::BlockSlash),
+            _ => self.keep(c, Place::Block),
         }
-        self.word.push(c)?;
-        Ok(())
     }
 
     /// The next character, as where it stands has it.
     fn take(&mut self, alloc: Global, c: char) -> DeriveResult<()>
-        ensures { TakesIfKnown self.old self.new result
-            (taken self.old.place (string_bytes self.old.word) c) }
+        ensures { TakesIfKnown self.old self.new result (taken (reached self.old) c) }
     {
         match self.place {
-            Place::Between => return self.begin(alloc, c),
-            Place::Word if is_of_word(c) => self.word.push(c)?,
-            Place::Word => return self.end_word(alloc, c),
-            Place::Colon if c == ':' => {
-                self.word.push(c)?;
-                return self.end(alloc, Kind::Sign);
-            }
-            Place::Colon => return self.end_and_begin(alloc, Kind::Sign, c),
-            _ => return self.pass(alloc, c),
-        }
-        Ok(())
-    }
-
-    /// The next character of a quote, a text or a comment.
-    fn pass(&mut self, alloc: Global, c: char) -> DeriveResult<()> {
-        match self.place {
-            Place::Quote | Place::Name | Place::Char | Place::Escape | Place::Escaped => {
-                self.quoted(alloc, c)
-            }
+            Place::Between => self.begin(alloc, c),
+            Place::Word if is_of_word(c) => self.keep(c, Place::Word),
+            Place::Word => self.end_word(alloc, c),
+            Place::Colon => self.coloned(alloc, c),
+            Place::Slash => self.slashed(alloc, c),
+            Place::Comment => self.lined(alloc, c),
+            Place::Block | Place::BlockStar | Place::BlockSlash => self.blocked(alloc, c),
             Place::Text | Place::TextEscape | Place::Raw | Place::RawEnd => self.texted(alloc, c),
-            _ => self.commented(alloc, c),
+            _ => self.quoted(alloc, c),
         }
     }
 
@@ -329,8 +356,7 @@ impl Lexer {
 
     /// Reads one more character.
     fn step(&mut self, alloc: Global, c: char) -> DeriveResult<()>
-        ensures { TakesIfKnown self.old self.new result
-            (taken self.old.place (string_bytes self.old.word) c) }
+        ensures { TakesIfKnown self.old self.new result (taken (reached self.old) c) }
     {
         self.take(alloc, c)?;
         self.go_on(c);
