@@ -233,6 +233,34 @@ enum Level {
     High(u8),
 }
 
+mod inner {
+    pub struct Seal(pub u8);
+}
+
+pub(crate) struct Seal(pub [u8; 4], #[allow(dead_code)] pub(crate) u16);
+
+struct Marks(
+    // wincode: with = containers::Vec<u8, ShortU16Len>
+    Vec<u8>,
+    /* what is left */ (Braces, Brackets)
+);
+
+struct Braces {}
+
+struct Brackets();
+
+struct Files {
+    // wincode: with = File<u8>
+    files: Vec<u8>,
+}
+
+enum Kind {
+    #[allow(dead_code)]
+    Plain,
+    #[doc = \"behind\"]
+    Marked(Marks, #[allow(unused)] Option<Seal>)
+}
+
 struct Visit {
     at: SystemTime,
     took: Duration,
@@ -245,7 +273,7 @@ struct Visit {
 ";
 
 /// A type by these declarations, and what it is.
-const DECLARED: [(&str, &str); 7] = [
+const DECLARED: [(&str, &str); 10] = [
     ("Owner", "struct { 0: String, 1: [u8; 4] }"),
     ("Option<Nothing>", "Option<()>"),
     (
@@ -258,6 +286,12 @@ const DECLARED: [(&str, &str); 7] = [
     ),
     ("containers::Vec<u8, BincodeLen>", "Vec<u8>"),
     ("Level", "enum u32 { 0: (), 1: struct { 0: u8 } }"),
+    ("Seal", "struct { 0: [u8; 4], 1: u16 }"),
+    ("Marks", "struct { 0: short Vec<u8>, 1: ((), ()) }"),
+    (
+        "Kind",
+        "enum u32 { 0: (), 1: struct { 0: struct { 0: short Vec<u8>, 1: ((), ()) }, 1: Option<struct { 0: [u8; 4], 1: u16 }> } }",
+    ),
     (
         "Visit",
         "struct { at: SystemTime, took: Duration, from: Option<SocketAddrV4>, share: f64, pages: struct { start: NonZeroU32, end: NonZeroU32 }, name: String, count: Box<u16> }",
@@ -279,10 +313,11 @@ fn are_named_by_declarations(rt: HostRuntime) -> Result<(), Fail> {
 }
 
 /// What these declarations don't name, or what no type describes.
-const UNDECLARED: [(&str, &str); 6] = [
+const UNDECLARED: [(&str, &str); 7] = [
     ("Vec<Person>", "a type is wanted at byte 4"),
     ("Page", "a type without parameters is wanted at byte 0"),
     ("(u8, Odd)", "`File` describes no type"),
+    ("Files", "`File<u8>` describes no type"),
     (
         "Vec<One>",
         "the type at byte 4 is more than 128 levels deep",

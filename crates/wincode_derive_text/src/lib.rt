@@ -39,6 +39,7 @@ pub use answers::{Answers, answers_of};
 pub use declarations::{Declaration, DeclaredShape, Field, Fields, Generics, Naming, Variant};
 pub use error::{DeriveError, DeriveResult, Fault, Faults, Spot};
 pub use module::module_of;
+pub use notes::{Note, note_of};
 pub use parsing::{declarations_of, has_schemas};
 pub use showing::shown;
 pub use tokens::{Kind, Token, tokens_of};

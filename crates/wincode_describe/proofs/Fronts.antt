@@ -45,14 +45,12 @@ none_in_front kind.Note = refl
 pub nothing_in_front : (k : Kind) (items : List Token) (n : ℕ) → length items ≤ n → [] ≡ front_text k (drop n (map piece items))
 nothing_in_front k items n l = rw (drop_all n (map piece items) (simp length-map l)) (none_in_front k)
 
-skip_cases : (xs : List Piece) (n m : ℕ) (b : Bool) → nat_lt n 18446744073709551615 ≡ b → length xs < 9223372036854775808 → m
-    ≡ min (n + 1) 18446744073709551615 → drop m xs ≡ drop (n + 1) xs
-skip_cases xs n m true t l e = let below = ltb-true n 18446744073709551615 t in ap (λ k. drop k xs) (omega arith)
-skip_cases xs n m false t l e = let above = ltb-false n 18446744073709551615 t in drop_all m xs (omega arith) ∙ sym (drop_all (n + 1) xs (omega arith))
+-- one token more is passed, and none where none is left
+pub passed : (xs : List Piece) (n : ℕ) → drop (n + 1) xs ≡ drop 1 (drop n xs)
+passed xs n = sym (drop-drop 1 n xs)
 
--- one token more is passed
-pub skipped : (xs : List Piece) (n m : ℕ) → length xs < 9223372036854775808 → m ≡ min (n + 1) 18446744073709551615 → drop m xs ≡ drop 1 (drop n xs)
-skipped xs n m l e = skip_cases xs n m (nat_lt n 18446744073709551615) refl l e ∙ sym (drop-drop 1 n xs)
+pub passed_all : (xs : List Piece) (n : ℕ) → length xs ≤ n → drop n xs ≡ drop 1 (drop n xs)
+passed_all xs n l = drop_all n xs l ∙ sym (ap (drop 1) (drop_all n xs l))
 
 own : IsNumeralModel (λ ds. all_ascii_digits ds ≡ true) (digits_value 10)
 own = numerals_by_value _ tells_all_ascii_digits

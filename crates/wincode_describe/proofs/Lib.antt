@@ -13,3 +13,4 @@ mod Sourced
 mod Likes
 mod Witnesses
 mod Rows
+mod Heads

@@ -5,7 +5,7 @@ use Rattle.std.proofs.lemmas.List.{length-map}
 use Rattle.std.proofs.lemmas.Option.{slice_get-map}
 use Rattle.wincode_describe.specs.Parts.{Part, seen}
 use Rattle.wincode_describe.specs.Places.{Walk, is_full, number_of, last_number, item_at, items_walk}
-use Rattle.wincode_describe.specs.Readers.{and_then}
+use Rattle.wincode_describe.specs.Phrases.{and_then}
 use Rattle.wincode_describe.specs.declared.shown.Shown.{Shown}
 
 -- the number of the last one with a place, where so many have one

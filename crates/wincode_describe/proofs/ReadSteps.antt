@@ -6,104 +6,137 @@ use Rattle.std.specs.Bool.{OnFalse}
 use Rattle.wincode_describe.specs.Forms.{Form, seen}
 use Rattle.wincode_describe.specs.declared.described.Described.{Described}
 use Rattle.wincode_describe.specs.declared.parsing.Opening.{Opening}
-use Rattle.wincode_describe.specs.Phrases.{Piece, Reads, HasTokens, left, front_word, word_front, behind_sign}
-use Rattle.wincode_describe.specs.Readers.{Makes, Reader, Readers, and_then, on, readers, one_more, no_more, unread, members_by, tuple_by, plain_of}
-use Rattle.wincode_describe.specs.Readers.{sign_front, opening_of, behind_word, word_by, ended, whole, Parses}
+use Rattle.std.specs.Global.{Vec}
+use Rattle.wincode_describe.specs.Phrases.{Piece, Reads, HasTokens, IsRefusal, and_then, on, left, pieces, front_word, word_front, behind_sign}
+use Rattle.wincode_describe.specs.Sources.{PassesHead, IsFound, declaration_of}
+use Rattle.wincode_describe.specs.declared.declared.Found.{Found}
+use Rattle.wincode_derive_text.specs.declared.tokens.Token.{Token}
+use Rattle.wincode_describe.specs.Readers.{Makes, Reader, Readers, readers, one_more, no_more, unread, members_by, tuple_by, plain_of}
+use Rattle.wincode_describe.specs.Readers.{sign_front, opening_of, behind_word, word_by, ended, whole, Parses, found_as}
 use Rattle.wincode_derive_text.specs.declared.tokens.Kind.TheVariants as kind
-use Rattle.wincode_describe.specs.declared.tokens.Tokens.{Tokens}
 use Rattle.wincode_describe.specs.declared.error.DescribeError.{DescribeError}
 use Rattle.wincode_describe.specs.declared.error.DescribeError.TheVariants.{OutOfMemory}
 
 -- memory that was refused is no wrong answer
-pub memory : {X Y : Type 0} (view : Y → X) (o : Option (X × List Piece)) (e : DescribeError) (rest : List Piece) → e ≡ OutOfMemory → Reads view o (Err e) rest
-memory view None e rest h = tt
-memory view (Some x) e rest h = h
+pub memory : (s : List Piece) (e : DescribeError) → e ≡ OutOfMemory → IsRefusal s e
+memory [] e h = h
+memory (p ∷ s) e h = tt
+
+pub no_memory : (src : List Piece) {X Y : Type 0} (view : Y → X) (o : Option (X × List Piece)) (e : DescribeError) (rest : List Piece) → IsRefusal src e
+    → Reads src view o (Err e) rest
+no_memory src view None e rest h = tt
+no_memory src view (Some x) e rest h = h
 
 -- what was read first, and then the rest
-pub next_ok : {A X Y Z : Type 0} (view : Z → A) (sees : Y → X) (o : Option (A × List Piece)) (z : Z) (middle : List Piece)
-    (k : A × List Piece → Option (X × List Piece)) (r : Result Y DescribeError) (rest : List Piece) → Reads view o (Ok z) middle
-    → Reads sees (k (view z, middle)) r rest → Reads sees (and_then o k) r rest
-next_ok view sees None z middle k r rest h g = tt
-next_ok {A} {X} {Y} view sees (Some (a, t)) z middle k r rest h g =
-    let P : A × List Piece → Type 0 = λ x. Reads sees (k x) r rest in
-    let e : (view z, middle) ≡ (a, t) = cc in subst P e g
+pub next_ok : (src t : List Piece) {A X Y Z : Type 0} (view : Z → A) (sees : Y → X) (o : Option (A × List Piece)) (z : Z) (middle : List Piece)
+    (k : A × List Piece → Option (X × List Piece)) (r : Result Y DescribeError) (rest : List Piece) → Reads src view o (Ok z) middle
+    → Reads t sees (k (view z, middle)) r rest → Reads t sees (and_then o k) r rest
+next_ok src t view sees None z middle k r rest h g = tt
+next_ok src t {A} {X} {Y} view sees (Some (a, l)) z middle k r rest h g =
+    let P : A × List Piece → Type 0 = λ x. Reads t sees (k x) r rest in
+    let e : (view z, middle) ≡ (a, l) = cc in subst P e g
 
-pub next_err : {A X Y Z : Type 0} (view : Z → A) (sees : Y → X) (o : Option (A × List Piece)) (e : DescribeError) (middle : List Piece)
-    (k : A × List Piece → Option (X × List Piece)) (rest : List Piece) → Reads view o (Err e) middle → Reads sees (and_then o k) (Err e) rest
-next_err view sees None e middle k rest h = tt
-next_err view sees (Some x) e middle k rest h = memory sees (k x) e rest h
+pub next_err : (src : List Piece) {A X Y Z : Type 0} (view : Z → A) (sees : Y → X) (o : Option (A × List Piece)) (e : DescribeError) (middle : List Piece)
+    (k : A × List Piece → Option (X × List Piece)) (rest : List Piece) → Reads src view o (Err e) middle → Reads src sees (and_then o k) (Err e) rest
+next_err src view sees None e middle k rest h = tt
+next_err src view sees (Some x) e middle k rest h = no_memory src sees (k x) e rest h
+
+-- so, of what nothing but memory is refused of
+pub next_fault : (src : List Piece) {A X Y Z : Type 0} (view : Z → A) (sees : Y → X) (o : Option (A × List Piece)) (e : DescribeError) (middle : List Piece)
+    (k : A × List Piece → Option (X × List Piece)) (rest : List Piece) → Reads [] view o (Err e) middle → Reads src sees (and_then o k) (Err e) rest
+next_fault src view sees None e middle k rest h = tt
+next_fault src view sees (Some x) e middle k rest h = no_memory src sees (k x) e rest (memory src e h)
+
+-- behind a head
+pub headed : (src : List Piece) {A X Y : Type 0} (sees : Y → X) (o : Option (List Piece)) (note : Option A) (middle : List Piece)
+    (k : List Piece → Option (X × List Piece)) (r : Result Y DescribeError) (rest : List Piece) → PassesHead o note middle
+    → (note ≡ None → Reads src sees (k middle) r rest) → Reads src sees (and_then o k) r rest
+headed src sees None note middle k r rest h g = tt
+headed src sees (Some behind) None middle k r rest h g =
+    let P : List Piece → Type 0 = λ l. Reads src sees (k l) r rest in subst P h (g refl)
+headed src sees (Some behind) (Some x) middle k r rest h g = absurd h
 
 -- a word was read first
-pub next_word : {X Y : Type 0} (sees : Y → X) (word : List ℕ) (old middle : List Piece) (k : List ℕ × List Piece → Option (X × List Piece))
-    (r : Result Y DescribeError) (rest : List Piece) → front_word word middle old → Reads sees (k (word, middle)) r rest
-    → Reads sees (and_then (word_front old) k) r rest
-next_word sees [] old middle k r rest h g = rw h tt
-next_word sees (c ∷ cs) old middle k r rest h g = rw h g
+pub next_word : (src : List Piece) {X Y : Type 0} (sees : Y → X) (word : List ℕ) (old middle : List Piece) (k : List ℕ × List Piece → Option (X × List Piece))
+    (r : Result Y DescribeError) (rest : List Piece) → front_word word middle old → Reads src sees (k (word, middle)) r rest
+    → Reads src sees (and_then (word_front old) k) r rest
+next_word src sees [] old middle k r rest h g = rw h tt
+next_word src sees (c ∷ cs) old middle k r rest h g = rw h g
 
 -- what is made of what was read
-pub made : {X Y : Type 0} (view : Y → X) (f : X) (r : Result Y DescribeError) (rest : List Piece) → Makes view f r → Reads view (Some (f, rest)) r rest
-made view f (Ok d) rest h = (h, refl)
-made view f (Err e) rest h = h
+pub made : (src : List Piece) {X Y : Type 0} (view : Y → X) (f : X) (r : Result Y DescribeError) (rest : List Piece) → Makes view f r → Reads src view (Some (f, rest)) r rest
+made src view f (Ok d) rest h = (h, refl)
+made src view f (Err e) rest h = memory src e h
 
 -- where the sign is taken, and where it isn't
-pub sign_taken : {X Y : Type 0} (sees : Y → X) (o : Option (List Piece)) (b : Bool) (middle : List Piece) (f : List Piece → Option (X × List Piece))
+pub sign_taken : (src : List Piece) {X Y : Type 0} (sees : Y → X) (o : Option (List Piece)) (b : Bool) (middle : List Piece) (f : List Piece → Option (X × List Piece))
     (other : Option (X × List Piece)) (r : Result Y DescribeError) (rest : List Piece) → o ≡ cond b (Some middle) None → b ≡ true
-    → Reads sees (f middle) r rest → Reads sees (on o f other) r rest
-sign_taken sees o b middle f other r rest h t g = rw (h, t) g
+    → Reads src sees (f middle) r rest → Reads src sees (on o f other) r rest
+sign_taken src sees o b middle f other r rest h t g = rw (h, t) g
 
-pub sign_left : {X Y : Type 0} (sees : Y → X) (s : List ℕ) (old : List Piece) (b : Bool) (middle : List Piece) (f : List Piece → Option (X × List Piece))
+pub sign_left : (src : List Piece) {X Y : Type 0} (sees : Y → X) (s : List ℕ) (old : List Piece) (b : Bool) (middle : List Piece) (f : List Piece → Option (X × List Piece))
     (other : List Piece → Option (X × List Piece)) (r : Result Y DescribeError) (rest : List Piece) → behind_sign s old ≡ cond b (Some middle) None
-    → OnFalse b (middle ≡ old) → b ≡ false → Reads sees (other middle) r rest → Reads sees (on (behind_sign s old) f (other old)) r rest
-sign_left sees s old true middle f other r rest h k t g = absurd (cc)
-sign_left sees s old false middle f other r rest h k t g =
-    let P : List Piece → Type 0 = λ l. Reads sees (other l) r rest in
+    → OnFalse b (middle ≡ old) → b ≡ false → Reads src sees (other middle) r rest → Reads src sees (on (behind_sign s old) f (other old)) r rest
+sign_left src sees s old true middle f other r rest h k t g = absurd (cc)
+sign_left src sees s old false middle f other r rest h k t g =
+    let P : List Piece → Type 0 = λ l. Reads src sees (other l) r rest in
     rw h (subst P k g)
 
 -- the levels below
-pub one_level : (levels below : ℕ) → levels ≡ suc below → readers levels ≡ one_more (readers below)
+pub one_level : (source : List Piece) (levels below : ℕ) → levels ≡ suc below → readers source levels ≡ one_more source (readers source below)
 unfolding readers
-one_level levels below e = rw e refl
+one_level source levels below e = rw e refl
 
-pub no_level : (levels : ℕ) → levels ≡ 0 → readers levels ≡ no_more
+pub no_level : (source : List Piece) (levels : ℕ) → levels ≡ 0 → readers source levels ≡ no_more
 unfolding readers
-no_level levels e = rw e refl
+no_level source levels e = rw e refl
 
 -- by the answer of the subtraction
 pub below_is : (levels below : ℕ) → 1 ≤ levels → below ≡ levels - 1 → levels ≡ suc below
 below_is levels below l e = omega arith
 
 -- the readers of members and of tuples, by those of types of as many levels
-abbrev pub below_members : ℕ → Reader
-below_members zero = unread
-below_members (suc n) = (readers n).members
+abbrev pub below_members : List Piece → ℕ → Reader
+below_members source zero = unread
+below_members source (suc n) = (readers source n).members
 
-pub members_is : (levels : ℕ) (ts : List Piece) → (readers levels).members ts ≡ members_by (readers levels).types (below_members levels) ts
+pub members_is : (source : List Piece) (levels : ℕ) (ts : List Piece)
+    → (readers source levels).members ts ≡ members_by (readers source levels).types (below_members source levels) ts
 unfolding readers
-members_is zero ts = refl
-members_is (suc n) ts = refl
+members_is source zero ts = refl
+members_is source (suc n) ts = refl
 
-pub tuple_is : (levels : ℕ) (ts : List Piece) → (readers levels).tuple ts ≡ tuple_by (readers levels).types (below_members levels) ts
+pub tuple_is : (source : List Piece) (levels : ℕ) (ts : List Piece)
+    → (readers source levels).tuple ts ≡ tuple_by (readers source levels).types (below_members source levels) ts
 unfolding readers
-tuple_is zero ts = refl
-tuple_is (suc n) ts = refl
+tuple_is source zero ts = refl
+tuple_is source (suc n) ts = refl
 
-pub below_members_is : (levels below : ℕ) → levels ≡ suc below → below_members levels ≡ (readers below).members
-below_members_is levels below e = rw e refl
+pub below_members_is : (source : List Piece) (levels below : ℕ) → levels ≡ suc below → below_members source levels ≡ (readers source below).members
+below_members_is source levels below e = rw e refl
 
 -- a word that is a type, and one behind which something is to stand
-pub word_plain : (below : Readers) (w : List ℕ) (rest : List Piece) (d : Described) → plain_of w ≡ Some (seen d)
-    → Reads seen (word_by below (w, rest)) (Ok d) rest
-word_plain below w rest d h = rw h (refl, refl)
+pub word_plain : (source : List Piece) (below : Readers) (w : List ℕ) (rest : List Piece) (d : Described) → plain_of w ≡ Some (seen d)
+    → Reads source seen (word_by source below (w, rest)) (Ok d) rest
+word_plain source below w rest d h = rw h (refl, refl)
 
-pub word_opening : (below : Readers) (w : List ℕ) (rest : List Piece) (o : Opening) (r : Result Described DescribeError) (after : List Piece) → plain_of w
-    ≡ None → opening_of w ≡ o → Reads seen (behind_word below o rest) r after → Reads seen (word_by below (w, rest)) r after
-word_opening below w rest o r after p q h = rw (p, q) h
+pub word_opening : (source : List Piece) (below : Readers) (w : List ℕ) (rest : List Piece) (o : Opening) (r : Result Described DescribeError)
+    (after : List Piece) → plain_of w ≡ None → opening_of w ≡ o → Reads source seen (behind_word source below o w rest) r after
+    → Reads source seen (word_by source below (w, rest)) r after
+word_opening source below w rest o r after p q h = rw (p, q) h
+
+-- a name of the source is read
+pub named_ok : (source : List Piece) (o : Option Form) (r : Result Described DescribeError) (rest : List Piece) → Parses source o r
+    → Reads source seen (and_then o (λ d. Some (d, rest))) r rest
+named_ok source None r rest h = tt
+named_ok source (Some f) (Ok d) rest h = (h, refl)
+named_ok source (Some f) (Err e) rest h = h
 
 -- no word is read
-pub no_word : {X Y : Type 0} (sees : Y → X) (word : List ℕ) (old middle : List Piece) (k : List ℕ × List Piece → Option (X × List Piece))
-    (r : Result Y DescribeError) (rest : List Piece) → length word ≡ 0 → front_word word middle old → Reads sees (and_then (word_front old) k) r rest
-no_word sees [] old middle k r rest e h = rw h tt
-no_word sees (c ∷ cs) old middle k r rest e h = absurd (omega arith)
+pub no_word : (src : List Piece) {X Y : Type 0} (sees : Y → X) (word : List ℕ) (old middle : List Piece) (k : List ℕ × List Piece → Option (X × List Piece))
+    (r : Result Y DescribeError) (rest : List Piece) → length word ≡ 0 → front_word word middle old → Reads src sees (and_then (word_front old) k) r rest
+no_word src sees [] old middle k r rest e h = rw h tt
+no_word src sees (c ∷ cs) old middle k r rest e h = absurd (omega arith)
 
 -- the word that is there
 abbrev word_in : Option (List ℕ × List Piece) → List ℕ
@@ -111,25 +144,26 @@ word_in None = []
 word_in (Some w) = w.0
 
 -- `str` is no type
-word_text : (below : Readers) (w : List ℕ) (rest : List Piece) → w ≡ codes "str" → word_by below (w, rest) ≡ None
-word_text below w rest e = rw e refl
+word_text : (source : List Piece) (below : Readers) (w : List ℕ) (rest : List Piece) → w ≡ codes "str" → word_by source below (w, rest) ≡ None
+word_text source below w rest e = rw e refl
 
-pub no_text : (n : ℕ) (ts rest : List Piece) → word_front ts ≡ Some (codes "str", rest) → (readers n).types ts ≡ None
+pub no_text : (source : List Piece) (n : ℕ) (ts rest : List Piece) → word_front ts ≡ Some (codes "str", rest) → (readers source n).types ts ≡ None
 unfolding readers
-no_text zero ts rest h = refl
-no_text (suc n) ((kind.Word, c ∷ cs) ∷ more) rest h = word_text (readers n) (c ∷ cs) more (ap word_in h)
-no_text (suc n) _ rest h = absurd (cc)
+no_text source zero ts rest h = refl
+no_text source (suc n) ((kind.Word, c ∷ cs) ∷ more) rest h = word_text source (readers source n) (c ∷ cs) more (ap word_in h)
+no_text source (suc n) _ rest h = absurd (cc)
 
-pub text_read : {X Y : Type 0} (sees : Y → X) (n : ℕ) (ts rest : List Piece) (k : Form × List Piece → Option (X × List Piece)) (r : Result Y DescribeError)
-    (after : List Piece) → word_front ts ≡ Some (codes "str", rest) → Reads sees (and_then ((readers n).types ts) k) r after
-text_read sees n ts rest k r after h = rw (no_text n ts rest h) tt
+pub text_read : (source : List Piece) {X Y : Type 0} (sees : Y → X) (n : ℕ) (ts rest : List Piece) (k : Form × List Piece → Option (X × List Piece))
+    (r : Result Y DescribeError) (after : List Piece) → word_front ts ≡ Some (codes "str", rest)
+    → Reads source sees (and_then ((readers source n).types ts) k) r after
+text_read source sees n ts rest k r after h = rw (no_text source n ts rest h) tt
 
 -- another word stays
-pub word_left : {X Y : Type 0} (sees : Y → X) (b : Bool) (old middle : List Piece) (f : List Piece → Option (X × List Piece)) (r : Result Y DescribeError)
-    (rest : List Piece) → OnFalse b (middle ≡ old) → b ≡ false → Reads sees (f middle) r rest → Reads sees (f old) r rest
-word_left sees true old middle f r rest k t g = absurd (cc)
-word_left sees false old middle f r rest k t g =
-    let P : List Piece → Type 0 = λ l. Reads sees (f l) r rest in
+pub word_left : (src : List Piece) {X Y : Type 0} (sees : Y → X) (b : Bool) (old middle : List Piece) (f : List Piece → Option (X × List Piece)) (r : Result Y DescribeError)
+    (rest : List Piece) → OnFalse b (middle ≡ old) → b ≡ false → Reads src sees (f middle) r rest → Reads src sees (f old) r rest
+word_left src sees true old middle f r rest k t g = absurd (cc)
+word_left src sees false old middle f r rest k t g =
+    let P : List Piece → Type 0 = λ l. Reads src sees (f l) r rest in
     subst P k g
 
 -- one type and the closing bracket
@@ -137,59 +171,89 @@ abbrev pub held_by : Reader → (Form → Form) → Reader
 held_by types f ts = and_then (types ts) (λ d. and_then (sign_front (codes ">") d.1) (λ e. Some (f d.0, e.1)))
 
 -- what is chosen by a word, and where nothing is
-pub chosen_is : {A X Y : Type 0} (sees : Y → X) (o : Option A) (x : A) (k : A → Option (X × List Piece)) (r : Result Y DescribeError) (rest : List Piece) → o
-    ≡ Some x → Reads sees (k x) r rest → Reads sees (and_then o k) r rest
-chosen_is sees o x k r rest e h = rw e h
+pub chosen_is : (src : List Piece) {A X Y : Type 0} (sees : Y → X) (o : Option A) (x : A) (k : A → Option (X × List Piece)) (r : Result Y DescribeError) (rest : List Piece) → o
+    ≡ Some x → Reads src sees (k x) r rest → Reads src sees (and_then o k) r rest
+chosen_is src sees o x k r rest e h = rw e h
 
-pub chosen_is_none : {A X Y : Type 0} (sees : Y → X) (o : Option A) (k : A → Option (X × List Piece)) (r : Result Y DescribeError) (rest : List Piece) → o
-    ≡ None → Reads sees (and_then o k) r rest
-chosen_is_none sees o k r rest e = rw e tt
+pub chosen_is_none : (src : List Piece) {A X Y : Type 0} (sees : Y → X) (o : Option A) (k : A → Option (X × List Piece)) (r : Result Y DescribeError) (rest : List Piece) → o
+    ≡ None → Reads src sees (and_then o k) r rest
+chosen_is_none src sees o k r rest e = rw e tt
 
 -- by a test
-pub test_true : {X Y : Type 0} (sees : Y → X) (b : Bool) (f g : Option (X × List Piece)) (r : Result Y DescribeError) (rest : List Piece) → b ≡ true
-    → Reads sees f r rest → Reads sees (cond b f g) r rest
-test_true sees b f g r rest e h = rw e h
+pub test_true : (src : List Piece) {X Y : Type 0} (sees : Y → X) (b : Bool) (f g : Option (X × List Piece)) (r : Result Y DescribeError) (rest : List Piece) → b ≡ true
+    → Reads src sees f r rest → Reads src sees (cond b f g) r rest
+test_true src sees b f g r rest e h = rw e h
 
-pub test_false : {X Y : Type 0} (sees : Y → X) (b : Bool) (f g : Option (X × List Piece)) (r : Result Y DescribeError) (rest : List Piece) → b ≡ false
-    → Reads sees g r rest → Reads sees (cond b f g) r rest
-test_false sees b f g r rest e h = rw e h
+pub test_false : (src : List Piece) {X Y : Type 0} (sees : Y → X) (b : Bool) (f g : Option (X × List Piece)) (r : Result Y DescribeError) (rest : List Piece) → b ≡ false
+    → Reads src sees g r rest → Reads src sees (cond b f g) r rest
+test_false src sees b f g r rest e h = rw e h
 
 -- a whole text
-parses_memory : (o : Option Form) (e : DescribeError) → e ≡ OutOfMemory → Parses o (Err e)
-parses_memory None e h = tt
-parses_memory (Some f) e h = h
+parses_refused : (source : List Piece) (o : Option Form) (e : DescribeError) → IsRefusal source e → Parses source o (Err e)
+parses_refused source None e h = tt
+parses_refused source (Some f) e h = h
 
-pub parsed_no_tokens : (o : Option (List Piece)) (levels : ℕ) (e : DescribeError) → HasTokens o (Err e) → Parses (and_then o (whole levels)) (Err e)
-parsed_no_tokens None levels e h = tt
-parsed_no_tokens (Some ts) levels e h = parses_memory (whole levels ts) e h
+pub parsed_no_tokens : (source : List Piece) (o : Option (List Piece)) (levels : ℕ) (e : DescribeError) → HasTokens o (Err e)
+    → Parses source (and_then o (whole source levels)) (Err e)
+parsed_no_tokens source None levels e h = tt
+parsed_no_tokens source (Some ts) levels e h = parses_refused source (whole source levels ts) e (memory source e h)
 
-refused_by : (x : Option (Form × List Piece)) (e : DescribeError) (rest : List Piece) → Reads seen x (Err e) rest → Parses (and_then x ended) (Err e)
-refused_by None e rest h = tt
-refused_by (Some y) e rest h = parses_memory (ended y) e h
+refused_by : (source : List Piece) (x : Option (Form × List Piece)) (e : DescribeError) (rest : List Piece) → Reads source seen x (Err e) rest
+    → Parses source (and_then x ended) (Err e)
+refused_by source None e rest h = tt
+refused_by source (Some y) e rest h = parses_refused source (ended y) e h
 
-finished_by : (x : Option (Form × List Piece)) (d : Described) (rest : List Piece) → Reads seen x (Ok d) rest → nat_eq (length rest) 0 ≡ true
-    → Parses (and_then x ended) (Ok d)
-finished_by None d rest h e = tt
-finished_by (Some (f, [])) d rest h e = h.0
-finished_by (Some (f, p ∷ ps)) d rest h e = let none = eqb-true (length rest) 0 e in absurd (omega (arith, ap length h.1))
+finished_by : (source : List Piece) (x : Option (Form × List Piece)) (d : Described) (rest : List Piece) → Reads source seen x (Ok d) rest
+    → nat_eq (length rest) 0 ≡ true → Parses source (and_then x ended) (Ok d)
+finished_by source None d rest h e = tt
+finished_by source (Some (f, [])) d rest h e = h.0
+finished_by source (Some (f, p ∷ ps)) d rest h e = let none = eqb-true (length rest) 0 e in absurd (omega (arith, ap length h.1))
 
-unfinished_by : (x : Option (Form × List Piece)) (d : Described) (rest : List Piece) (e : DescribeError) → Reads seen x (Ok d) rest → nat_eq (length rest) 0
-    ≡ false → Parses (and_then x ended) (Err e)
-unfinished_by None d rest e h k = tt
-unfinished_by (Some (f, [])) d rest e h k = let l = rw h.1 at k in absurd (cc)
-unfinished_by (Some (f, p ∷ ps)) d rest e h k = tt
+unfinished_by : (source : List Piece) (x : Option (Form × List Piece)) (d : Described) (rest : List Piece) (e : DescribeError)
+    → Reads source seen x (Ok d) rest → nat_eq (length rest) 0 ≡ false → Parses source (and_then x ended) (Err e)
+unfinished_by source None d rest e h k = tt
+unfinished_by source (Some (f, [])) d rest e h k = let l = rw h.1 at k in absurd (cc)
+unfinished_by source (Some (f, p ∷ ps)) d rest e h k = tt
 
-pub parsed_err : (o : Option (List Piece)) (tokens : Tokens) (levels : ℕ) (e : DescribeError) (rest : List Piece) → HasTokens o (Ok tokens)
-    → Reads seen ((readers levels).types (left tokens)) (Err e) rest → Parses (and_then o (whole levels)) (Err e)
-parsed_err None tokens levels e rest h k = tt
-parsed_err (Some ts) tokens levels e rest h k = refused_by ((readers levels).types ts) e rest (rw (sym h) k)
+pub parsed_err : (source : List Piece) (o : Option (List Piece)) (all : Vec Token) (first : List Piece) (levels : ℕ) (e : DescribeError) (rest : List Piece)
+    → HasTokens o (Ok all) → first ≡ pieces all.items → Reads source seen ((readers source levels).types first) (Err e) rest
+    → Parses source (and_then o (whole source levels)) (Err e)
+parsed_err source None all first levels e rest h f k = tt
+parsed_err source (Some ts) all first levels e rest h f k = refused_by source ((readers source levels).types ts) e rest (rw (sym h, sym f) k)
 
-pub parsed_ok : (o : Option (List Piece)) (tokens : Tokens) (levels : ℕ) (d : Described) (rest : List Piece) → HasTokens o (Ok tokens)
-    → Reads seen ((readers levels).types (left tokens)) (Ok d) rest → nat_eq (length rest) 0 ≡ true → Parses (and_then o (whole levels)) (Ok d)
-parsed_ok None tokens levels d rest h k e = tt
-parsed_ok (Some ts) tokens levels d rest h k e = finished_by ((readers levels).types ts) d rest (rw (sym h) k) e
+pub parsed_ok : (source : List Piece) (o : Option (List Piece)) (all : Vec Token) (first : List Piece) (levels : ℕ) (d : Described) (rest : List Piece)
+    → HasTokens o (Ok all) → first ≡ pieces all.items → Reads source seen ((readers source levels).types first) (Ok d) rest
+    → nat_eq (length rest) 0 ≡ true → Parses source (and_then o (whole source levels)) (Ok d)
+parsed_ok source None all first levels d rest h f k e = tt
+parsed_ok source (Some ts) all first levels d rest h f k e = finished_by source ((readers source levels).types ts) d rest (rw (sym h, sym f) k) e
 
-pub parsed_more : (o : Option (List Piece)) (tokens : Tokens) (levels : ℕ) (d : Described) (rest : List Piece) (e : DescribeError) → HasTokens o (Ok tokens)
-    → Reads seen ((readers levels).types (left tokens)) (Ok d) rest → nat_eq (length rest) 0 ≡ false → Parses (and_then o (whole levels)) (Err e)
-parsed_more None tokens levels d rest e h k l = tt
-parsed_more (Some ts) tokens levels d rest e h k l = unfinished_by ((readers levels).types ts) d rest e (rw (sym h) k) l
+pub parsed_more : (source : List Piece) (o : Option (List Piece)) (all : Vec Token) (first : List Piece) (levels : ℕ) (d : Described) (rest : List Piece)
+    (e : DescribeError) → HasTokens o (Ok all) → first ≡ pieces all.items → Reads source seen ((readers source levels).types first) (Ok d) rest
+    → nat_eq (length rest) 0 ≡ false → Parses source (and_then o (whole source levels)) (Err e)
+parsed_more source None all first levels d rest e h f k l = tt
+parsed_more source (Some ts) all first levels d rest e h f k l = unfinished_by source ((readers source levels).types ts) d rest e (rw (sym h, sym f) k) l
+
+-- what is found is read
+pub found_of : (source : List Piece) (o : Option (Form × List Piece)) (r : Result Described DescribeError) (rest : List Piece) → Reads source seen o r rest
+    → Parses source (and_then o (λ d. Some d.0)) r
+found_of source None r rest h = tt
+found_of source (Some f) (Ok d) rest h = h.0
+found_of source (Some f) (Err e) rest h = h
+
+pub named_found : (source : List Piece) (b : Bool) (o : Option (Bool × List Piece)) (f : Found) (below : Readers) (r : Result Described DescribeError)
+    → IsFound o (Some f) → (f.is_noted ≡ false → Parses source (found_as below (f.is_struct, left f.tokens)) r)
+    → Parses source (cond b None (and_then o (found_as below))) r
+named_found source true o f below r h g = tt
+named_found source false None f below r h g = tt
+named_found source false (Some (k, ts)) f below r h g = rw (sym h.0, sym h.1) (g h.2)
+
+-- and of an empty source nothing is known
+parses_any : (p : Piece) (source : List Piece) (o : Option Form) (e : DescribeError) → Parses (p ∷ source) o (Err e)
+parses_any p source None e = tt
+parses_any p source (Some f) e = tt
+
+pub named_refused : (source : List Piece) (b : Bool) (name : List ℕ) (below : Readers) (e : DescribeError)
+    → Parses source (cond b None (and_then (declaration_of name 0 source) (found_as below))) (Err e)
+named_refused [] true name below e = tt
+named_refused [] false name below e = tt
+named_refused (p ∷ source) b name below e = parses_any p source (cond b None (and_then (declaration_of name 0 (p ∷ source)) (found_as below))) e

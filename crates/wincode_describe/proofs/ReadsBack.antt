@@ -1,5 +1,5 @@
 -- What is spelled is read back.
-use Rattle.std.proofs.Common.{◌≡◌, ◌∙◌, refl, ℕ, zero, suc, ◌<◌, ◌^◌, Bool, true, false, List, [], ◌∷◌, length, Some, None, codes, decimal, arith}
+use Rattle.std.proofs.Common.{◌≡◌, ◌∙◌, refl, ℕ, zero, suc, ◌<◌, ◌^◌, Bool, true, false, List, [], ◌∷◌, length, Some, None, codes, decimal, arith, cond, bytes_eq, Option}
 use Rattle.std.proofs.lemmas.Bool.{lt-ltb, le-ltb}
 use Rattle.std.proofs.lemmas.Fmt.{digits_decimal, digits_value-decimal, decimal_nonempty}
 use Rattle.std.proofs.lemmas.Str.Parse.{IsNumeralModel, numerals_by_value, tells_all_ascii_digits}
@@ -7,7 +7,10 @@ use Rattle.std.specs.Str.{all_ascii_digits}
 use Rattle.std.specs.Str.Parse.{digits_value}
 use Rattle.wincode_describe.specs.Forms.{Form, Number, NotZero, Standard, Flag, Letter, Nothing, Words, Bytes, ByteBlock, Maybe, Either, Held, Many, Several, Pairs}
 use Rattle.wincode_describe.specs.Forms.{Block, Group, Record, Both, Named, Choice, LastCase, OneCase}
-use Rattle.wincode_describe.specs.Phrases.{Piece, number_of, number_front, word_front, behind_sign}
+use Rattle.wincode_describe.specs.Sources.{heads}
+use Rattle.wincode_describe.specs.declared.tokens.Over.{Over}
+use Rattle.wincode_describe.specs.declared.tokens.Over.TheVariants as over
+use Rattle.wincode_describe.specs.Phrases.{Piece, on, number_of, number_front, word_front, behind_sign}
 use Rattle.wincode_describe.proofs.ReadSteps.{members_is, tuple_is}
 use Rattle.wincode_describe.specs.Readers.{Readers, readers, type_by, list_form, array_form, greatest_of}
 use Rattle.wincode_describe.specs.Spelled.{word, sign, spelled, Within, IsForm, IsType, AreFields, AreCases}
@@ -34,43 +37,43 @@ word_back (c ∷ cs) rest h = refl
 number_in_front : (n : ℕ) (rest : List Piece) → n < 2 ^ 64 → number_front (word (decimal n) ∷ rest) ≡ Some (n, rest)
 number_in_front n rest h = rw (word_back (decimal n) rest (decimal_nonempty n h), number_back n h) refl
 
-integer_back : (i : Integer) (below : Readers) (rest : List Piece) → type_by below (word (integer_name i) ∷ rest) ≡ Some (Number i, rest)
-integer_back U8 below rest = refl
-integer_back U16 below rest = refl
-integer_back U32 below rest = refl
-integer_back U64 below rest = refl
-integer_back U128 below rest = refl
-integer_back Usize below rest = refl
-integer_back I8 below rest = refl
-integer_back I16 below rest = refl
-integer_back I32 below rest = refl
-integer_back I64 below rest = refl
-integer_back I128 below rest = refl
-integer_back Isize below rest = refl
+integer_back : (i : Integer) (source : List Piece) (below : Readers) (rest : List Piece) → type_by source below (word (integer_name i) ∷ rest) ≡ Some (Number i, rest)
+integer_back U8 source below rest = refl
+integer_back U16 source below rest = refl
+integer_back U32 source below rest = refl
+integer_back U64 source below rest = refl
+integer_back U128 source below rest = refl
+integer_back Usize source below rest = refl
+integer_back I8 source below rest = refl
+integer_back I16 source below rest = refl
+integer_back I32 source below rest = refl
+integer_back I64 source below rest = refl
+integer_back I128 source below rest = refl
+integer_back Isize source below rest = refl
 
-nonzero_back : (i : Integer) (below : Readers) (rest : List Piece) → type_by below (word (nonzero_name i) ∷ rest) ≡ Some (NotZero i, rest)
-nonzero_back U8 below rest = refl
-nonzero_back U16 below rest = refl
-nonzero_back U32 below rest = refl
-nonzero_back U64 below rest = refl
-nonzero_back U128 below rest = refl
-nonzero_back Usize below rest = refl
-nonzero_back I8 below rest = refl
-nonzero_back I16 below rest = refl
-nonzero_back I32 below rest = refl
-nonzero_back I64 below rest = refl
-nonzero_back I128 below rest = refl
-nonzero_back Isize below rest = refl
+nonzero_back : (i : Integer) (source : List Piece) (below : Readers) (rest : List Piece) → type_by source below (word (nonzero_name i) ∷ rest) ≡ Some (NotZero i, rest)
+nonzero_back U8 source below rest = refl
+nonzero_back U16 source below rest = refl
+nonzero_back U32 source below rest = refl
+nonzero_back U64 source below rest = refl
+nonzero_back U128 source below rest = refl
+nonzero_back Usize source below rest = refl
+nonzero_back I8 source below rest = refl
+nonzero_back I16 source below rest = refl
+nonzero_back I32 source below rest = refl
+nonzero_back I64 source below rest = refl
+nonzero_back I128 source below rest = refl
+nonzero_back Isize source below rest = refl
 
-std_back : (k : StdType) (below : Readers) (rest : List Piece) → type_by below (word (std_name k) ∷ rest) ≡ Some (Standard k, rest)
-std_back std.F32 below rest = refl
-std_back std.F64 below rest = refl
-std_back std.Duration below rest = refl
-std_back std.SystemTime below rest = refl
-std_back std.Ipv4Addr below rest = refl
-std_back std.Ipv6Addr below rest = refl
-std_back std.SocketAddrV4 below rest = refl
-std_back std.SocketAddrV6 below rest = refl
+std_back : (k : StdType) (source : List Piece) (below : Readers) (rest : List Piece) → type_by source below (word (std_name k) ∷ rest) ≡ Some (Standard k, rest)
+std_back std.F32 source below rest = refl
+std_back std.F64 source below rest = refl
+std_back std.Duration source below rest = refl
+std_back std.SystemTime source below rest = refl
+std_back std.Ipv4Addr source below rest = refl
+std_back std.Ipv6Addr source below rest = refl
+std_back std.SocketAddrV4 source below rest = refl
+std_back std.SocketAddrV6 source below rest = refl
 
 list_many : (s : LengthScheme) (d : Form) → (d ≡ Number U8 → ⊥) → list_form s d ≡ Many s d
 list_many s (Number U8) h = absurd (h refl)
@@ -112,101 +115,114 @@ none_within (Pairs (Both d e)) b h = h
 none_within (Group (Both d e)) b h = h
 none_within _ b h = h
 
+-- no head stands in front of a name
+no_pub : (b : Bool) (ts : List Piece) (k : Over → Option (List Piece)) → on (cond b None None) k (Some ts) ≡ Some ts
+no_pub true ts k = refl
+no_pub false ts k = refl
+
+no_head : (s : List ℕ) (rest : List Piece) → heads over.Between (word s ∷ sign (codes ":") ∷ rest) ≡ Some (word s ∷ sign (codes ":") ∷ rest)
+no_head s rest = no_pub (bytes_eq s (codes "pub")) (word s ∷ sign (codes ":") ∷ rest) (λ next. heads next (sign (codes ":") ∷ rest))
+
 -- what is spelled is read back within so many levels
-record Back (n : ℕ) : Type 0 where
-  types : (f : Form) (rest : List Piece) → IsForm f false n → (readers n).types (spelled f rest) ≡ Some (f, rest)
+record Back (source : List Piece) (n : ℕ) : Type 0 where
+  types : (f : Form) (rest : List Piece) → IsForm f false n → (readers source n).types (spelled f rest) ≡ Some (f, rest)
   tuple : (d e : Form) (rest : List Piece) → IsForm d false n → Within n (λ k. IsForm e true k)
-      → (readers n).tuple (spelled d (sign (codes ",") ∷ spelled e (sign (codes ")") ∷ rest))) ≡ Some (Group (Both d e), rest)
-  members : (f : Form) (rest : List Piece) → IsForm f true n → (readers n).members (spelled f (sign (codes ")") ∷ rest)) ≡ Some (f, rest)
-  fields : (f : Form) (rest : List Piece) → AreFields f n → (readers n).fields (spelled f (sign (codes "}") ∷ rest)) ≡ Some (f, rest)
-  cases : (f : Form) (g : ℕ) (rest : List Piece) → AreCases f g n → (readers n).cases g (spelled f (sign (codes "}") ∷ rest)) ≡ Some (f, rest)
+      → (readers source n).tuple (spelled d (sign (codes ",") ∷ spelled e (sign (codes ")") ∷ rest))) ≡ Some (Group (Both d e), rest)
+  members : (f : Form) (rest : List Piece) → IsForm f true n → (readers source n).members (spelled f (sign (codes ")") ∷ rest)) ≡ Some (f, rest)
+  fields : (f : Form) (rest : List Piece) → AreFields f n → (readers source n).fields (spelled f (sign (codes "}") ∷ rest)) ≡ Some (f, rest)
+  cases : (f : Form) (g : ℕ) (rest : List Piece) → AreCases f g n → (readers source n).cases g (spelled f (sign (codes "}") ∷ rest)) ≡ Some (f, rest)
 
-bytes_more : (s : LengthScheme) (n : ℕ) (rest : List Piece) → 0 < n → (readers (suc n)).types (spelled (Bytes s) rest) ≡ Some (Bytes s, rest)
+bytes_more : (source : List Piece) (s : LengthScheme) (n : ℕ) (rest : List Piece) → 0 < n → (readers source (suc n)).types (spelled (Bytes s) rest) ≡ Some (Bytes s, rest)
 unfolding readers
-bytes_more s zero rest h = absurd (omega arith)
-bytes_more Eight (suc n) rest h = refl
-bytes_more Short (suc n) rest h = refl
+bytes_more source s zero rest h = absurd (omega arith)
+bytes_more source Eight (suc n) rest h = refl
+bytes_more source Short (suc n) rest h = refl
 
-byte_block_more : (k n : ℕ) (rest : List Piece) → 0 < n → k < 2 ^ 64 → (readers (suc n)).types (spelled (ByteBlock k) rest) ≡ Some (ByteBlock k, rest)
+byte_block_more : (source : List Piece) (k n : ℕ) (rest : List Piece) → 0 < n → k < 2 ^ 64 → (readers source (suc n)).types (spelled (ByteBlock k) rest) ≡ Some (ByteBlock k, rest)
 unfolding readers
-byte_block_more k zero rest h f = absurd (omega arith)
-byte_block_more k (suc n) rest h f = rw (number_in_front k (sign (codes "]") ∷ rest) f) refl
+byte_block_more source k zero rest h f = absurd (omega arith)
+byte_block_more source k (suc n) rest h f = rw (number_in_front k (sign (codes "]") ∷ rest) f) refl
 
-types_more : (n : ℕ) → Back n → (f : Form) (rest : List Piece) → IsForm f false (suc n) → (readers (suc n)).types (spelled f rest) ≡ Some (f, rest)
+types_more : (source : List Piece) (n : ℕ) → Back source n → (f : Form) (rest : List Piece) → IsForm f false (suc n) → (readers source (suc n)).types (spelled f rest) ≡ Some (f, rest)
 unfolding readers
-types_more n b (Number i) rest h = integer_back i (readers n) rest
-types_more n b (NotZero i) rest h = nonzero_back i (readers n) rest
-types_more n b (Standard k) rest h = std_back k (readers n) rest
-types_more n b Flag rest h = refl
-types_more n b Letter rest h = refl
-types_more n b Nothing rest h = tuple_is n (sign (codes ")") ∷ rest)
-types_more n b Words rest h = refl
-types_more n b (Bytes s) rest h = bytes_more s n rest h
-types_more n b (ByteBlock k) rest h = byte_block_more k n rest h.0 h.1
-types_more n b (Maybe d) rest h = rw (b.types d (sign (codes ">") ∷ rest) h) refl
-types_more n b (Either d e) rest h = rw (b.types d (sign (codes ",") ∷ spelled e (sign (codes ">") ∷ rest)) h.0, b.types e (sign (codes ">") ∷ rest) h.1) refl
-types_more n b (Held d) rest h = rw (b.types d (sign (codes ">") ∷ rest) h) refl
-types_more n b (Many Eight d) rest h = rw (b.types d (sign (codes ">") ∷ rest) h.0, list_many Eight d h.1) refl
-types_more n b (Many Short d) rest h = rw (b.types d (sign (codes ">") ∷ rest) h.0, list_many Short d h.1) refl
-types_more n b (Several d) rest h = rw (b.types d (sign (codes ">") ∷ rest) h) refl
-types_more n b (Pairs (Both d e)) rest h = rw (b.types d (sign (codes ",") ∷ spelled e (sign (codes ">") ∷ rest)) h.0, b.types e (sign (codes ">") ∷ rest) h.1)
+types_more source n b (Number i) rest h = integer_back i source (readers source n) rest
+types_more source n b (NotZero i) rest h = nonzero_back i source (readers source n) rest
+types_more source n b (Standard k) rest h = std_back k source (readers source n) rest
+types_more source n b Flag rest h = refl
+types_more source n b Letter rest h = refl
+types_more source n b Nothing rest h = tuple_is source n (sign (codes ")") ∷ rest)
+types_more source n b Words rest h = refl
+types_more source n b (Bytes s) rest h = bytes_more source s n rest h
+types_more source n b (ByteBlock k) rest h = byte_block_more source k n rest h.0 h.1
+types_more source n b (Maybe d) rest h = rw (b.types d (sign (codes ">") ∷ rest) h) refl
+types_more source n b (Either d e) rest h = rw (b.types d (sign (codes ",") ∷ spelled e (sign (codes ">") ∷ rest)) h.0, b.types e (sign (codes ">") ∷ rest) h.1) refl
+types_more source n b (Held d) rest h = rw (b.types d (sign (codes ">") ∷ rest) h) refl
+types_more source n b (Many Eight d) rest h = rw (b.types d (sign (codes ">") ∷ rest) h.0, list_many Eight d h.1) refl
+types_more source n b (Many Short d) rest h = rw (b.types d (sign (codes ">") ∷ rest) h.0, list_many Short d h.1) refl
+types_more source n b (Several d) rest h = rw (b.types d (sign (codes ">") ∷ rest) h) refl
+types_more source n b (Pairs (Both d e)) rest h = rw (b.types d (sign (codes ",") ∷ spelled e (sign (codes ">") ∷ rest)) h.0, b.types e (sign (codes ">") ∷ rest) h.1)
     refl
-types_more n b (Block k d) rest h = rw (
+types_more source n b (Block k d) rest h = rw (
   b.types d (sign (codes ";") ∷ word (decimal k) ∷ sign (codes "]") ∷ rest) h.1,
   number_in_front k (sign (codes "]") ∷ rest) h.0,
   array_many k d h.2,
 ) refl
-types_more n b (Group (Both d e)) rest h = b.tuple d e rest h.0 h.1
-types_more n b (Record d) rest h = rw (b.fields d rest h) refl
-types_more n b (Choice tag.U8 d) rest h = rw (b.cases d (greatest_of tag.U8) rest h) refl
-types_more n b (Choice tag.U16 d) rest h = rw (b.cases d (greatest_of tag.U16) rest h) refl
-types_more n b (Choice tag.U32 d) rest h = rw (b.cases d (greatest_of tag.U32) rest h) refl
-types_more n b (Choice tag.U64 d) rest h = rw (b.cases d (greatest_of tag.U64) rest h) refl
-types_more n b _ rest h = absurd h
+types_more source n b (Group (Both d e)) rest h = b.tuple d e rest h.0 h.1
+types_more source n b (Record d) rest h = rw (b.fields d rest h) refl
+types_more source n b (Choice tag.U8 d) rest h = rw (b.cases d (greatest_of tag.U8) rest h) refl
+types_more source n b (Choice tag.U16 d) rest h = rw (b.cases d (greatest_of tag.U16) rest h) refl
+types_more source n b (Choice tag.U32 d) rest h = rw (b.cases d (greatest_of tag.U32) rest h) refl
+types_more source n b (Choice tag.U64 d) rest h = rw (b.cases d (greatest_of tag.U64) rest h) refl
+types_more source n b _ rest h = absurd h
 
-tuple_more : (n : ℕ) → Back n → (d e : Form) (rest : List Piece) → IsForm d false (suc n) → IsForm e true n
-    → (readers (suc n)).tuple (spelled d (sign (codes ",") ∷ spelled e (sign (codes ")") ∷ rest))) ≡ Some (Group (Both d e), rest)
-tuple_more n b d e rest h k = tuple_is (suc n) (spelled d (sign (codes ",") ∷ spelled e (sign (codes ")") ∷ rest)))
+tuple_more : (source : List Piece) (n : ℕ) → Back source n → (d e : Form) (rest : List Piece) → IsForm d false (suc n) → IsForm e true n
+    → (readers source (suc n)).tuple (spelled d (sign (codes ",") ∷ spelled e (sign (codes ")") ∷ rest))) ≡ Some (Group (Both d e), rest)
+tuple_more source n b d e rest h k = tuple_is source (suc n) (spelled d (sign (codes ",") ∷ spelled e (sign (codes ")") ∷ rest)))
     ∙ rw (
       begins_tuple d (sign (codes ",") ∷ spelled e (sign (codes ")") ∷ rest)),
-      types_more n b d (sign (codes ",") ∷ spelled e (sign (codes ")") ∷ rest)) h,
+      types_more source n b d (sign (codes ",") ∷ spelled e (sign (codes ")") ∷ rest)) h,
       b.members e rest k,
     ) refl
 
-last_member : (n : ℕ) → Back n → (f : Form) (rest : List Piece) → IsForm f false (suc n) → (readers (suc n)).members (spelled f (sign (codes ")") ∷ rest))
+last_member : (source : List Piece) (n : ℕ) → Back source n → (f : Form) (rest : List Piece) → IsForm f false (suc n) → (readers source (suc n)).members (spelled f (sign (codes ")") ∷ rest))
     ≡ Some (f, rest)
-last_member n b f rest h = members_is (suc n) (spelled f (sign (codes ")") ∷ rest)) ∙ rw (types_more n b f (sign (codes ")") ∷ rest) h) refl
+last_member source n b f rest h = members_is source (suc n) (spelled f (sign (codes ")") ∷ rest)) ∙ rw (types_more source n b f (sign (codes ")") ∷ rest) h) refl
 
-members_more : (n : ℕ) → Back n → (f : Form) (rest : List Piece) → IsForm f true (suc n) → (readers (suc n)).members (spelled f (sign (codes ")") ∷ rest))
+members_more : (source : List Piece) (n : ℕ) → Back source n → (f : Form) (rest : List Piece) → IsForm f true (suc n) → (readers source (suc n)).members (spelled f (sign (codes ")") ∷ rest))
     ≡ Some (f, rest)
-members_more n b (Both d e) rest h = members_is (suc n) (spelled d (sign (codes ",") ∷ spelled e (sign (codes ")") ∷ rest)))
-    ∙ rw (types_more n b d (sign (codes ",") ∷ spelled e (sign (codes ")") ∷ rest)) h.0, begins_tuple e (sign (codes ")") ∷ rest), b.members e rest h.1) refl
-members_more n b (Pairs (Both d e)) rest h = last_member n b (Pairs (Both d e)) rest h
-members_more n b (Group (Both d e)) rest h = last_member n b (Group (Both d e)) rest h
-members_more n b f rest h = last_member n b f rest h
+members_more source n b (Both d e) rest h = members_is source (suc n) (spelled d (sign (codes ",") ∷ spelled e (sign (codes ")") ∷ rest)))
+    ∙ rw (types_more source n b d (sign (codes ",") ∷ spelled e (sign (codes ")") ∷ rest)) h.0, begins_tuple e (sign (codes ")") ∷ rest), b.members e rest h.1) refl
+members_more source n b (Pairs (Both d e)) rest h = last_member source n b (Pairs (Both d e)) rest h
+members_more source n b (Group (Both d e)) rest h = last_member source n b (Group (Both d e)) rest h
+members_more source n b f rest h = last_member source n b f rest h
 
-fields_more : (n : ℕ) → Back n → (f : Form) (rest : List Piece) → AreFields f (suc n) → (readers (suc n)).fields (spelled f (sign (codes "}") ∷ rest))
+fields_more : (source : List Piece) (n : ℕ) → Back source n → (f : Form) (rest : List Piece) → AreFields f (suc n) → (readers source (suc n)).fields (spelled f (sign (codes "}") ∷ rest))
     ≡ Some (f, rest)
 unfolding readers
-fields_more n b (Named s d) rest h = rw (word_back s (sign (codes ":") ∷ spelled d (sign (codes "}") ∷ rest)) h.0.0, b.types d (sign (codes "}") ∷ rest) h.1)
+fields_more source n b (Named s d) rest h = rw (
+  no_head s (spelled d (sign (codes "}") ∷ rest)),
+  word_back s (sign (codes ":") ∷ spelled d (sign (codes "}") ∷ rest)) h.0.0,
+  b.types d (sign (codes "}") ∷ rest) h.1,
+)
     refl
-fields_more n b (Both (Named s d) e) rest h = rw (
+fields_more source n b (Both (Named s d) e) rest h = rw (
+  no_head s (spelled d (sign (codes ",") ∷ spelled e (sign (codes "}") ∷ rest))),
   word_back s (sign (codes ":") ∷ spelled d (sign (codes ",") ∷ spelled e (sign (codes "}") ∷ rest))) h.0.0,
   b.types d (sign (codes ",") ∷ spelled e (sign (codes "}") ∷ rest)) h.1,
   begins_braces e (sign (codes "}") ∷ rest),
   b.fields e rest h.2,
 ) refl
-fields_more n b _ rest h = absurd h
+fields_more source n b _ rest h = absurd h
 
-cases_more : (n : ℕ) → Back n → (f : Form) (g : ℕ) (rest : List Piece) → AreCases f g (suc n) → (readers (suc n)).cases g (spelled f (sign (codes "}") ∷ rest))
+cases_more : (source : List Piece) (n : ℕ) → Back source n → (f : Form) (g : ℕ) (rest : List Piece) → AreCases f g (suc n) → (readers source (suc n)).cases g (spelled f (sign (codes "}") ∷ rest))
     ≡ Some (f, rest)
 unfolding readers
-cases_more n b (LastCase t d) g rest h = rw (
+cases_more source n b (LastCase t d) g rest h = rw (
   number_in_front t (sign (codes ":") ∷ spelled d (sign (codes "}") ∷ rest)) h.1,
   le-ltb g t h.0,
   b.types d (sign (codes "}") ∷ rest) h.2,
 ) refl
-cases_more n b (OneCase t d e) g rest h = rw (
+cases_more source n b (OneCase t d e) g rest h = rw (
   number_in_front t (sign (codes ":") ∷ spelled d (sign (codes ",") ∷ spelled e (sign (codes "}") ∷ rest))) h.1,
   le-ltb g t h.0,
   b.types d (sign (codes ",") ∷ spelled e (sign (codes "}") ∷ rest)) h.2,
@@ -214,7 +230,7 @@ cases_more n b (OneCase t d e) g rest h = rw (
   b.cases e g rest h.3,
   h.4,
 ) refl
-cases_more n b _ g rest h = absurd h
+cases_more source n b _ g rest h = absurd h
 
 no_fields : (f : Form) → AreFields f 0 → ⊥
 no_fields (Named s d) h = h
@@ -226,21 +242,21 @@ no_cases (LastCase t d) g h = h
 no_cases (OneCase t d e) g h = h
 no_cases _ g h = h
 
-back : (n : ℕ) → Back n
-back zero = record {
+back : (source : List Piece) (n : ℕ) → Back source n
+back source zero = record {
   types = λ f rest h. absurd (none_within f false h);
   tuple = λ d e rest h k. absurd k;
   members = λ f rest h. absurd (none_within f true h);
   fields = λ f rest h. absurd (no_fields f h);
   cases = λ f g rest h. absurd (no_cases f g h);
 }
-back (suc n) = record {
-  types = types_more n (back n);
-  tuple = tuple_more n (back n);
-  members = members_more n (back n);
-  fields = fields_more n (back n);
-  cases = cases_more n (back n);
+back source (suc n) = record {
+  types = types_more source n (back source n);
+  tuple = tuple_more source n (back source n);
+  members = members_more source n (back source n);
+  fields = fields_more source n (back source n);
+  cases = cases_more source n (back source n);
 }
 
-pub type_back : (f : Form) (n : ℕ) (rest : List Piece) → IsType n f → (readers n).types (spelled f rest) ≡ Some (f, rest)
-type_back f n rest h = let b = back n in b.types f rest h
+pub type_back : (source : List Piece) (f : Form) (n : ℕ) (rest : List Piece) → IsType n f → (readers source n).types (spelled f rest) ≡ Some (f, rest)
+type_back source f n rest h = let b = back source n in b.types f rest h

@@ -1,5 +1,5 @@
 -- What is written splits as it is spelled.
-use Rattle.std.proofs.Common.{◌≡◌, ◌∙◌, ap, subst, refl, ℕ, zero, suc, ◌<◌, ◌^◌, Bool, true, false, ◌&&◌, nat_lt, slice_index, IsAscii, chars, Result}
+use Rattle.std.proofs.Common.{◌≡◌, ◌∙◌, ap, subst, refl, ℕ, zero, suc, ◌<◌, ◌^◌, Bool, true, false, ◌&&◌, nat_lt, slice_index, IsAscii, chars, Result, Ok, Err, None}
 use Rattle.std.proofs.Common.{List, [], ◌∷◌, ◌++◌, length, Option, Some, codes, decimal, arith}
 use Rattle.std.proofs.lemmas.Fmt.{digits_decimal, decimal_nonempty}
 use Rattle.std.proofs.lemmas.Bool.{lt-ltb, ltb-true}
@@ -9,13 +9,15 @@ use Rattle.std.proofs.lemmas.Str.Parse.{IsNumeralModel, numerals_by_value, tells
 use Rattle.std.specs.Char.{encode_utf8}
 use Rattle.std.specs.Str.{all_ascii_digits}
 use Rattle.std.specs.Str.Parse.{digits_value}
-use Rattle.wincode_derive_text.specs.Splits.{all_of_word, of_word, tokens_from, tokens_in}
+use Rattle.wincode_derive_text.specs.Splits.{Splits, all_of_word, of_word, tokens_from, tokens_in}
+use Rattle.wincode_derive_text.specs.declared.tokens.Token.{Token}
+use Rattle.std.specs.Global.{Vec}
 use Rattle.wincode_derive_text.proofs.SplitLaws.{and_left, and_right, ascii_of_word, word_before, digits_of_word}
 use Rattle.wincode_describe.proofs.ReadsBack.{type_back}
 use Rattle.wincode_describe.specs.Forms.{Form, seen, Number, NotZero, Standard, Flag, Letter, Nothing, Words, Bytes, ByteBlock, Maybe, Either, Held, Many, Several}
 use Rattle.wincode_describe.specs.Forms.{Pairs, Block, Group, Record, Both, Named, Choice, LastCase, OneCase}
-use Rattle.wincode_describe.specs.Phrases.{Piece}
-use Rattle.wincode_describe.specs.Readers.{Makes, Parses, and_then, ended, greatest_of, whole}
+use Rattle.wincode_describe.specs.Phrases.{Piece, and_then, pieces}
+use Rattle.wincode_describe.specs.Readers.{Makes, Parses, IsKnownAs, ended, greatest_of, whole}
 use Rattle.wincode_describe.specs.Spelled.{word, sign, spelled, IsForm, IsType, AreFields, AreCases, IsName}
 use Rattle.wincode_describe.specs.Written.{written, integer_name, nonzero_name, std_name}
 use Rattle.wincode_describe.specs.declared.error.DescribeError.{DescribeError}
@@ -327,14 +329,29 @@ ascii_at (c ∷ cs) h = λ i. elim i as (λ i. slice_index (c ∷ cs) i < 128) [
   | suc j ↦ let others = ascii_at cs (and_right (nat_lt c 128) (all_ascii cs) h) in others j
 ]
 
--- The text of a described type is parsed as that type.
-pub parses_back : (text : List ℕ) (n : ℕ) (f : Form) (r : Result Described DescribeError) → Parses (and_then (tokens_in (chars text)) (whole n)) r → IsType n f
-    → text ≡ written f → Makes seen f r
-parses_back text n f r parsed is_type same =
+-- The text of a described type is parsed as that type, whatever a source declares.
+pub parses_back : (source : List Piece) (text : List ℕ) (n : ℕ) (f : Form) (r : Result Described DescribeError)
+    → Parses source (and_then (tokens_in (chars text)) (whole source n)) r → IsType n f → text ≡ written f → Parses source (Some f) r
+parses_back source text n f r parsed is_type same =
     let k = type_splits n f is_type in
     let plain : chars text ≡ written f = ap chars same ∙ chars-IsAscii (written f) (ascii_at (written f) (written_ascii f k)) in
     let split : tokens_in (chars text) ≡ Some (spelled f []) = ap tokens_in plain ∙ splits_as f 10 [] [] k refl refl in
-    let all : and_then (tokens_in (chars text)) (whole n) ≡ Some f =
-    ap (λ o. and_then o (whole n)) split ∙ ap (λ o. and_then o ended) (type_back f n [] is_type) in
-    let P : Option Form → Type 0 = λ o. Parses o r in
+    let all : and_then (tokens_in (chars text)) (whole source n) ≡ Some f =
+    ap (λ o. and_then o (whole source n)) split ∙ ap (λ o. and_then o ended) (type_back source f n [] is_type) in
+    let P : Option Form → Type 0 = λ o. Parses source o r in
     subst P all parsed
+
+-- so, without one
+pub made_back : (f : Form) (r : Result Described DescribeError) → Parses [] (Some f) r → Makes seen f r
+made_back f (Ok d) h = h
+made_back f (Err e) h = h
+
+-- and what is parsed by a source is what is known of it
+known_as : (source : List Piece) (o : Option Form) (d : Described) → Parses source o (Ok d) → IsKnownAs o (seen d)
+known_as source None d h = tt
+known_as source (Some f) d h = h
+
+pub parsed_known : (o : Option (List Piece)) (tokens : Vec Token) (t : Option (List Piece)) (n : ℕ) (d : Described) → Splits o (Ok tokens)
+    → Parses (pieces tokens.items) (and_then t (whole (pieces tokens.items) n)) (Ok d) → IsKnownAs (and_then o (λ s. and_then t (whole s n))) (seen d)
+parsed_known None tokens t n d h parsed = tt
+parsed_known (Some s) tokens t n d h parsed = known_as s (and_then t (whole s n)) d (rw h at parsed)

@@ -10,6 +10,7 @@ pub mod SinkLaws
 pub mod SchemaLaws
 pub mod Forms
 pub mod Phrases
+pub mod Sources
 pub mod Places
 pub mod Readers
 pub mod Written

@@ -1,11 +1,13 @@
 -- What the words and signs of a type say.
 use Rattle.std.specs.Prelude.{◌≡◌, ◌^◌, ℕ, if◌then◌else◌, ◌&&◌, nat_lt, List, [], ◌∷◌, length, drop, map, bytes_eq, Option, Some, None}
 use Rattle.std.specs.Prelude.{option_and_then, option_map, Result, Ok, Err}
+use Rattle.std.specs.Global.{Vec}
 use Rattle.std.specs.Str.{all_ascii_digits}
 use Rattle.std.specs.Str.Parse.{digits_value}
 use Rattle.wincode_derive_text.specs.Splits.{piece}
 use Rattle.wincode_derive_text.specs.declared.tokens.Kind.{Kind}
 use Rattle.wincode_derive_text.specs.declared.tokens.Kind.TheVariants as kind
+use Rattle.wincode_derive_text.specs.declared.tokens.Token.{Token}
 use Rattle.wincode_describe.specs.declared.error.DescribeError.{DescribeError}
 use Rattle.wincode_describe.specs.declared.error.DescribeError.TheVariants.{OutOfMemory}
 use Rattle.wincode_describe.specs.declared.tokens.Tokens.{Tokens}
@@ -14,15 +16,34 @@ use Rattle.wincode_describe.specs.declared.tokens.Tokens.{Tokens}
 abbrev pub Piece : Type 0
 Piece = Kind × List ℕ
 
+-- the words and signs of tokens
+abbrev pub pieces : List Token → List Piece
+pieces tokens = map piece tokens
+
 -- what is left of a text
 abbrev pub left : Tokens → List Piece
-left tokens = drop tokens.next (map piece tokens.tokens.items)
+left tokens = drop tokens.next (pieces tokens.tokens.now)
 
--- What was read is the form that is known, and the rest is left, or there was no memory.
-abbrev pub Reads : {X Y : Type 0} → (Y → X) → Option (X × List Piece) → Result Y DescribeError → List Piece → Type 0
-Reads view None result rest = Unit
-Reads view (Some x) (Ok y) rest = (view y ≡ x.0) × (rest ≡ x.1)
-Reads view (Some x) (Err e) rest = e ≡ OutOfMemory
+-- one reading after another
+abbrev pub and_then : {A B : Type 0} → Option A → (A → Option B) → Option B
+and_then None f = None
+and_then (Some x) f = f x
+
+-- by what is there, or else
+abbrev pub on : {A B : Type 0} → Option A → (A → B) → B → B
+on None f other = other
+on (Some x) f other = f x
+
+-- Nothing but memory is refused, unless there is a source: it may be refused for its faults.
+abbrev pub IsRefusal : List Piece → DescribeError → Type 0
+IsRefusal [] e = e ≡ OutOfMemory
+IsRefusal (p ∷ source) e = Unit
+
+-- What was read, by the source, is the form that is known, and the rest is left; or it was refused.
+abbrev pub Reads : {X Y : Type 0} → List Piece → (Y → X) → Option (X × List Piece) → Result Y DescribeError → List Piece → Type 0
+Reads source view None result rest = Unit
+Reads source view (Some x) (Ok y) rest = (view y ≡ x.0) × (rest ≡ x.1)
+Reads source view (Some x) (Err e) rest = IsRefusal source e
 
 -- what stands behind this sign
 abbrev pub behind_sign : List ℕ → List Piece → Option (List Piece)
@@ -58,7 +79,7 @@ front_word [] new old = word_front old ≡ None
 front_word (c ∷ cs) new old = word_front old ≡ Some (c ∷ cs, new)
 
 -- the tokens of a text, if they are known, or there was no memory
-abbrev pub HasTokens : Option (List Piece) → Result Tokens DescribeError → Type 0
+abbrev pub HasTokens : Option (List Piece) → Result (Vec Token) DescribeError → Type 0
 HasTokens None result = Unit
-HasTokens (Some all) (Ok tokens) = left tokens ≡ all
+HasTokens (Some all) (Ok tokens) = pieces tokens.items ≡ all
 HasTokens (Some all) (Err e) = e ≡ OutOfMemory

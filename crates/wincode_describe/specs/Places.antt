@@ -2,7 +2,7 @@
 use Rattle.std.specs.Prelude.{◌≡◌, map, OnOk, Result, String, ℕ, zero, suc, ◌-◌, ◌^◌, min, Bool, nat_eq, nat_lt, if◌then◌else◌, List, [], ◌∷◌, ◌++◌}
 use Rattle.std.specs.Prelude.{length, Option, Some, None, slice_get, codes, decimal, string_bytes}
 use Rattle.wincode_describe.specs.Parts.{Part, Length, Tag}
-use Rattle.wincode_describe.specs.Readers.{and_then}
+use Rattle.wincode_describe.specs.Phrases.{and_then}
 use Rattle.wincode_describe.specs.declared.described.Described.{Described}
 use Rattle.wincode_describe.specs.declared.described.Described.TheVariants as type
 use Rattle.wincode_describe.specs.declared.described.Cases.{Cases}

@@ -1,9 +1,14 @@
 -- How a type is read of its words and signs.
 use Rattle.std.specs.Prelude.{◌≡◌, ◌^◌, ◌-◌, ℕ, zero, suc, Bool, true, false, if◌then◌else◌, nat_lt, nat_eq, ◌||◌, List, [], ◌∷◌, codes, bytes_eq}
 use Rattle.std.specs.Prelude.{Option, Some, None, Result, Ok, Err, option_map}
+use Rattle.std.specs.Fmt.{decimal}
+use Rattle.std.specs.Str.{chars}
+use Rattle.wincode_derive_text.specs.Splits.{tokens_in}
 use Rattle.wincode_describe.specs.Forms.{Form, seen, Number, NotZero, Standard, Flag, Letter, Nothing, Words, Bytes, ByteBlock, Maybe, Either, Held, Many, Several}
 use Rattle.wincode_describe.specs.Forms.{Pairs, Block, Group, Record, Both, Named, Choice, LastCase, OneCase}
-use Rattle.wincode_describe.specs.Phrases.{Piece, behind_sign, word_front, number_front}
+use Rattle.wincode_describe.specs.Phrases.{Piece, and_then, on, behind_sign, word_front, number_front, IsRefusal}
+use Rattle.wincode_describe.specs.Sources.{heads, next_number, declaration_of}
+use Rattle.wincode_describe.specs.declared.tokens.Over.TheVariants as over
 use Rattle.wincode_describe.specs.declared.described.Described.{Described}
 use Rattle.wincode_describe.specs.declared.described.Integer.TheVariants.{U8, U16, U32, U64, U128, Usize, I8, I16, I32, I64, I128, Isize}
 use Rattle.wincode_describe.specs.declared.described.StdType.TheVariants as std
@@ -25,16 +30,6 @@ use Rattle.wincode_describe.specs.declared.parsing.Opening.TheVariants as openin
 -- reads a form of what is left, and leaves the rest
 abbrev pub Reader : Type 0
 Reader = List Piece → Option (Form × List Piece)
-
--- one reading after another
-abbrev pub and_then : {A B : Type 0} → Option A → (A → Option B) → Option B
-and_then None f = None
-and_then (Some x) f = f x
-
--- by what is there, or else
-abbrev pub on : {A B : Type 0} → Option A → (A → B) → B → B
-on None f other = other
-on (Some x) f other = f x
 
 -- a sign in front, and the rest
 abbrev pub sign_front : List ℕ → List Piece → Option (Unit {0} × List Piece)
@@ -220,9 +215,23 @@ module _ (types : Reader) where
 
   -- one field or more, each by its name, up to the closing brace
   abbrev pub fields_by : Reader → Reader
-  fields_by fields ts = and_then (word_front ts) (λ w. and_then (sign_front (codes ":") w.1)
+  fields_by fields ts = and_then (heads over.Between ts) (λ hs. and_then (word_front hs) (λ w. and_then (sign_front (codes ":") w.1)
       (λ s. and_then (types s.1) (λ d. and_then (goes_on (codes "}") d.1)
-      (λ g. if g.0 then and_then (fields g.1) (λ e. Some (Both (Named w.0 d.0) e.0, e.1)) else Some (Named w.0 d.0, g.1)))))
+      (λ g. if g.0 then and_then (fields g.1) (λ e. Some (Both (Named w.0 d.0) e.0, e.1)) else Some (Named w.0 d.0, g.1))))))
+
+  -- one field or more without names, the first of which has this place, up to the closing bracket
+  abbrev pub numbered_by : ℕ → (ℕ → Reader) → Reader
+  numbered_by place numbered ts = and_then (heads over.Between ts) (λ hs. and_then (types hs) (λ d. and_then (goes_on (codes ")") d.1)
+      (λ g. if g.0 then and_then (next_number place) (λ n. and_then (numbered n g.1) (λ e. Some (Both (Named (decimal place) d.0) e.0, e.1)))
+      else Some (Named (decimal place) d.0, g.1))))
+
+  -- One case or more of an enum that is declared, by their names, up to the closing brace: a case's tag is its place, and
+  -- what it holds stands behind its name.
+  abbrev pub variants_by : ℕ → (ℕ → Reader) → Reader
+  variants_by place variants ts = and_then (heads over.Between ts) (λ hs. and_then (word_front hs) (λ w. and_then (types w.1)
+      (λ d. and_then (goes_on (codes "}") d.1)
+      (λ g. if g.0 then and_then (next_number place) (λ n. and_then (variants n g.1) (λ e. Some (OneCase place d.0 e.0, e.1)))
+      else Some (LastCase place d.0, g.1)))))
 
   -- one case or more, each by a tag that no other has, up to the closing brace
   abbrev pub cases_by : ℕ → Reader → Reader
@@ -237,6 +246,9 @@ pub record Readers : Type 0 where
   pub members : Reader
   pub fields : Reader
   pub cases : ℕ → Reader
+  pub numbered : ℕ → Reader
+  pub held : Reader
+  pub variants : ℕ → Reader
 
 -- the fields of a struct, in braces
 abbrev pub struct_by : Reader → Reader
@@ -247,36 +259,78 @@ abbrev pub enum_by : (ℕ → Reader) → Reader
 enum_by cases ts = and_then (word_front ts) (λ w. and_then (tag_of w.0)
     (λ k. and_then (sign_front (codes "{") w.1) (λ s. and_then (cases (greatest_of k) s.1) (λ d. Some (Choice k d.0, d.1)))))
 
--- what stands behind the word that begins a type
-abbrev pub behind_word : Readers → Opening → Reader
-behind_word below opening.Struct ts = struct_by below.fields ts
-behind_word below opening.Enum ts = enum_by below.cases ts
-behind_word below opening.ShortList ts = short_by below.types ts
-behind_word below (opening.Two p) ts = two_by below.types (pair_form p) ts
-behind_word below (opening.One h) ts = item_by below.types (held_form h) ts
-behind_word below (opening.Known k) ts = Some (known_form k, ts)
-behind_word below _ ts = None
+-- fields with names, or none, up to the closing brace
+abbrev pub braced_by : Readers → Reader
+braced_by below ts = on (behind_sign (codes "}") ts) (λ rest. Some (Nothing, rest)) (and_then (below.fields ts) (λ d. Some (Record d.0, d.1)))
+
+-- fields without names, or none, up to the closing bracket
+abbrev pub rounded_by : Readers → Reader
+rounded_by below ts = on (behind_sign (codes ")") ts) (λ rest. Some (Nothing, rest)) (and_then (below.numbered 0 ts) (λ d. Some (Record d.0, d.1)))
+
+-- so, as what may also not be there
+abbrev pub there : Form × List Piece → Option (Option Form × List Piece)
+there d = Some (Some d.0, d.1)
+
+-- fields in brackets, if there are brackets
+abbrev pub shape_by : Readers → List Piece → Option (Option Form × List Piece)
+shape_by below ts = on (behind_sign (codes "{") ts) (λ rest. and_then (braced_by below rest) there)
+    (on (behind_sign (codes "(") ts) (λ rest. and_then (rounded_by below rest) there) (Some (None, ts)))
+
+-- what a case holds: its fields, or nothing
+abbrev pub held_by : Readers → Reader
+held_by below ts = and_then (shape_by below ts) (λ s. Some (on s.0 (λ d. d) Nothing, s.1))
+
+-- what stands behind a struct's name: its fields, or a semicolon
+abbrev pub declared_struct : Readers → Reader
+declared_struct below ts = and_then (shape_by below ts)
+    (λ s. on s.0 (λ d. Some (d, s.1)) (and_then (sign_front (codes ";") s.1) (λ e. Some (Nothing, e.1))))
+
+-- what stands behind an enum's name: its cases, in braces
+abbrev pub declared_enum : Readers → Reader
+declared_enum below ts = and_then (sign_front (codes "{") ts) (λ s. and_then (below.variants 0 s.1) (λ d. Some (Choice tag.U32 d.0, d.1)))
+
+-- the type that is declared there: whether it is a struct, and what stands behind its name
+abbrev pub found_as : Readers → Bool × List Piece → Option Form
+found_as below k = and_then (if k.0 then declared_struct below k.1 else declared_enum below k.1) (λ d. Some d.0)
+
+-- the struct or enum that a source declares by this name, which isn't `str`
+abbrev pub declared_as : List Piece → Readers → List ℕ → Option Form
+declared_as source below name = if bytes_eq name (codes "str") then None else and_then (declaration_of name 0 source) (found_as below)
+
+-- what stands behind the word that begins a type; a word that is none of a type's names what the source declares
+abbrev pub behind_word : List Piece → Readers → Opening → List ℕ → Reader
+behind_word source below opening.Struct w ts = struct_by below.fields ts
+behind_word source below opening.Enum w ts = enum_by below.cases ts
+behind_word source below opening.ShortList w ts = short_by below.types ts
+behind_word source below (opening.Two p) w ts = two_by below.types (pair_form p) ts
+behind_word source below (opening.One h) w ts = item_by below.types (held_form h) ts
+behind_word source below (opening.Known k) w ts = Some (known_form k, ts)
+behind_word source below opening.Name w ts = and_then (declared_as source below w) (λ d. Some (d, ts))
+behind_word source below _ w ts = None
 
 -- a type that begins with a word, which stands in front of the rest
-abbrev pub word_by : Readers → List ℕ × List Piece → Option (Form × List Piece)
-word_by below w = on (plain_of w.0) (λ d. Some (d, w.1)) (behind_word below (opening_of w.0) w.1)
+abbrev pub word_by : List Piece → Readers → List ℕ × List Piece → Option (Form × List Piece)
+word_by source below w = on (plain_of w.0) (λ d. Some (d, w.1)) (behind_word source below (opening_of w.0) w.0 w.1)
 
 -- an array, or a type that begins with a word
-abbrev pub array_or_word : Readers → Reader
-array_or_word below ts = on (behind_sign (codes "[") ts) (array_by below.types) (and_then (word_front ts) (word_by below))
+abbrev pub array_or_word : List Piece → Readers → Reader
+array_or_word source below ts = on (behind_sign (codes "[") ts) (array_by below.types) (and_then (word_front ts) (word_by source below))
 
 -- a type: a tuple, an array, or one that begins with a word
-abbrev pub type_by : Readers → Reader
-type_by below ts = on (behind_sign (codes "(") ts) below.tuple (array_or_word below ts)
+abbrev pub type_by : List Piece → Readers → Reader
+type_by source below ts = on (behind_sign (codes "(") ts) below.tuple (array_or_word source below ts)
 
 -- one level more
-abbrev pub one_more : Readers → Readers
-one_more below = record {
-  types = type_by below;
-  tuple = tuple_by (type_by below) below.members;
-  members = members_by (type_by below) below.members;
+abbrev pub one_more : List Piece → Readers → Readers
+one_more source below = record {
+  types = type_by source below;
+  tuple = tuple_by (type_by source below) below.members;
+  members = members_by (type_by source below) below.members;
   fields = fields_by below.types below.fields;
   cases = λ greatest. cases_by below.types greatest (below.cases greatest);
+  numbered = λ place. numbered_by below.types place below.numbered;
+  held = held_by below;
+  variants = λ place. variants_by below.held place below.variants;
 }
 
 -- within no level
@@ -291,11 +345,15 @@ no_more = record {
   members = unread;
   fields = unread;
   cases = λ greatest. unread;
+  numbered = λ place. unread;
+  held = unread;
+  variants = λ place. unread;
 }
 
-unfoldable pub readers : ℕ → Readers
-readers zero = no_more
-readers (suc n) = one_more (readers n)
+-- the readers of so many levels, where names are those of what this source declares
+unfoldable pub readers : List Piece → ℕ → Readers
+readers source zero = no_more
+readers source (suc n) = one_more source (readers source n)
 
 -- nothing is left behind a form
 abbrev pub ended : Form × List Piece → Option Form
@@ -303,10 +361,21 @@ ended (f, []) = Some f
 ended (f, p ∷ rest) = None
 
 -- the form that all of a text is, of at most so many levels
-abbrev pub whole : ℕ → List Piece → Option Form
-whole levels ts = and_then ((readers levels).types ts) ended
+abbrev pub whole : List Piece → ℕ → List Piece → Option Form
+whole source levels ts = and_then ((readers source levels).types ts) ended
 
--- what is parsed is that form, if it is known, or there was no memory
-abbrev pub Parses : Option Form → Result Described DescribeError → Type 0
-Parses None result = Unit
-Parses (Some f) result = Makes seen f result
+-- what is parsed, by the source, is that form, if it is known, or it was refused
+abbrev pub Parses : List Piece → Option Form → Result Described DescribeError → Type 0
+Parses source None result = Unit
+Parses source (Some f) (Ok d) = seen d ≡ f
+Parses source (Some f) (Err e) = IsRefusal source e
+
+-- The type that a text describes, where the structs and enums of a source have their names; nothing is said where the
+-- tokens of one of them aren't known.
+abbrev pub type_in : List ℕ → List ℕ → ℕ → Option Form
+type_in source text levels = and_then (tokens_in (chars source)) (λ s. and_then (tokens_in (chars text)) (whole s levels))
+
+-- the type is that one, if it is known
+abbrev pub IsKnownAs : Option Form → Form → Type 0
+IsKnownAs None f = Unit
+IsKnownAs (Some g) f = f ≡ g

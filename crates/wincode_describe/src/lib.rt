@@ -1,6 +1,6 @@
 //! Types as values, by which bytes of any type are read, checked and explained.
 //!
-//! - `described`: `Described`, a type; `parsing` and `printing` have its text.
+//! - `described`: `Described`, a type; `parsing` and `printing` have its text, `declared` what a source declares.
 //! - `reading`, `windows`: a value of a described type read part by part, from any reader.
 //! - `shown`, `sink`, `parts`, `spans`: the parts, where they go, their bytes, and where each stands.
 //! - `explaining`, `streaming`: the parts of bytes in memory, or of bytes as they come.
@@ -11,6 +11,7 @@
 #![tactic(auto)]
 
 pub mod comparing;
+mod declared;
 pub mod described;
 pub mod differing;
 pub mod error;

@@ -1,17 +1,24 @@
 //! The text of a type, as a Rust programmer writes it, to its description.
-ghost use Rattle.std.specs.Prelude.{◌≡◌, ◌<◌, option_map, length, IfOk};
+ghost use Rattle.std.specs.Prelude.{◌≡◌, ◌<◌, [], false, None, option_map, length, IfOk};
+ghost use Rattle.std.specs.Fmt.{decimal};
 ghost use Rattle.std.specs.String.{string_bytes};
 ghost use Rattle.std.specs.Str.{chars};
 ghost use Rattle.wincode_derive_text.specs.Splits.{tokens_in};
 ghost use Rattle.wincode_describe.specs.Forms.{Both, Choice, Form, Group, LastCase, Named, OneCase, Record, seen, seen_cases};
-ghost use Rattle.wincode_describe.specs.Phrases.{left, Reads};
+ghost use Rattle.wincode_describe.specs.Phrases.{and_then, left, pieces, Reads};
+ghost use Rattle.wincode_describe.specs.Sources.{next_number};
 ghost use Rattle.wincode_describe.specs.Readers.{
+  IsKnownAs,
   Makes,
   Parses,
-  and_then,
   array_by,
   array_form,
+  braced_by,
+  declared_as,
+  declared_enum,
+  declared_struct,
   enum_by,
+  found_as,
   goes_on,
   greatest_of,
   has_tag,
@@ -23,24 +30,27 @@ ghost use Rattle.wincode_describe.specs.Readers.{
   pair_form,
   plain_of,
   readers,
+  rounded_by,
+  shape_by,
   short_by,
   std_plain_of,
   struct_by,
   tag_of,
   two_by,
+  type_in,
   whole,
 };
 ghost use Rattle.wincode_describe.specs.Spelled.{IsType};
 ghost use Rattle.wincode_describe.specs.Written.{written};
+ghost use Rattle.wincode_describe.specs.declared.described.TagSize.TheVariants.{U32};
 
+use crate::declared::{Found, declaration_in, declared_tag, fault_of, refuse_names};
 use crate::described::{Cases, Described, Integer, LengthScheme, StdType, TagSize};
 use crate::error::{DescribeError, DescribeResult, wanted};
-use crate::tokens::Tokens;
+use crate::tokens::{Tokens, said_by, text_tokens};
 use crate::upcoming::copied;
 use std::alloc::Global;
-use wincode_derive_text::{
-    Declaration, DeclaredShape, Field, Fields, Token, Variant, declarations_of, tokens_of,
-};
+use wincode_derive_text::{Token, tokens_of};
 
 /// How many levels a type may have, where each further member of a tuple, a struct or an enum is one more.
 pub const MAX_DEPTH: usize = 128;
@@ -61,6 +71,7 @@ impl Described {
     /// one of std's is refused, since the name stands for that one.
     pub fn parse_with(alloc: Global, source: &str, text: &str) -> DescribeResult<Described>
         ensures ok { IfOk result (λ d. (form : Form) → IsType MAX_DEPTH form → text.now ≡ written form → seen d ≡ form) }
+        ensures known { IfOk result (λ d. IsKnownAs (type_in source.now text.now MAX_DEPTH) (seen d)) }
     {
         let source = tokens_of(alloc, source)?;
         refuse_names(alloc, source.as_slice())?;
@@ -197,7 +208,7 @@ fn opened_by(word: &str) -> Opening
 }
 
 /// The tag scheme of a word.
-fn tag_size(word: &str) -> Option<TagSize>
+pub(crate) fn tag_size(word: &str) -> Option<TagSize>
     ensures { result ≡ tag_of word.now }
 {
     match word {
@@ -332,6 +343,21 @@ fn field(alloc: Global, name: String, content: Described) -> DescribeResult<Desc
     Ok(Described::Field(name, Box::new(alloc, content)?))
 }
 
+/// A field without a name, at this place.
+fn numbered_field(alloc: Global, place: usize, content: Described) -> DescribeResult<Described>
+    ensures { Makes seen (Named (decimal place) (seen content)) result }
+{
+    let name = format!(in alloc; "{place}")?;
+    field(alloc, name, content)
+}
+
+/// The place behind this one.
+fn next_place(place: usize) -> Option<usize>
+    ensures { result ≡ next_number place }
+{
+    place.checked_add(1)
+}
+
 /// A struct of these fields.
 fn structure(alloc: Global, fields: Described) -> DescribeResult<Described>
     ensures { Makes seen (Record (seen fields)) result }
@@ -374,7 +400,7 @@ pub(crate) fn has_case(cases: &Cases, tag: usize) -> bool
 /// Whether a list in brackets goes on here, behind a comma, or is closed.
 fn goes_on(tokens: &mut Tokens, closing: &str, what: &'static str) -> DescribeResult<bool>
     requires { 0 < length closing.now }
-    ensures { Reads (λ b. b) (goes_on closing.now (left tokens.old)) result (left tokens.new) }
+    ensures { Reads [] (λ b. b) (goes_on closing.now (left tokens.old)) result (left tokens.new) }
 {
     let goes_on = tokens.takes(",");
     if tokens.takes(closing) {
@@ -394,10 +420,12 @@ fn whole_type(
     text: &str,
     levels: usize,
 ) -> DescribeResult<Described>
-    ensures { Parses (and_then (tokens_in (chars text.now)) (whole levels)) result }
+    ensures { Parses (pieces source.now)
+        (and_then (tokens_in (chars text.now)) (whole (pieces source.now) levels)) result }
 {
-    let mut tokens = Tokens::new(alloc, source, text)?;
-    let described = type_at(alloc, &mut tokens, levels)?;
+    let all = text_tokens(alloc, text)?;
+    let mut tokens = Tokens::new(all.as_slice(), text.len());
+    let described = type_at(alloc, source, &mut tokens, levels)?;
     if tokens.is_empty() {
         Ok(described)
     } else {
@@ -407,77 +435,100 @@ fn whole_type(
 
 /// The type that begins here.
 #[cycle(parsing)]
-fn type_at(alloc: Global, tokens: &mut Tokens, levels: usize) -> DescribeResult<Described>
-    ensures { Reads seen ((readers levels).types (left tokens.old)) result (left tokens.new) }
+fn type_at(
+    alloc: Global,
+    source: &[Token],
+    tokens: &mut Tokens,
+    levels: usize,
+) -> DescribeResult<Described>
+    ensures { Reads (pieces source.now) seen ((readers (pieces source.now) levels).types (left tokens.old))
+        result (left tokens.new) }
 {
     let at = tokens.place();
     let Some(below) = levels.checked_sub(1) else {
         return Err(DescribeError::TooDeep { at });
     };
     if tokens.takes("(") {
-        return tuple_at(alloc, tokens, below);
+        return tuple_at(alloc, source, tokens, below);
     }
     if tokens.takes("[") {
-        return array_at(alloc, tokens, below);
+        return array_at(alloc, source, tokens, below);
     }
     let word = tokens.word(alloc)?;
     if let Some(described) = plain(word.as_str()) {
         return Ok(described);
     }
     match opened_by(word.as_str()) {
-        Opening::Struct => struct_at(alloc, tokens, below),
-        Opening::Enum => enum_at(alloc, tokens, below),
-        Opening::ShortList => short_at(alloc, tokens, below),
-        Opening::Two(pair) => two_at(alloc, tokens, pair, below),
-        Opening::One(holder) => one_at(alloc, tokens, holder, below),
-        Opening::Container => container_at(alloc, tokens, below),
-        Opening::Range => range_at(alloc, tokens, below),
-        Opening::Cow => cow_at(alloc, tokens, below),
+        Opening::Struct => struct_at(alloc, source, tokens, below),
+        Opening::Enum => enum_at(alloc, source, tokens, below),
+        Opening::ShortList => short_at(alloc, source, tokens, below),
+        Opening::Two(pair) => two_at(alloc, source, tokens, pair, below),
+        Opening::One(holder) => one_at(alloc, source, tokens, holder, below),
+        Opening::Container => container_at(alloc, source, tokens, below),
+        Opening::Range => range_at(alloc, source, tokens, below),
+        Opening::Cow => cow_at(alloc, source, tokens, below),
         Opening::Known(known) => known_type(alloc, known),
-        Opening::Name => named_type(alloc, tokens.source, word.as_str(), at, below),
+        Opening::Name => named_type(alloc, source, word.as_str(), at, below),
     }
 }
 
 /// The members of a tuple, behind its bracket.
 #[cycle(parsing)]
-fn tuple_at(alloc: Global, tokens: &mut Tokens, levels: usize) -> DescribeResult<Described>
-    ensures { Reads seen ((readers levels).tuple (left tokens.old)) result (left tokens.new) }
+fn tuple_at(
+    alloc: Global,
+    source: &[Token],
+    tokens: &mut Tokens,
+    levels: usize,
+) -> DescribeResult<Described>
+    ensures { Reads (pieces source.now) seen ((readers (pieces source.now) levels).tuple (left tokens.old))
+        result (left tokens.new) }
 {
     if tokens.takes(")") {
         return Ok(Described::Unit);
     }
-    let first = type_at(alloc, tokens, levels)?;
+    let first = type_at(alloc, source, tokens, levels)?;
     tokens.expect(",", "`,`")?;
     let Some(below) = levels.checked_sub(1) else {
         return Err(DescribeError::TooDeep { at: tokens.place() });
     };
-    let others = members_at(alloc, tokens, below)?;
+    let others = members_at(alloc, source, tokens, below)?;
     tuple(alloc, first, others)
 }
 
 /// The members of a tuple from one on, and its closing bracket.
 #[cycle(parsing)]
-fn members_at(alloc: Global, tokens: &mut Tokens, levels: usize) -> DescribeResult<Described>
-    ensures { Reads seen ((readers levels).members (left tokens.old)) result (left tokens.new) }
+fn members_at(
+    alloc: Global,
+    source: &[Token],
+    tokens: &mut Tokens,
+    levels: usize,
+) -> DescribeResult<Described>
+    ensures { Reads (pieces source.now) seen ((readers (pieces source.now) levels).members (left tokens.old))
+        result (left tokens.new) }
 {
-    let first = type_at(alloc, tokens, levels)?;
+    let first = type_at(alloc, source, tokens, levels)?;
     if !goes_on(tokens, ")", "`,` or `)`")? {
         return Ok(first);
     }
     let Some(below) = levels.checked_sub(1) else {
         return Err(DescribeError::TooDeep { at: tokens.place() });
     };
-    let others = members_at(alloc, tokens, below)?;
+    let others = members_at(alloc, source, tokens, below)?;
     joined(alloc, first, others)
 }
 
 /// An array, behind its bracket.
 #[cycle(parsing)]
-fn array_at(alloc: Global, tokens: &mut Tokens, levels: usize) -> DescribeResult<Described>
-    ensures { Reads seen (array_by (readers levels).types (left tokens.old)) result
+fn array_at(
+    alloc: Global,
+    source: &[Token],
+    tokens: &mut Tokens,
+    levels: usize,
+) -> DescribeResult<Described>
+    ensures { Reads (pieces source.now) seen (array_by (readers (pieces source.now) levels).types (left tokens.old)) result
         (left tokens.new) }
 {
-    let item = type_at(alloc, tokens, levels)?;
+    let item = type_at(alloc, source, tokens, levels)?;
     tokens.expect(";", "`;`")?;
     let n = tokens.number("how many items the array has")?;
     tokens.expect("]", "`]`")?;
@@ -486,8 +537,13 @@ fn array_at(alloc: Global, tokens: &mut Tokens, levels: usize) -> DescribeResult
 
 /// A list behind a short length, behind its first word.
 #[cycle(parsing)]
-fn short_at(alloc: Global, tokens: &mut Tokens, levels: usize) -> DescribeResult<Described>
-    ensures { Reads seen (short_by (readers levels).types (left tokens.old)) result
+fn short_at(
+    alloc: Global,
+    source: &[Token],
+    tokens: &mut Tokens,
+    levels: usize,
+) -> DescribeResult<Described>
+    ensures { Reads (pieces source.now) seen (short_by (readers (pieces source.now) levels).types (left tokens.old)) result
         (left tokens.new) }
 {
     let at = tokens.place();
@@ -496,7 +552,7 @@ fn short_at(alloc: Global, tokens: &mut Tokens, levels: usize) -> DescribeResult
         return Err(wanted("`Vec`", at));
     }
     tokens.expect("<", "`<`")?;
-    let item = type_at(alloc, tokens, levels)?;
+    let item = type_at(alloc, source, tokens, levels)?;
     tokens.expect(">", "`>`")?;
     list(alloc, LengthScheme::Short, item)
 }
@@ -505,11 +561,12 @@ fn short_at(alloc: Global, tokens: &mut Tokens, levels: usize) -> DescribeResult
 #[cycle(parsing)]
 fn one_at(
     alloc: Global,
+    source: &[Token],
     tokens: &mut Tokens,
     holder: Holder,
     levels: usize,
 ) -> DescribeResult<Described>
-    ensures { Reads seen (item_by (readers levels).types (held_form holder) (left tokens.old))
+    ensures { Reads (pieces source.now) seen (item_by (readers (pieces source.now) levels).types (held_form holder) (left tokens.old))
         result (left tokens.new) }
 {
     tokens.expect("<", "`<`")?;
@@ -517,7 +574,7 @@ fn one_at(
     if tokens.takes_word("str") {
         return text_at(alloc, tokens, holder, at);
     }
-    let part = type_at(alloc, tokens, levels)?;
+    let part = type_at(alloc, source, tokens, levels)?;
     tokens.expect(">", "`>`")?;
     held(alloc, holder, part)
 }
@@ -526,59 +583,77 @@ fn one_at(
 #[cycle(parsing)]
 fn two_at(
     alloc: Global,
+    source: &[Token],
     tokens: &mut Tokens,
     pair: Pair,
     levels: usize,
 ) -> DescribeResult<Described>
-    ensures { Reads seen (two_by (readers levels).types (pair_form pair) (left tokens.old))
+    ensures { Reads (pieces source.now) seen (two_by (readers (pieces source.now) levels).types (pair_form pair) (left tokens.old))
         result (left tokens.new) }
 {
     tokens.expect("<", "`<`")?;
-    let first = type_at(alloc, tokens, levels)?;
+    let first = type_at(alloc, source, tokens, levels)?;
     tokens.expect(",", "`,`")?;
-    let second = type_at(alloc, tokens, levels)?;
+    let second = type_at(alloc, source, tokens, levels)?;
     tokens.expect(">", "`>`")?;
     paired(alloc, pair, first, second)
 }
 
 /// A struct, behind its word.
 #[cycle(parsing)]
-fn struct_at(alloc: Global, tokens: &mut Tokens, levels: usize) -> DescribeResult<Described>
-    ensures { Reads seen (struct_by (readers levels).fields (left tokens.old)) result
+fn struct_at(
+    alloc: Global,
+    source: &[Token],
+    tokens: &mut Tokens,
+    levels: usize,
+) -> DescribeResult<Described>
+    ensures { Reads (pieces source.now) seen (struct_by (readers (pieces source.now) levels).fields (left tokens.old)) result
         (left tokens.new) }
 {
     tokens.expect("{", "`{`")?;
-    let fields = fields_at(alloc, tokens, levels)?;
+    let fields = fields_at(alloc, source, tokens, levels)?;
     structure(alloc, fields)
 }
 
 /// The fields of a struct from one on, and its closing bracket.
 #[cycle(parsing)]
-fn fields_at(alloc: Global, tokens: &mut Tokens, levels: usize) -> DescribeResult<Described>
-    ensures { Reads seen ((readers levels).fields (left tokens.old)) result (left tokens.new) }
+fn fields_at(
+    alloc: Global,
+    source: &[Token],
+    tokens: &mut Tokens,
+    levels: usize,
+) -> DescribeResult<Described>
+    ensures { Reads (pieces source.now) seen ((readers (pieces source.now) levels).fields (left tokens.old))
+        result (left tokens.new) }
 {
     let at = tokens.place();
     let Some(below) = levels.checked_sub(1) else {
         return Err(DescribeError::TooDeep { at });
     };
+    let note = tokens.takes_head();
     let name = tokens.word(alloc)?;
     if name.is_empty() {
         return Err(wanted("a field", at));
     }
     tokens.expect(":", "`:`")?;
-    let content = type_at(alloc, tokens, below)?;
+    let content = content_at(alloc, source, tokens, note, below)?;
     let field = field(alloc, name, content)?;
     if !goes_on(tokens, "}", "`,` or `}`")? {
         return Ok(field);
     }
-    let others = fields_at(alloc, tokens, below)?;
+    let others = fields_at(alloc, source, tokens, below)?;
     joined(alloc, field, others)
 }
 
 /// An enum, behind its word.
 #[cycle(parsing)]
-fn enum_at(alloc: Global, tokens: &mut Tokens, levels: usize) -> DescribeResult<Described>
-    ensures { Reads seen (enum_by (readers levels).cases (left tokens.old)) result
+fn enum_at(
+    alloc: Global,
+    source: &[Token],
+    tokens: &mut Tokens,
+    levels: usize,
+) -> DescribeResult<Described>
+    ensures { Reads (pieces source.now) seen (enum_by (readers (pieces source.now) levels).cases (left tokens.old)) result
         (left tokens.new) }
 {
     let at = tokens.place();
@@ -587,7 +662,7 @@ fn enum_at(alloc: Global, tokens: &mut Tokens, levels: usize) -> DescribeResult<
         return Err(wanted("`u8`, `u16`, `u32` or `u64`", at));
     };
     tokens.expect("{", "`{`")?;
-    let cases = cases_at(alloc, tokens, greatest_tag(size), levels)?;
+    let cases = cases_at(alloc, source, tokens, greatest_tag(size), levels)?;
     choice(alloc, size, cases)
 }
 
@@ -595,11 +670,12 @@ fn enum_at(alloc: Global, tokens: &mut Tokens, levels: usize) -> DescribeResult<
 #[cycle(parsing)]
 fn cases_at(
     alloc: Global,
+    source: &[Token],
     tokens: &mut Tokens,
     greatest: usize,
     levels: usize,
 ) -> DescribeResult<Cases>
-    ensures { Reads seen_cases ((readers levels).cases greatest (left tokens.old)) result
+    ensures { Reads (pieces source.now) seen_cases ((readers (pieces source.now) levels).cases greatest (left tokens.old)) result
         (left tokens.new) }
 {
     let at = tokens.place();
@@ -611,11 +687,11 @@ fn cases_at(
         return Err(wanted("a tag that its size has", at));
     }
     tokens.expect(":", "`:`")?;
-    let content = type_at(alloc, tokens, below)?;
+    let content = type_at(alloc, source, tokens, below)?;
     if !goes_on(tokens, "}", "`,` or `}`")? {
         return last_case(alloc, tag, content);
     }
-    let others = cases_at(alloc, tokens, greatest, below)?;
+    let others = cases_at(alloc, source, tokens, greatest, below)?;
     if has_case(&others, tag) {
         return Err(wanted("a tag that no other case has", at));
     }
@@ -624,14 +700,19 @@ fn cases_at(
 
 /// `containers::Vec<T, ShortU16Len>`, behind its first word.
 #[cycle(parsing)]
-fn container_at(alloc: Global, tokens: &mut Tokens, levels: usize) -> DescribeResult<Described> {
+fn container_at(
+    alloc: Global,
+    source: &[Token],
+    tokens: &mut Tokens,
+    levels: usize,
+) -> DescribeResult<Described> {
     tokens.expect("::", "`::`")?;
     let at = tokens.place();
     if tokens.word(alloc)?.as_str() != "Vec" {
         return Err(wanted("`Vec`", at));
     }
     tokens.expect("<", "`<`")?;
-    let item = type_at(alloc, tokens, levels)?;
+    let item = type_at(alloc, source, tokens, levels)?;
     tokens.expect(",", "`,`")?;
     let at = tokens.place();
     let scheme = match tokens.word(alloc)?.as_str() {
@@ -646,9 +727,14 @@ fn container_at(alloc: Global, tokens: &mut Tokens, levels: usize) -> DescribeRe
 /// A range of two bounds, behind its word: a struct of both. Within a range there is half of the levels, since its type
 /// stands there twice.
 #[cycle(parsing)]
-fn range_at(alloc: Global, tokens: &mut Tokens, levels: usize) -> DescribeResult<Described> {
+fn range_at(
+    alloc: Global,
+    source: &[Token],
+    tokens: &mut Tokens,
+    levels: usize,
+) -> DescribeResult<Described> {
     tokens.expect("<", "`<`")?;
-    let start = type_at(alloc, tokens, levels / 2)?;
+    let start = type_at(alloc, source, tokens, levels / 2)?;
     tokens.expect(">", "`>`")?;
     let end = copied(alloc, &start)?;
     let start = field(alloc, String::from_str(alloc, "start")?, start)?;
@@ -659,7 +745,12 @@ fn range_at(alloc: Global, tokens: &mut Tokens, levels: usize) -> DescribeResult
 
 /// `Cow<'_, str>` or `Cow<'_, [T]>`, behind its word, also without the lifetime.
 #[cycle(parsing)]
-fn cow_at(alloc: Global, tokens: &mut Tokens, levels: usize) -> DescribeResult<Described> {
+fn cow_at(
+    alloc: Global,
+    source: &[Token],
+    tokens: &mut Tokens,
+    levels: usize,
+) -> DescribeResult<Described> {
     tokens.expect("<", "`<`")?;
     if tokens.takes_lifetime() {
         tokens.expect(",", "`,`")?;
@@ -669,59 +760,245 @@ fn cow_at(alloc: Global, tokens: &mut Tokens, levels: usize) -> DescribeResult<D
         return Ok(Described::Text);
     }
     tokens.expect("[", "`str` or `[`")?;
-    let item = type_at(alloc, tokens, levels)?;
+    let item = type_at(alloc, source, tokens, levels)?;
     tokens.expect("]", "`]`")?;
     tokens.expect(">", "`>`")?;
     list(alloc, LengthScheme::Eight, item)
 }
 
-/// The declaration of that name, if there is one.
-fn declaration(alloc: Global, source: &[Token], name: &str) -> DescribeResult<Option<Declaration>> {
-    if source.is_empty() || name.is_empty() {
-        return Ok(None);
+/// The type of a field, or the schema that a comment line says of it.
+#[cycle(parsing)]
+fn content_at(
+    alloc: Global,
+    source: &[Token],
+    tokens: &mut Tokens,
+    note: Option<&str>,
+    levels: usize,
+) -> DescribeResult<Described>
+    ensures { note.entry ≡ None → Reads (pieces source.now) seen ((readers (pieces source.now) levels).types (left tokens.old))
+        result (left tokens.new) }
+{
+    let Some(note) = note else {
+        return type_at(alloc, source, tokens, levels);
+    };
+    tokens.skip_type();
+    let schema = said_by(note, "with");
+    match whole_type(alloc, source, schema, levels) {
+        Err(DescribeError::Wanted { .. }) => {
+            Err(DescribeError::Undescribed(String::from_str(alloc, schema)?))
+        }
+        answer => answer,
     }
-    let mut names = Vec::new(alloc);
-    names.push(String::from_str(alloc, name)?)?;
-    Ok(declarations_of(alloc, source, names.as_slice())?.pop())
 }
 
-/// The names of std's types that a source file may declare for its own.
-const STD_NAMES: [&str; 16] = [
-    "Wrapping",
-    "Saturating",
-    "Reverse",
-    "Range",
-    "RangeInclusive",
-    "RangeFrom",
-    "RangeTo",
-    "Cow",
-    "Duration",
-    "SystemTime",
-    "IpAddr",
-    "Ipv4Addr",
-    "Ipv6Addr",
-    "SocketAddr",
-    "SocketAddrV4",
-    "SocketAddrV6",
-];
-
-/// Refuses a file that declares a type of such a name.
-fn refuse_names(alloc: Global, source: &[Token]) -> DescribeResult<()> {
-    if source.is_empty() {
-        return Ok(());
+/// The fields without names from one on, which has this place, and their closing bracket.
+#[cycle(parsing)]
+fn numbered_at(
+    alloc: Global,
+    source: &[Token],
+    tokens: &mut Tokens,
+    place: usize,
+    levels: usize,
+) -> DescribeResult<Described>
+    ensures { Reads (pieces source.now) seen ((readers (pieces source.now) levels).numbered place (left tokens.old))
+        result (left tokens.new) }
+{
+    let Some(below) = levels.checked_sub(1) else {
+        return Err(DescribeError::TooDeep { at: tokens.place() });
+    };
+    let note = tokens.takes_head();
+    let content = content_at(alloc, source, tokens, note, below)?;
+    let field = numbered_field(alloc, place, content)?;
+    if !goes_on(tokens, ")", "`,` or `)`")? {
+        return Ok(field);
     }
-    let mut names = Vec::new(alloc);
-    for name in &STD_NAMES {
-        names.push(String::from_str(alloc, name)?)?;
-    }
-    if declarations_of(alloc, source, names.as_slice())?.is_empty() {
-        return Ok(());
-    }
-    let text = String::from_str(alloc, "a declaration with the name of one of std's types")?;
-    Err(DescribeError::Undescribed(text))
+    let Some(next) = next_place(place) else {
+        return Err(DescribeError::TooDeep { at: tokens.place() });
+    };
+    let others = numbered_at(alloc, source, tokens, next, below)?;
+    joined(alloc, field, others)
 }
 
-/// The type that is declared by that name, which stands at that byte.
+/// The fields of a declaration, behind their brace.
+#[cycle(parsing)]
+fn braced_at(
+    alloc: Global,
+    source: &[Token],
+    tokens: &mut Tokens,
+    levels: usize,
+) -> DescribeResult<Described>
+    ensures { Reads (pieces source.now) seen (braced_by (readers (pieces source.now) levels) (left tokens.old))
+        result (left tokens.new) }
+{
+    if tokens.takes("}") {
+        return Ok(Described::Unit);
+    }
+    let fields = fields_at(alloc, source, tokens, levels)?;
+    structure(alloc, fields)
+}
+
+/// The fields without names of a declaration, behind their bracket.
+#[cycle(parsing)]
+fn rounded_at(
+    alloc: Global,
+    source: &[Token],
+    tokens: &mut Tokens,
+    levels: usize,
+) -> DescribeResult<Described>
+    ensures { Reads (pieces source.now) seen (rounded_by (readers (pieces source.now) levels) (left tokens.old))
+        result (left tokens.new) }
+{
+    if tokens.takes(")") {
+        return Ok(Described::Unit);
+    }
+    let fields = numbered_at(alloc, source, tokens, 0, levels)?;
+    structure(alloc, fields)
+}
+
+/// The fields of a declaration, if brackets stand there.
+#[cycle(parsing)]
+fn shape_at(
+    alloc: Global,
+    source: &[Token],
+    tokens: &mut Tokens,
+    levels: usize,
+) -> DescribeResult<Option<Described>>
+    ensures { Reads (pieces source.now) (option_map seen) (shape_by (readers (pieces source.now) levels) (left tokens.old))
+        result (left tokens.new) }
+{
+    if tokens.takes("{") {
+        let fields = braced_at(alloc, source, tokens, levels)?;
+        return Ok(Some(fields));
+    }
+    if tokens.takes("(") {
+        let fields = rounded_at(alloc, source, tokens, levels)?;
+        return Ok(Some(fields));
+    }
+    Ok(None)
+}
+
+/// What a case holds that is declared, behind its name.
+#[cycle(parsing)]
+fn held_at(
+    alloc: Global,
+    source: &[Token],
+    tokens: &mut Tokens,
+    levels: usize,
+) -> DescribeResult<Described>
+    ensures { Reads (pieces source.now) seen ((readers (pieces source.now) levels).held (left tokens.old))
+        result (left tokens.new) }
+{
+    let Some(below) = levels.checked_sub(1) else {
+        return Err(DescribeError::TooDeep { at: tokens.place() });
+    };
+    let shape = shape_at(alloc, source, tokens, below)?;
+    match shape {
+        Some(fields) => Ok(fields),
+        None => Ok(Described::Unit),
+    }
+}
+
+/// The tag of the case at this place, or that which a comment line says.
+fn tag_at(note: Option<&str>, place: usize) -> usize
+    ensures { note.entry ≡ None → result ≡ place }
+{
+    match note {
+        Some(note) => said_by(note, "tag").parse::<usize>().unwrap_or(place),
+        None => place,
+    }
+}
+
+/// The cases of an enum that is declared from one on, which has this place, and their closing brace.
+#[cycle(parsing)]
+fn variants_at(
+    alloc: Global,
+    source: &[Token],
+    tokens: &mut Tokens,
+    place: usize,
+    levels: usize,
+) -> DescribeResult<Cases>
+    ensures { Reads (pieces source.now) seen_cases ((readers (pieces source.now) levels).variants place (left tokens.old))
+        result (left tokens.new) }
+{
+    let Some(below) = levels.checked_sub(1) else {
+        return Err(DescribeError::TooDeep { at: tokens.place() });
+    };
+    let note = tokens.takes_head();
+    let name = tokens.word(alloc)?;
+    if name.is_empty() {
+        return Err(wanted("a case", tokens.place()));
+    }
+    let content = held_at(alloc, source, tokens, below)?;
+    let tag = tag_at(note, place);
+    if !goes_on(tokens, "}", "`,` or `}`")? {
+        return last_case(alloc, tag, content);
+    }
+    let Some(next) = next_place(place) else {
+        return Err(DescribeError::TooDeep { at: tokens.place() });
+    };
+    let others = variants_at(alloc, source, tokens, next, below)?;
+    one_case(alloc, tag, content, others)
+}
+
+/// A struct that is declared, behind its name.
+#[cycle(parsing)]
+fn declared_struct(
+    alloc: Global,
+    source: &[Token],
+    tokens: &mut Tokens,
+    levels: usize,
+) -> DescribeResult<Described>
+    ensures { Reads (pieces source.now) seen (declared_struct (readers (pieces source.now) levels) (left tokens.old))
+        result (left tokens.new) }
+{
+    let shape = shape_at(alloc, source, tokens, levels)?;
+    match shape {
+        Some(fields) => Ok(fields),
+        None => {
+            tokens.expect(";", "`{`, `(` or `;`")?;
+            Ok(Described::Unit)
+        }
+    }
+}
+
+/// An enum that is declared, behind its name, whose tags have this size.
+#[cycle(parsing)]
+fn declared_enum(
+    alloc: Global,
+    source: &[Token],
+    tokens: &mut Tokens,
+    size: TagSize,
+    levels: usize,
+) -> DescribeResult<Described>
+    ensures { size ≡ U32 → Reads (pieces source.now) seen (declared_enum (readers (pieces source.now) levels) (left tokens.old))
+        result (left tokens.new) }
+{
+    tokens.expect("{", "`{`")?;
+    let cases = variants_at(alloc, source, tokens, 0, levels)?;
+    choice(alloc, size, cases)
+}
+
+/// The type that is declared there, where a comment line may say how wide its tags are.
+#[cycle(parsing)]
+fn found_type(
+    alloc: Global,
+    source: &[Token],
+    found: Found<'_>,
+    size: TagSize,
+    levels: usize,
+) -> DescribeResult<Described>
+    ensures { found.entry.is_noted ≡ false → Parses (pieces source.now)
+        (found_as (readers (pieces source.now) levels) (found.entry.is_struct, left found.entry.tokens)) result }
+{
+    let mut tokens = found.tokens;
+    if found.is_struct {
+        return declared_struct(alloc, source, &mut tokens, levels);
+    }
+    let size = if found.is_noted { size } else { TagSize::U32 };
+    declared_enum(alloc, source, &mut tokens, size, levels)
+}
+
+/// The type that is declared by that name, which stands at that byte of the text.
 #[cycle(parsing)]
 fn named_type(
     alloc: Global,
@@ -729,99 +1006,16 @@ fn named_type(
     name: &str,
     at: usize,
     levels: usize,
-) -> DescribeResult<Described> {
-    let Some(declaration) = declaration(alloc, source, name)? else {
+) -> DescribeResult<Described>
+    ensures { Parses (pieces source.now)
+        (declared_as (pieces source.now) (readers (pieces source.now) levels) name.now) result }
+{
+    let size = declared_tag(alloc, source, name, at)?;
+    let Some(found) = declaration_in(source, name) else {
         return Err(wanted("a type", at));
     };
-    let generics = &declaration.generics;
-    if generics.lifetime.is_some() || !generics.parameters.is_empty() {
-        return Err(wanted("a type without parameters", at));
+    match found_type(alloc, source, found, size, levels) {
+        Ok(described) => Ok(described),
+        Err(error) => Err(fault_of(alloc, source, (name, at), error)),
     }
-    match declared_type(alloc, source, &declaration.shape, levels) {
-        Err(DescribeError::TooDeep { .. }) => Err(DescribeError::TooDeep { at }),
-        answer => answer,
-    }
-}
-
-/// What is declared.
-#[cycle(parsing)]
-fn declared_type(
-    alloc: Global,
-    source: &[Token],
-    shape: &DeclaredShape,
-    levels: usize,
-) -> DescribeResult<Described> {
-    match shape {
-        DeclaredShape::Struct(fields) => declared_struct(alloc, source, fields, levels),
-        DeclaredShape::Enum(declared) => {
-            if declared.counts.is_some() {
-                let text = String::from_str(alloc, "an enum with counts")?;
-                return Err(DescribeError::Undescribed(text));
-            }
-            let cases = declared_cases(alloc, source, declared.variants.as_slice(), levels)?;
-            let size = tag_size(declared.tag.as_str()).unwrap_or(TagSize::U32);
-            Ok(Described::Enum(size, Box::new(alloc, cases)?))
-        }
-    }
-}
-
-/// A struct with these fields; without one it is nothing.
-#[cycle(parsing)]
-fn declared_struct(
-    alloc: Global,
-    source: &[Token],
-    fields: &Fields,
-    levels: usize,
-) -> DescribeResult<Described> {
-    if fields.fields.is_empty() {
-        return Ok(Described::Unit);
-    }
-    let parts = declared_fields(alloc, source, fields.fields.as_slice(), levels)?;
-    Ok(Described::Struct(Box::new(alloc, parts)?))
-}
-
-/// These fields, one after the other.
-#[cycle(parsing)]
-fn declared_fields(
-    alloc: Global,
-    source: &[Token],
-    fields: &[Field],
-    levels: usize,
-) -> DescribeResult<Described> {
-    let (Some(below), [first, others @ ..]) = (levels.checked_sub(1), fields) else {
-        return Err(DescribeError::TooDeep { at: 0 });
-    };
-    let content = match whole_type(alloc, source, first.schema.as_str(), below) {
-        Err(DescribeError::Wanted { .. }) => {
-            let text = String::from_str(alloc, first.schema.as_str())?;
-            return Err(DescribeError::Undescribed(text));
-        }
-        content => content?,
-    };
-    let name = String::from_str(alloc, first.name.as_str())?;
-    let field = Described::Field(name, Box::new(alloc, content)?);
-    if others.is_empty() {
-        return Ok(field);
-    }
-    let others = declared_fields(alloc, source, others, below)?;
-    Ok(Described::Joined(Box::new(alloc, field)?, Box::new(alloc, others)?))
-}
-
-/// These cases.
-#[cycle(parsing)]
-fn declared_cases(
-    alloc: Global,
-    source: &[Token],
-    variants: &[Variant],
-    levels: usize,
-) -> DescribeResult<Cases> {
-    let (Some(below), [first, others @ ..]) = (levels.checked_sub(1), variants) else {
-        return Err(DescribeError::TooDeep { at: 0 });
-    };
-    let content = Box::new(alloc, declared_struct(alloc, source, &first.fields, below)?)?;
-    if others.is_empty() {
-        return Ok(Cases::Last(first.tag, content));
-    }
-    let others = declared_cases(alloc, source, others, below)?;
-    Ok(Cases::Case(first.tag, content, Box::new(alloc, others)?))
 }
