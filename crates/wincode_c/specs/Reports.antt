@@ -6,6 +6,7 @@ use Rattle.wincode_describe.specs.Explained.{ExplainsRead}
 use Rattle.wincode_describe.specs.Forms.{Form, seen}
 use Rattle.wincode_describe.specs.Lines.{Tells}
 use Rattle.wincode_describe.specs.Parts.{Part, parts_bytes}
+use Rattle.wincode_describe.specs.Readers.{IsKnownAs, type_in}
 use Rattle.wincode_describe.specs.Spelled.{IsType}
 use Rattle.wincode_describe.specs.Written.{written}
 use Rattle.wincode_describe.specs.declared.described.Described.{Described}
@@ -96,9 +97,13 @@ abbrev pub AnswersPage : List ℕ → List ℕ → ℕ → List ℕ → List ℕ
 AnswersPage text bytes from old new r p n = ((d : Described) × IsTextOf text d × ReportsPage d bytes from old new r no_page p n)
     ⊎ ((f : Untyped) × Untypes text f × FaultReported f r n × (new ≡ old) × (p ≡ no_page))
 
--- The text of some type stands over the front of the room, of that whose text it is where no name of a source stands in
--- it; or memory for the text was refused, or there is a fault, and nothing is put there.
-abbrev pub PutsLayout : List ℕ → List ℕ → List ℕ → ℕ → ℤ → Type 0
-PutsLayout text old new count n = ((d : Described) × IsTextOf text d × PutsText (written (seen d)) old new count n)
+-- The text is that of the type, where the structs and enums that a source declares have their names.
+abbrev pub IsTextBy : List ℕ → List ℕ → Described → Type 0
+IsTextBy source text d = IsTextOf text d × IsKnownAs (type_in source text 128) (seen d)
+
+-- The text of that type stands over the front of the room; or memory for it was refused, or there is a fault, and nothing is
+-- put there.
+abbrev pub PutsLayout : List ℕ → List ℕ → List ℕ → List ℕ → ℕ → ℤ → Type 0
+PutsLayout source text old new count n = ((d : Described) × IsTextBy source text d × PutsText (written (seen d)) old new count n)
     ⊎ ((n ≡ neg_ℤ (pos 5)) × (new ≡ old) × (count ≡ 0))
     ⊎ ((f : Untyped) × (n ≡ fault_number f) × (new ≡ old) × (count ≡ fault_place f))

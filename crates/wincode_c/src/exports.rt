@@ -107,7 +107,7 @@ pub extern "C" fn wincode_layout(
     room: &mut [u8],
     length: &mut usize,
 ) -> i32
-    ensures { PutsLayout text.now room.old room.new length.new result }
+    ensures { PutsLayout source.now text.now room.old room.new length.new result }
 {
     let described = match declared_by(alloc, source, text) {
         Ok(described) => described,

@@ -2,7 +2,7 @@
 ghost use Rattle.std.specs.Prelude.{◌≡◌, IfOk, IfErr, IsUtf8};
 ghost use Rattle.wincode_describe.specs.declared.error.DescribeError.TheVariants.{OutOfMemory as NoMemory};
 ghost use Rattle.wincode_c.specs.declared.typed.Untyped.TheVariants.{OutOfMemory};
-ghost use Rattle.wincode_c.specs.Reports.{IsTextOf, Untypes, FaultReported, fault_number, fault_place};
+ghost use Rattle.wincode_c.specs.Reports.{IsTextBy, IsTextOf, Untypes, FaultReported, fault_number, fault_place};
 
 use crate::report::Report;
 use std::alloc::Global;
@@ -65,7 +65,7 @@ pub(crate) fn described_by(alloc: Global, text: &[u8]) -> Result<Described, Unty
 
 /// The type that the text describes, where what the source declares has its name.
 pub(crate) fn declared_by(alloc: Global, source: &[u8], text: &[u8]) -> Result<Described, Untyped>
-    ensures ok { IfOk result (IsTextOf text.now) }
+    ensures ok { IfOk result (IsTextBy source.now text.now) }
 {
     let declarations = words_of(source)?;
     let words = words_of(text)?;
