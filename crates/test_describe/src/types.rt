@@ -208,6 +208,16 @@ enum State {
     Moved { to: u64, when: Option<u32> },
 }
 
+// wincode: tag_encoding = u8
+enum Twice {
+    First,
+}
+
+// wincode: tag_encoding = u64
+enum Twice {
+    Second,
+}
+
 struct Page<T> {
     items: Vec<T>,
 }
@@ -273,7 +283,7 @@ struct Visit {
 ";
 
 /// A type by these declarations, and what it is.
-const DECLARED: [(&str, &str); 10] = [
+const DECLARED: [(&str, &str); 11] = [
     ("Owner", "struct { 0: String, 1: [u8; 4] }"),
     ("Option<Nothing>", "Option<()>"),
     (
@@ -287,6 +297,7 @@ const DECLARED: [(&str, &str); 10] = [
     ("containers::Vec<u8, BincodeLen>", "Vec<u8>"),
     ("Level", "enum u32 { 0: (), 1: struct { 0: u8 } }"),
     ("Seal", "struct { 0: [u8; 4], 1: u16 }"),
+    ("Twice", "enum u8 { 0: () }"),
     ("Marks", "struct { 0: short Vec<u8>, 1: ((), ()) }"),
     (
         "Kind",
@@ -324,7 +335,7 @@ const UNDECLARED: [(&str, &str); 7] = [
     ),
     (
         "Ring",
-        "42:18: `Ring.next`: a type that has itself for a part has no schema",
+        "52:18: `Ring.next`: a type that has itself for a part has no schema",
     ),
     (
         "containers::Vec<u8, U>",

@@ -1,5 +1,5 @@
 -- What is said of what a reader has, where that comes of a source.
-use Rattle.std.proofs.Common.{◌≡◌, inr, List, [], Bool, Result, Ok, Err, Option, None, Some}
+use Rattle.std.proofs.Common.{inr, List, [], Bool, Result, Ok, Err, Option, None, Some}
 use Rattle.std.specs.Prelude.{IfOk}
 use Rattle.wincode_io.specs.Readers.{ReaderState}
 use Rattle.wincode_io.specs.Sources.{SourceState}

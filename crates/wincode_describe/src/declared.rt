@@ -87,14 +87,16 @@ pub(crate) fn declaration_in<'a>(source: &'a [Token], name: &str) -> Option<Foun
     None
 }
 
-/// The declaration of that name, if there is one.
+/// The first declaration of that name, if there is one.
 fn declaration(alloc: Global, source: &[Token], name: &str) -> DescribeResult<Option<Declaration>> {
     if source.is_empty() || name.is_empty() {
         return Ok(None);
     }
     let mut names = Vec::new(alloc);
     names.push(String::from_str(alloc, name)?)?;
-    Ok(declarations_of(alloc, source, names.as_slice())?.pop())
+    let mut declarations = declarations_of(alloc, source, names.as_slice())?;
+    declarations.truncate(1);
+    Ok(declarations.pop())
 }
 
 /// Refuses a name that isn't declared, and what is declared with faults, or is no described type. How wide the tags are

@@ -26,7 +26,7 @@ use std::alloc::Global;
 use wincode_derive_text::{DeriveError, Kind, Token, note_of, tokens_of};
 
 /// Where a token stands among what stands in front of a field or a case.
-#[derive(Clone, Copy, PartialEq)]
+#[derive(Clone, Copy)]
 pub(crate) enum Over {
     /// In no attribute.
     Between,

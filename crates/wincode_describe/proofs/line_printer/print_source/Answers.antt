@@ -1,4 +1,4 @@
-use Rattle.std.proofs.Common.{◌≡◌, ap, inl, refl, [], Some}
+use Rattle.std.proofs.Common.{ap, inl, refl, [], Some}
 use Rattle.wincode_base.specs.declared.error.ReadError.TheVariants as reading
 use Rattle.wincode_describe.proofs.Sourced.{source_says}
 use Rattle.wincode_describe.proofs.line_printer.print_source.Goals as goal
