@@ -4,7 +4,9 @@ use Rattle.std.proofs.Common.{Option, Some, None, Result, Ok, Err, refl, arith}
 use Rattle.std.proofs.Math.Seq.{drop-cons}
 use Rattle.std.proofs.lemmas.List.{append-nil, drop_all}
 use Rattle.std.specs.Prelude.{option_map, option_and_then}
-use Rattle.wincode_derive_text.specs.Splits.{Taken, TakesIfKnown, between, in_front, none_left, piece, reached, splits, taken, tokens_in, Splits}
+use Rattle.std.specs.String.{string_bytes}
+use Rattle.wincode_derive_text.specs.Splits.{Taken, Takes, TakesIfKnown, begun, between, ended, fence_behind, in_front, none_left, piece, reached, splits, taken}
+use Rattle.wincode_derive_text.specs.Splits.{tokens_in, Splits}
 use Rattle.wincode_derive_text.specs.declared.error.DeriveError.{DeriveError}
 use Rattle.wincode_derive_text.specs.declared.error.DeriveError.TheVariants.{OutOfMemory}
 use Rattle.wincode_derive_text.specs.declared.tokens.Kind.{Kind}
@@ -12,15 +14,22 @@ use Rattle.wincode_derive_text.specs.declared.tokens.Lexer.{Lexer}
 use Rattle.wincode_derive_text.specs.declared.tokens.Place.{Place}
 use Rattle.wincode_derive_text.specs.declared.tokens.Place.TheVariants as place
 
--- a token, and then what else is taken
-pub takes_both : (old middle new : Lexer) (k : Kind) (word : List ℕ) (r : Result Unit DeriveError) (t : Option Taken) → map piece middle.tokens.items
-    ≡ map piece old.tokens.items ++ ((k, word) ∷ []) → TakesIfKnown middle new r t → TakesIfKnown old new r (in_front k word t)
-takes_both old middle new k word r None e h = tt
-takes_both old middle new k word (Ok u) (Some t) e h = (
-  h.0 ∙ ap (λ ts. ts ++ t.ended) e ∙ append_assoc (map piece old.tokens.items) ((k, word) ∷ []) t.ended,
-  h.1,
-)
-takes_both old middle new k word (Err x) (Some t) e h = h
+-- a token, and then what a character behind it begins
+pub takes_both : (old middle new : Lexer) (k : Kind) (c : ℕ) (r : Result Unit DeriveError) → Takes old middle (Ok tt) (ended k (string_bytes old.word) old.fence)
+    → Takes middle new r (begun middle.fence c) → Takes old new r (in_front k (reached old) c)
+takes_both old middle new k c (Ok u) e h =
+    let f : middle.fence ≡ fence_behind k (string_bytes old.word) old.fence = ap (λ r. r.fence) e.1 in
+    let next : Takes middle new (Ok u) (begun (fence_behind k (string_bytes old.word) old.fence) c) = rw f at h in
+    let t = begun (fence_behind k (string_bytes old.word) old.fence) c in (
+      next.0 ∙ ap (λ ts. ts ++ t.ended) e.0 ∙ append_assoc (map piece old.tokens.items) ((k, string_bytes old.word) ∷ []) t.ended,
+      next.1,
+    )
+takes_both old middle new k c (Err x) e h = h
+
+-- no memory, whatever was reached
+pub refused_so : (old middle new : Lexer) (x : DeriveError) (t : Option Taken) → TakesIfKnown old middle (Err x) t → TakesIfKnown old new (Err x) t
+refused_so old middle new x None h = tt
+refused_so old middle new x (Some t) h = h
 
 -- the tokens so far and those of what is left are all of them
 abbrev pub Left : Lexer → List ℕ → Option (List (Kind × List ℕ)) → Type 0

@@ -1,10 +1,11 @@
 //! A source file as tokens.
-ghost use Rattle.std.specs.Prelude.{◌≡◌};
+ghost use Rattle.std.specs.Prelude.{◌≡◌, IfOk, IsOkUnless};
 ghost use Rattle.std.specs.Str.{chars};
 ghost use Rattle.std.specs.String.{string_bytes};
-ghost use Rattle.wincode_derive_text.specs.Splits.{of_word, begun, in_front, ended, kept, closed, passed, behind_colon, behind_slash, in_line, in_block};
+ghost use Rattle.wincode_derive_text.specs.Splits.{of_word, fence_behind, ended, kept, closed, begun, in_front, in_word, behind_colon, behind_slash};
+ghost use Rattle.wincode_derive_text.specs.Splits.{in_quote, ends_before, in_text, passed, in_line, in_block};
 ghost use Rattle.wincode_derive_text.specs.Splits.{reached, taken, Takes, TakesIfKnown, tokens_in, Splits};
-ghost use Rattle.wincode_derive_text.specs.declared.tokens.Kind.TheVariants.{Word as KindWord};
+ghost use Rattle.wincode_derive_text.specs.declared.error.DeriveError.TheVariants.{OutOfMemory};
 
 use crate::error::{DeriveError, DeriveResult, Spot, refused_as};
 use crate::notes::is_note;
@@ -94,6 +95,8 @@ struct Lexer {
     begin: Mark,
     /// How many comments round the next character are to be ended, or how many `#` are to come.
     depth: usize,
+    /// How many `#` end a text that directly follows the last token; none where it isn't raw.
+    fence: Option<usize>,
 }
 
 fn is_of_word(c: char) -> bool
@@ -102,37 +105,28 @@ fn is_of_word(c: char) -> bool
     c.is_ascii_alphanumeric() || c == '_'
 }
 
-/// How many `#` end the raw text that begins behind these tokens, at that byte; none where it isn't raw.
-fn raw_depth(tokens: &[Token], at: usize) -> Option<usize> {
-    let mut depth = 0usize;
-    let mut end = at;
-    for token in tokens.iter().rev() {
-        if token.at.saturating_add(token.text.len()) != end {
-            return None;
+/// How many `#` end a text that directly follows that token; none where it isn't raw.
+fn fence_of(kind: Kind, text: &str, fence: Option<usize>) -> DeriveResult<Option<usize>>
+    ensures fence { IfOk result (λ answer. answer ≡ fence_behind kind text.now fence) }
+    ensures memory { IsOkUnless result OutOfMemory }
+{
+    match (kind, text, fence) {
+        (Kind::Word, "r" | "br" | "cr", _) => Ok(Some(0)),
+        (Kind::Sign, "#", Some(count)) => {
+            // (no memory has room for so many)
+            let more = count.checked_add(1).ok_or(DeriveError::OutOfMemory)?;
+            Ok(Some(more))
         }
-        match (token.kind, token.text.as_str()) {
-            (Kind::Sign, "#") => depth = depth.saturating_add(1),
-            (Kind::Word, "r" | "br" | "cr") => return Some(depth),
-            _ => return None,
-        }
-        end = token.at;
-    }
-    None
-}
-
-/// Where a character stands behind the `"` of that byte.
-fn text_place(tokens: &[Token], at: usize) -> Place {
-    match raw_depth(tokens, at) {
-        Some(_) => Place::Raw,
-        None => Place::Text,
+        _ => Ok(None),
     }
 }
 
 impl Lexer {
     /// Ends the token that was being read.
     fn end(&mut self, alloc: Global, kind: Kind) -> DeriveResult<()>
-        ensures { Takes self.old self.new result (ended kind (string_bytes self.old.word)) }
+        ensures { Takes self.old self.new result (ended kind (string_bytes self.old.word) self.old.fence) }
     {
+        let fence = fence_of(kind, self.word.as_str(), self.fence)?;
         let text = String::from_str(alloc, self.word.as_str())?;
         let Mark { line, column, at } = self.begin;
         self.tokens.push(Token {
@@ -145,18 +139,20 @@ impl Lexer {
         self.word.clear();
         self.place = Place::Between;
         self.depth = 0;
+        self.fence = fence;
         Ok(())
     }
 
     /// A character behind the end of a token.
     fn begin(&mut self, alloc: Global, c: char) -> DeriveResult<()>
-        ensures { TakesIfKnown self.old self.new result (begun c) }
+        ensures { Takes self.old self.new result (begun self.old.fence c) }
     {
         self.word.clear();
         self.depth = 0;
         self.begin = self.here;
         self.place = match c {
-            '"' => text_place(self.tokens.as_slice(), self.here.at),
+            '"' if self.fence.is_some() => Place::Raw,
+            '"' => Place::Text,
             '\'' => Place::Quote,
             ':' => Place::Colon,
             '/' => Place::Slash,
@@ -164,6 +160,7 @@ impl Lexer {
             _ => Place::Between,
         };
         if c.is_whitespace() {
+            self.fence = None;
             return Ok(());
         }
         self.word.push(c)?;
@@ -175,29 +172,25 @@ impl Lexer {
 
     /// A character that may end a token, and then begins the next.
     fn end_and_begin(&mut self, alloc: Global, kind: Kind, c: char) -> DeriveResult<()>
-        ensures { TakesIfKnown self.old self.new result
-            (in_front kind (string_bytes self.old.word) (begun c)) }
+        ensures { Takes self.old self.new result (in_front kind (reached self.old) c) }
     {
         self.end(alloc, kind)?;
         self.begin(alloc, c)
     }
 
-    /// A character behind a word: a quote there is the prime of a ghost name, but for that of `b'x'`.
-    fn end_word(&mut self, alloc: Global, c: char) -> DeriveResult<()>
-        ensures { TakesIfKnown self.old self.new result
-            (in_front KindWord (string_bytes self.old.word) (begun c)) }
+    /// The next character behind one of a word: a quote there is the prime of a ghost name, but for that of `b'x'`.
+    fn worded(&mut self, alloc: Global, c: char) -> DeriveResult<()>
+        ensures { Takes self.old self.new result (in_word (reached self.old) c) }
     {
-        if c == '\'' && self.word.as_str() != "b" {
-            self.word.push(c)?;
-            return Ok(());
+        if is_of_word(c) || c == '\'' && self.word.as_str() != "b" {
+            return self.keep(c, Place::Word);
         }
         self.end_and_begin(alloc, Kind::Word, c)
     }
 
     /// A character that belongs to the token, and where the next then stands.
     fn keep(&mut self, c: char, place: Place) -> DeriveResult<()>
-        ensures { Takes self.old self.new result
-            (kept place (string_bytes self.old.word) self.old.depth c) }
+        ensures { Takes self.old self.new result (kept place (reached self.old) c) }
     {
         self.word.push(c)?;
         self.place = place;
@@ -206,14 +199,16 @@ impl Lexer {
 
     /// A character that belongs to the token, and ends it.
     fn close(&mut self, alloc: Global, c: char, kind: Kind) -> DeriveResult<()>
-        ensures { Takes self.old self.new result (closed kind (string_bytes self.old.word) c) }
+        ensures { Takes self.old self.new result (closed kind (reached self.old) c) }
     {
         self.word.push(c)?;
         self.end(alloc, kind)
     }
 
     /// The next character of a quote: of a lifetime or a character.
-    fn quoted(&mut self, alloc: Global, c: char) -> DeriveResult<()> {
+    fn quoted(&mut self, alloc: Global, c: char) -> DeriveResult<()>
+        ensures { Takes self.old self.new result (in_quote self.old.place (reached self.old) c) }
+    {
         match self.place {
             Place::Escape => self.keep(c, Place::Escaped),
             Place::Escaped if c != '\'' && c != '\n' => self.keep(c, Place::Escaped),
@@ -225,28 +220,31 @@ impl Lexer {
         }
     }
 
+    /// A character that ends a raw text, if no `#` are to follow it.
+    fn end_before(&mut self, alloc: Global, c: char, count: usize) -> DeriveResult<()>
+        ensures { Takes self.old self.new result (ends_before count (reached self.old) c) }
+    {
+        if count == 0 {
+            return self.close(alloc, c, Kind::Literal);
+        }
+        self.depth = count;
+        self.keep(c, Place::RawEnd)
+    }
+
     /// The next character of a text.
-    fn texted(&mut self, alloc: Global, c: char) -> DeriveResult<()> {
+    fn texted(&mut self, alloc: Global, c: char) -> DeriveResult<()>
+        ensures { Takes self.old self.new result (in_text self.old.place (reached self.old) c) }
+    {
         match self.place {
-            Place::Text if c == '"' => self.close(alloc, c, Kind::Literal),
-            Place::Text if c == '\\' => self.keep(c, Place::TextEscape),
-            Place::TextEscape => self.keep(c, Place::Text),
-            Place::RawEnd if c == '#' && self.depth <= 1 => self.close(alloc, c, Kind::Literal),
-            Place::RawEnd if c == '#' => {
-                self.depth = self.depth.saturating_sub(1);
-                self.keep(c, Place::RawEnd)
-            }
+            Place::RawEnd if c == '#' => self.end_before(alloc, c, self.depth.saturating_sub(1)),
             Place::Raw | Place::RawEnd if c == '"' => {
-                match raw_depth(self.tokens.as_slice(), self.begin.at) {
-                    None | Some(0) => self.close(alloc, c, Kind::Literal),
-                    Some(depth) => {
-                        self.depth = depth;
-                        self.keep(c, Place::RawEnd)
-                    }
-                }
+                self.end_before(alloc, c, self.fence.unwrap_or(0))
             }
-            Place::RawEnd => self.keep(c, Place::Raw),
-            place => self.keep(c, place),
+            Place::Raw | Place::RawEnd => self.keep(c, Place::Raw),
+            Place::TextEscape => self.keep(c, Place::Text),
+            _ if c == '"' => self.close(alloc, c, Kind::Literal),
+            _ if c == '\\' => self.keep(c, Place::TextEscape),
+            _ => self.keep(c, Place::Text),
         }
     }
 
@@ -260,12 +258,13 @@ impl Lexer {
         self.word.clear();
         self.place = Place::Between;
         self.depth = 0;
+        self.fence = None;
         Ok(())
     }
 
     /// The next character behind a colon: another, or what stands behind the sign.
     fn coloned(&mut self, alloc: Global, c: char) -> DeriveResult<()>
-        ensures { TakesIfKnown self.old self.new result (behind_colon (string_bytes self.old.word) c) }
+        ensures { Takes self.old self.new result (behind_colon (reached self.old) c) }
     {
         if c == ':' {
             return self.close(alloc, c, Kind::Sign);
@@ -275,8 +274,7 @@ impl Lexer {
 
     /// The next character behind a slash: a comment begins, or the slash is a sign.
     fn slashed(&mut self, alloc: Global, c: char) -> DeriveResult<()>
-        ensures { TakesIfKnown self.old self.new result
-            (behind_slash (string_bytes self.old.word) self.old.depth c) }
+        ensures { Takes self.old self.new result (behind_slash (reached self.old) c) }
     {
         match c {
             '/' => self.keep(c, Place::Comment),
@@ -290,8 +288,7 @@ impl Lexer {
 
     /// The next character of a comment that ends with its line.
     fn lined(&mut self, alloc: Global, c: char) -> DeriveResult<()>
-        ensures { TakesIfKnown self.old self.new result
-            (in_line (string_bytes self.old.word) self.old.depth c) }
+        ensures { TakesIfKnown self.old self.new result (in_line (reached self.old) c) }
     {
         if c == '\n' {
             return self.end_comment(alloc);
@@ -302,7 +299,7 @@ impl Lexer {
     /// The next character of a comment that `*/` ends.
     fn blocked(&mut self, alloc: Global, c: char) -> DeriveResult<()>
         ensures { TakesIfKnown self.old self.new result
-            (in_block self.old.place (string_bytes self.old.word) self.old.depth c) }
+            (in_block self.old.place (reached self.old) c) }
     {
         match self.place {
             Place::BlockStar if c == '/' && self.depth > 1 => {
@@ -330,8 +327,7 @@ impl Lexer {
     {
         match self.place {
             Place::Between => self.begin(alloc, c),
-            Place::Word if is_of_word(c) => self.keep(c, Place::Word),
-            Place::Word => self.end_word(alloc, c),
+            Place::Word => self.worded(alloc, c),
             Place::Colon => self.coloned(alloc, c),
             Place::Slash => self.slashed(alloc, c),
             Place::Comment => self.lined(alloc, c),
@@ -388,6 +384,7 @@ pub fn tokens_of(alloc: Global, source: &str) -> DeriveResult<Vec<Token>>
         here: first,
         begin: first,
         depth: 0,
+        fence: None,
     };
     for c in source.chars() {
         lexer.step(alloc, c)?;

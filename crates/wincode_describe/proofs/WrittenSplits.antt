@@ -12,7 +12,7 @@ use Rattle.std.specs.Str.Parse.{digits_value}
 use Rattle.wincode_derive_text.specs.Splits.{Splits, all_of_word, of_word, tokens_from, tokens_in}
 use Rattle.wincode_derive_text.specs.declared.tokens.Token.{Token}
 use Rattle.std.specs.Global.{Vec}
-use Rattle.wincode_derive_text.proofs.SplitLaws.{and_left, and_right, ascii_of_word, word_before, digits_of_word}
+use Rattle.wincode_derive_text.proofs.SplitLaws.{and_left, and_right, ascii_of_word, ends_words, word_before, digits_of_word}
 use Rattle.wincode_describe.proofs.ReadsBack.{type_back}
 use Rattle.wincode_describe.specs.Forms.{Form, seen, Number, NotZero, Standard, Flag, Letter, Nothing, Words, Bytes, ByteBlock, Maybe, Either, Held, Many, Several}
 use Rattle.wincode_describe.specs.Forms.{Pairs, Block, Group, Record, Both, Named, Choice, LastCase, OneCase}
@@ -52,7 +52,7 @@ own : IsNumeralModel (λ ds. all_ascii_digits ds ≡ true) (digits_value 10)
 own = numerals_by_value _ tells_all_ascii_digits
 
 -- a number in front of what is left
-number_before : (n : ℕ) (c : ℕ) (cs : List ℕ) (ts : List Piece) → n < 2 ^ 64 → of_word c ≡ false → tokens_from (c ∷ cs) ≡ Some ts
+number_before : (n : ℕ) (c : ℕ) (cs : List ℕ) (ts : List Piece) → n < 2 ^ 64 → ends_words c ≡ true → tokens_from (c ∷ cs) ≡ Some ts
     → tokens_from (decimal n ++ (c ∷ cs)) ≡ Some (word (decimal n) ∷ ts)
 number_before n c cs ts h o e = word_before (decimal n) c cs ts (decimal_nonempty n h) (digits_of_word (decimal n) (digits_decimal own n h)) o e
 
@@ -161,8 +161,8 @@ braces_end : (cs : List ℕ) (ts : List Piece) → tokens_from cs ≡ Some ts �
 unfolding encode_utf8
 braces_end cs ts h = rw h refl
 
--- What is written, in front of a character that is of no word, splits as it is spelled, in front of what that splits as.
-pub splits_as : (f : Form) (c : ℕ) (cs : List ℕ) (ts : List Piece) → CanSplit f → of_word c ≡ false → tokens_from (c ∷ cs) ≡ Some ts
+-- What is written, in front of a character that ends a word, splits as it is spelled, in front of what that splits as.
+pub splits_as : (f : Form) (c : ℕ) (cs : List ℕ) (ts : List Piece) → CanSplit f → ends_words c ≡ true → tokens_from (c ∷ cs) ≡ Some ts
     → tokens_from (written f ++ (c ∷ cs)) ≡ Some (spelled f ts)
 unfolding encode_utf8
 splits_as (Number i) c cs ts k o h = word_before (integer_name i) c cs ts (integer_some i) (integer_word i) o h

@@ -1,4 +1,4 @@
-use Rattle.std.proofs.Common.{[], ap, length, rules}
+use Rattle.std.proofs.Common.{[], None, ap, length, rules}
 use Rattle.std.proofs.lemmas.Iterator.{YieldsList-from_chars}
 use Rattle.std.proofs.lemmas.Iterator.Consumers.{YieldsList-turn, YieldsList-end}
 use Rattle.std.proofs.lemmas.List.{length_push}
@@ -13,8 +13,8 @@ use Rattle.wincode_derive_text.proofs.tokens.tokens_of.Goals as goal
 pub loop-c-init : goal.loop-c-init
 loop-c-init c =
     let first : Mark = record { line = 1; column = 1; at = 0 } in
-    left_first (record { tokens = c.new.result; word = c.new-2.result; place = place.Between; here = first; begin = first; depth = 0 })
-    (chars c.args.source.now) c.new.ensures.items (ap (λ w. record { place = place.Between; word = w; depth = 0 }) c.new-2.ensures.bytes)
+    left_first (record { tokens = c.new.result; word = c.new-2.result; place = place.Between; here = first; begin = first; depth = 0; fence = None })
+    (chars c.args.source.now) c.new.ensures.items (ap (λ w. record { place = place.Between; word = w; depth = 0; fence = None }) c.new-2.ensures.bytes)
 
 pub loop-c-preserved : goal.loop-c-preserved
 loop-c-preserved c =

@@ -1,6 +1,5 @@
-use Rattle.wincode_derive_text.specs.Splits.{begun}
 use Rattle.wincode_derive_text.proofs.Splitting.{takes_both}
 use Rattle.wincode_derive_text.proofs.tokens.Lexer.end_and_begin.Goals as goal
 
 pub returns : goal.returns
-returns c = takes_both c.args.self.now c.end.new.self c.begin.new.self c.args.kind _ c.begin.result (begun c.args.c) c.in_ok-end.ensures.0 c.begin.ensures
+returns c = takes_both c.args.self.now c.end.new.self c.begin.new.self c.args.kind c.args.c c.begin.result c.in_ok-end.ensures c.begin.ensures
