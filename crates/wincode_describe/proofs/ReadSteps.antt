@@ -1,19 +1,19 @@
 -- One reading after another.
-use Rattle.std.proofs.Common.{◌≡◌, sym, ap, subst, refl, ℕ, ◌-◌, ◌≤◌, suc, zero, length, nat_eq, Bool, true, false, cond, List, [], ◌∷◌, Option, Some, codes}
+use Rattle.std.proofs.Common.{◌≡◌, sym, ap, subst, refl, ℕ, ◌-◌, ◌/◌, ◌≤◌, suc, zero, length, nat_eq, nat_lt, Bool, true, false, cond, List, [], ◌∷◌, Option, Some, codes}
 use Rattle.std.proofs.Common.{None, Result, Ok, Err, arith}
-use Rattle.std.proofs.lemmas.Bool.{eqb-true}
+use Rattle.std.proofs.lemmas.Bool.{eqb-true, ltb-true, ltb-false}
+use Rattle.std.proofs.Math.Arith.{half_le}
 use Rattle.std.specs.Bool.{OnFalse}
 use Rattle.wincode_describe.specs.Forms.{Form, seen}
 use Rattle.wincode_describe.specs.declared.described.Described.{Described}
 use Rattle.wincode_describe.specs.declared.parsing.Opening.{Opening}
 use Rattle.std.specs.Global.{Vec}
-use Rattle.wincode_describe.specs.Phrases.{Piece, Reads, HasTokens, IsRefusal, and_then, on, left, pieces, front_word, word_front, behind_sign}
+use Rattle.wincode_describe.specs.Phrases.{Piece, Reads, HasTokens, IsRefusal, and_then, on, left, pieces, front_word, word_front, behind_sign, behind_name}
 use Rattle.wincode_describe.specs.Sources.{PassesHead, IsFound, declaration_of}
 use Rattle.wincode_describe.specs.declared.declared.Found.{Found}
 use Rattle.wincode_derive_text.specs.declared.tokens.Token.{Token}
-use Rattle.wincode_describe.specs.Readers.{Makes, Reader, Readers, readers, one_more, no_more, unread, members_by, tuple_by, plain_of}
-use Rattle.wincode_describe.specs.Readers.{sign_front, opening_of, behind_word, word_by, ended, whole, Parses, found_as}
-use Rattle.wincode_derive_text.specs.declared.tokens.Kind.TheVariants as kind
+use Rattle.wincode_describe.specs.Readers.{Makes, Reader, Readers, readers, one_more, no_more, unread, members_by, tuple_by, plain_of, array_by, item_by}
+use Rattle.wincode_describe.specs.Readers.{array_or_word, opening_of, behind_word, word_by, type_by, range_by, range_form, ended, whole, Parses, found_as}
 use Rattle.wincode_describe.specs.declared.error.DescribeError.{DescribeError}
 use Rattle.wincode_describe.specs.declared.error.DescribeError.TheVariants.{OutOfMemory}
 
@@ -138,37 +138,61 @@ pub no_word : (src : List Piece) {X Y : Type 0} (sees : Y → X) (word : List �
 no_word src sees [] old middle k r rest e h = rw h tt
 no_word src sees (c ∷ cs) old middle k r rest e h = absurd (omega arith)
 
--- the word that is there
-abbrev word_in : Option (List ℕ × List Piece) → List ℕ
-word_in None = []
-word_in (Some w) = w.0
-
--- `str` is no type
-word_text : (source : List Piece) (below : Readers) (w : List ℕ) (rest : List Piece) → w ≡ codes "str" → word_by source below (w, rest) ≡ None
-word_text source below w rest e = rw e refl
-
-pub no_text : (source : List Piece) (n : ℕ) (ts rest : List Piece) → word_front ts ≡ Some (codes "str", rest) → (readers source n).types ts ≡ None
-unfolding readers
-no_text source zero ts rest h = refl
-no_text source (suc n) ((kind.Word, c ∷ cs) ∷ more) rest h = word_text source (readers source n) (c ∷ cs) more (ap word_in h)
-no_text source (suc n) _ rest h = absurd (cc)
-
-pub text_read : (source : List Piece) {X Y : Type 0} (sees : Y → X) (n : ℕ) (ts rest : List Piece) (k : Form × List Piece → Option (X × List Piece))
-    (r : Result Y DescribeError) (after : List Piece) → word_front ts ≡ Some (codes "str", rest)
-    → Reads source sees (and_then ((readers source n).types ts) k) r after
-text_read source sees n ts rest k r after h = rw (no_text source n ts rest h) tt
-
 -- another word stays
-pub word_left : (src : List Piece) {X Y : Type 0} (sees : Y → X) (b : Bool) (old middle : List Piece) (f : List Piece → Option (X × List Piece)) (r : Result Y DescribeError)
-    (rest : List Piece) → OnFalse b (middle ≡ old) → b ≡ false → Reads src sees (f middle) r rest → Reads src sees (f old) r rest
-word_left src sees true old middle f r rest k t g = absurd (cc)
-word_left src sees false old middle f r rest k t g =
-    let P : List Piece → Type 0 = λ l. Reads src sees (f l) r rest in
-    subst P k g
+pub name_left : (src : List Piece) {X Y : Type 0} (sees : Y → X) (w : List ℕ) (old : List Piece) (b : Bool) (middle : List Piece) (f : List Piece → Option (X × List Piece))
+    (other : List Piece → Option (X × List Piece)) (r : Result Y DescribeError) (rest : List Piece) → behind_name w old ≡ cond b (Some middle) None
+    → OnFalse b (middle ≡ old) → b ≡ false → Reads src sees (other middle) r rest → Reads src sees (on (behind_name w old) f (other old)) r rest
+name_left src sees w old true middle f other r rest h k t g = absurd (cc)
+name_left src sees w old false middle f other r rest h k t g =
+    let P : List Piece → Type 0 = λ l. Reads src sees (other l) r rest in
+    rw h (subst P k g)
 
--- one type and the closing bracket
-abbrev pub held_by : Reader → (Form → Form) → Reader
-held_by types f ts = and_then (types ts) (λ d. and_then (sign_front (codes ">") d.1) (λ e. Some (f d.0, e.1)))
+-- What is read of a text alone is so by any source.
+pub anywhere : (src : List Piece) {X Y : Type 0} (view : Y → X) (o : Option (X × List Piece)) (r : Result Y DescribeError) (rest : List Piece)
+    → Reads [] view o r rest → Reads src view o r rest
+anywhere src view None r rest h = tt
+anywhere src view (Some x) (Ok y) rest h = h
+anywhere src view (Some x) (Err e) rest h = memory src e h
+
+-- a type that begins with a word, and with no bracket
+pub worded : (src : List Piece) (below : Readers) (ts one two : List Piece) (a b : Bool) (w : List ℕ) (rest : List Piece) (r : Result Described DescribeError)
+    (after : List Piece) → behind_sign (codes "(") ts ≡ cond a (Some one) None → OnFalse a (one ≡ ts) → a ≡ false
+    → behind_sign (codes "[") one ≡ cond b (Some two) None → OnFalse b (two ≡ one) → b ≡ false → front_word w rest two
+    → Reads src seen (word_by src below (w, rest)) r after → Reads src seen (type_by src below ts) r after
+worded src below ts one two a b w rest r after taken kept is_not taken_two kept_two is_not_two word h =
+    sign_left src seen (codes "(") ts a one below.tuple (array_or_word src below) r after taken kept is_not
+    (sign_left src seen (codes "[") one b two (array_by below.types) (λ ts. and_then (word_front ts) (word_by src below)) r after taken_two kept_two is_not_two
+    (next_word src seen w two rest (word_by src below) r after word h))
+
+-- as many levels as are given, and the readers of types for fewer
+levels_is : (source : List Piece) (n : ℕ) → (readers source n).levels ≡ n
+unfolding readers
+levels_is source zero = refl
+levels_is source (suc n) = ap suc (levels_is source n)
+
+chosen_types : (source : List Piece) (n k : ℕ) (b : Bool) → nat_lt n k ≡ b → k ≤ suc n
+    → (k ≤ n → (readers source n).types_of k ≡ (readers source k).types)
+    → cond b (type_by source (readers source n)) ((readers source n).types_of k) ≡ (readers source k).types
+unfolding readers
+chosen_types source n k true e l below = let over = ltb-true n k e in let same : k ≡ suc n = omega arith in rw same refl
+chosen_types source n k false e l below = let under = ltb-false n k e in below (omega arith)
+
+types_below : (source : List Piece) (n k : ℕ) → k ≤ n → (readers source n).types_of k ≡ (readers source k).types
+unfolding readers
+types_below source zero zero l = refl
+types_below source zero (suc k) l = absurd (omega arith)
+types_below source (suc n) k l =
+    let P : ℕ → Type 0 = λ m. cond (nat_lt m k) (type_by source (readers source n)) ((readers source n).types_of k) ≡ (readers source k).types in
+    subst P (sym (levels_is source n)) (chosen_types source n k (nat_lt n k) refl l (types_below source n k))
+
+-- the bound of a range is read with half of the levels
+pub range_read : (source : List Piece) (n : ℕ) (ts : List Piece) (r : Result Described DescribeError) (rest : List Piece)
+    → Reads source seen (item_by (readers source (n / 2)).types range_form ts) r rest → Reads source seen (range_by (readers source n) ts) r rest
+range_read source n ts r rest h =
+    let P : Reader → Type 0 = λ types. Reads source seen (item_by types range_form ts) r rest in
+    let half : (readers source n).types_of (n / 2) ≡ (readers source (n / 2)).types = types_below source n (n / 2) (half_le (omega arith)) in
+    let Q : ℕ → Type 0 = λ m. Reads source seen (item_by ((readers source n).types_of (m / 2)) range_form ts) r rest in
+    subst Q (sym (levels_is source n)) (subst P (sym half) h)
 
 -- what is chosen by a word, and where nothing is
 pub chosen_is : (src : List Piece) {A X Y : Type 0} (sees : Y → X) (o : Option A) (x : A) (k : A → Option (X × List Piece)) (r : Result Y DescribeError) (rest : List Piece) → o
@@ -240,20 +264,18 @@ found_of source None r rest h = tt
 found_of source (Some f) (Ok d) rest h = h.0
 found_of source (Some f) (Err e) rest h = h
 
-pub named_found : (source : List Piece) (b : Bool) (o : Option (Bool × List Piece)) (f : Found) (below : Readers) (r : Result Described DescribeError)
+pub named_found : (source : List Piece) (o : Option (Bool × List Piece)) (f : Found) (below : Readers) (r : Result Described DescribeError)
     → IsFound o (Some f) → (f.is_noted ≡ false → Parses source (found_as below (f.is_struct, left f.tokens)) r)
-    → Parses source (cond b None (and_then o (found_as below))) r
-named_found source true o f below r h g = tt
-named_found source false None f below r h g = tt
-named_found source false (Some (k, ts)) f below r h g = rw (sym h.0, sym h.1) (g h.2)
+    → Parses source (and_then o (found_as below)) r
+named_found source None f below r h g = tt
+named_found source (Some (k, ts)) f below r h g = rw (sym h.0, sym h.1) (g h.2)
 
 -- and of an empty source nothing is known
 parses_any : (p : Piece) (source : List Piece) (o : Option Form) (e : DescribeError) → Parses (p ∷ source) o (Err e)
 parses_any p source None e = tt
 parses_any p source (Some f) e = tt
 
-pub named_refused : (source : List Piece) (b : Bool) (name : List ℕ) (below : Readers) (e : DescribeError)
-    → Parses source (cond b None (and_then (declaration_of name 0 source) (found_as below))) (Err e)
-named_refused [] true name below e = tt
-named_refused [] false name below e = tt
-named_refused (p ∷ source) b name below e = parses_any p source (cond b None (and_then (declaration_of name 0 (p ∷ source)) (found_as below))) e
+pub named_refused : (source : List Piece) (name : List ℕ) (below : Readers) (e : DescribeError)
+    → Parses source (and_then (declaration_of name 0 source) (found_as below)) (Err e)
+named_refused [] name below e = tt
+named_refused (p ∷ source) name below e = parses_any p source (and_then (declaration_of name 0 (p ∷ source)) (found_as below)) e

@@ -10,9 +10,9 @@ use Rattle.wincode_describe.specs.Forms.{Block, Group, Record, Both, Named, Choi
 use Rattle.wincode_describe.specs.Sources.{heads}
 use Rattle.wincode_describe.specs.declared.tokens.Over.{Over}
 use Rattle.wincode_describe.specs.declared.tokens.Over.TheVariants as over
-use Rattle.wincode_describe.specs.Phrases.{Piece, on, number_of, number_front, word_front, behind_sign}
+use Rattle.wincode_describe.specs.Phrases.{Piece, on, number_of, number_front, word_front, behind_sign, behind_name}
 use Rattle.wincode_describe.proofs.ReadSteps.{members_is, tuple_is}
-use Rattle.wincode_describe.specs.Readers.{Readers, readers, type_by, list_form, array_form, greatest_of}
+use Rattle.wincode_describe.specs.Readers.{Readers, readers, no_more, type_by, list_form, array_form, greatest_of}
 use Rattle.wincode_describe.specs.Spelled.{word, sign, spelled, Within, IsForm, IsType, AreFields, AreCases}
 use Rattle.wincode_describe.specs.Written.{integer_name, nonzero_name, std_name}
 use Rattle.wincode_describe.specs.declared.described.Integer.{Integer}
@@ -37,43 +37,46 @@ word_back (c ∷ cs) rest h = refl
 number_in_front : (n : ℕ) (rest : List Piece) → n < 2 ^ 64 → number_front (word (decimal n) ∷ rest) ≡ Some (n, rest)
 number_in_front n rest h = rw (word_back (decimal n) rest (decimal_nonempty n h), number_back n h) refl
 
-integer_back : (i : Integer) (source : List Piece) (below : Readers) (rest : List Piece) → type_by source below (word (integer_name i) ∷ rest) ≡ Some (Number i, rest)
-integer_back U8 source below rest = refl
-integer_back U16 source below rest = refl
-integer_back U32 source below rest = refl
-integer_back U64 source below rest = refl
-integer_back U128 source below rest = refl
-integer_back Usize source below rest = refl
-integer_back I8 source below rest = refl
-integer_back I16 source below rest = refl
-integer_back I32 source below rest = refl
-integer_back I64 source below rest = refl
-integer_back I128 source below rest = refl
-integer_back Isize source below rest = refl
+integer_back : (i : Integer) (source : List Piece) (below : Readers) (rest : List Piece)
+    → (type_by source below (word (integer_name i) ∷ rest) ≡ Some (Number i, rest)) × (behind_name (codes "str") (word (integer_name i) ∷ rest) ≡ None)
+integer_back U8 source below rest = (refl, refl)
+integer_back U16 source below rest = (refl, refl)
+integer_back U32 source below rest = (refl, refl)
+integer_back U64 source below rest = (refl, refl)
+integer_back U128 source below rest = (refl, refl)
+integer_back Usize source below rest = (refl, refl)
+integer_back I8 source below rest = (refl, refl)
+integer_back I16 source below rest = (refl, refl)
+integer_back I32 source below rest = (refl, refl)
+integer_back I64 source below rest = (refl, refl)
+integer_back I128 source below rest = (refl, refl)
+integer_back Isize source below rest = (refl, refl)
 
-nonzero_back : (i : Integer) (source : List Piece) (below : Readers) (rest : List Piece) → type_by source below (word (nonzero_name i) ∷ rest) ≡ Some (NotZero i, rest)
-nonzero_back U8 source below rest = refl
-nonzero_back U16 source below rest = refl
-nonzero_back U32 source below rest = refl
-nonzero_back U64 source below rest = refl
-nonzero_back U128 source below rest = refl
-nonzero_back Usize source below rest = refl
-nonzero_back I8 source below rest = refl
-nonzero_back I16 source below rest = refl
-nonzero_back I32 source below rest = refl
-nonzero_back I64 source below rest = refl
-nonzero_back I128 source below rest = refl
-nonzero_back Isize source below rest = refl
+nonzero_back : (i : Integer) (source : List Piece) (below : Readers) (rest : List Piece)
+    → (type_by source below (word (nonzero_name i) ∷ rest) ≡ Some (NotZero i, rest)) × (behind_name (codes "str") (word (nonzero_name i) ∷ rest) ≡ None)
+nonzero_back U8 source below rest = (refl, refl)
+nonzero_back U16 source below rest = (refl, refl)
+nonzero_back U32 source below rest = (refl, refl)
+nonzero_back U64 source below rest = (refl, refl)
+nonzero_back U128 source below rest = (refl, refl)
+nonzero_back Usize source below rest = (refl, refl)
+nonzero_back I8 source below rest = (refl, refl)
+nonzero_back I16 source below rest = (refl, refl)
+nonzero_back I32 source below rest = (refl, refl)
+nonzero_back I64 source below rest = (refl, refl)
+nonzero_back I128 source below rest = (refl, refl)
+nonzero_back Isize source below rest = (refl, refl)
 
-std_back : (k : StdType) (source : List Piece) (below : Readers) (rest : List Piece) → type_by source below (word (std_name k) ∷ rest) ≡ Some (Standard k, rest)
-std_back std.F32 source below rest = refl
-std_back std.F64 source below rest = refl
-std_back std.Duration source below rest = refl
-std_back std.SystemTime source below rest = refl
-std_back std.Ipv4Addr source below rest = refl
-std_back std.Ipv6Addr source below rest = refl
-std_back std.SocketAddrV4 source below rest = refl
-std_back std.SocketAddrV6 source below rest = refl
+std_back : (k : StdType) (source : List Piece) (below : Readers) (rest : List Piece)
+    → (type_by source below (word (std_name k) ∷ rest) ≡ Some (Standard k, rest)) × (behind_name (codes "str") (word (std_name k) ∷ rest) ≡ None)
+std_back std.F32 source below rest = (refl, refl)
+std_back std.F64 source below rest = (refl, refl)
+std_back std.Duration source below rest = (refl, refl)
+std_back std.SystemTime source below rest = (refl, refl)
+std_back std.Ipv4Addr source below rest = (refl, refl)
+std_back std.Ipv6Addr source below rest = (refl, refl)
+std_back std.SocketAddrV4 source below rest = (refl, refl)
+std_back std.SocketAddrV6 source below rest = (refl, refl)
 
 list_many : (s : LengthScheme) (d : Form) → (d ≡ Number U8 → ⊥) → list_form s d ≡ Many s d
 list_many s (Number U8) h = absurd (h refl)
@@ -99,6 +102,21 @@ begins_braces (Many Eight d) rest = refl
 begins_braces (Many Short d) rest = refl
 begins_braces (Both d e) rest = begins_braces d (sign (codes ",") ∷ spelled e rest)
 begins_braces _ rest = refl
+
+-- a type begins with another word than `str`, or with none
+begins_no_text : (f : Form) (n : ℕ) (rest : List Piece) → IsForm f false n → behind_name (codes "str") (spelled f rest) ≡ None
+begins_no_text (Number i) n rest h = (integer_back i [] no_more rest).1
+begins_no_text (NotZero i) n rest h = (nonzero_back i [] no_more rest).1
+begins_no_text (Standard k) n rest h = (std_back k [] no_more rest).1
+begins_no_text (Bytes Eight) n rest h = refl
+begins_no_text (Bytes Short) n rest h = refl
+begins_no_text (Many Eight d) n rest h = refl
+begins_no_text (Many Short d) n rest h = refl
+begins_no_text (Both d e) n rest h = absurd h
+begins_no_text (Named s d) n rest h = absurd h
+begins_no_text (LastCase t d) n rest h = absurd h
+begins_no_text (OneCase t d e) n rest h = absurd h
+begins_no_text _ n rest h = refl
 
 -- each type takes a level
 none_within : (f : Form) (b : Bool) → IsForm f b 0 → ⊥
@@ -145,21 +163,25 @@ byte_block_more source k (suc n) rest h f = rw (number_in_front k (sign (codes "
 
 types_more : (source : List Piece) (n : ℕ) → Back source n → (f : Form) (rest : List Piece) → IsForm f false (suc n) → (readers source (suc n)).types (spelled f rest) ≡ Some (f, rest)
 unfolding readers
-types_more source n b (Number i) rest h = integer_back i source (readers source n) rest
-types_more source n b (NotZero i) rest h = nonzero_back i source (readers source n) rest
-types_more source n b (Standard k) rest h = std_back k source (readers source n) rest
+types_more source n b (Number i) rest h = (integer_back i source (readers source n) rest).0
+types_more source n b (NotZero i) rest h = (nonzero_back i source (readers source n) rest).0
+types_more source n b (Standard k) rest h = (std_back k source (readers source n) rest).0
 types_more source n b Flag rest h = refl
 types_more source n b Letter rest h = refl
 types_more source n b Nothing rest h = tuple_is source n (sign (codes ")") ∷ rest)
 types_more source n b Words rest h = refl
 types_more source n b (Bytes s) rest h = bytes_more source s n rest h
 types_more source n b (ByteBlock k) rest h = byte_block_more source k n rest h.0 h.1
-types_more source n b (Maybe d) rest h = rw (b.types d (sign (codes ">") ∷ rest) h) refl
+types_more source n b (Maybe d) rest h = rw (begins_no_text d n (sign (codes ">") ∷ rest) h, b.types d (sign (codes ">") ∷ rest) h) refl
 types_more source n b (Either d e) rest h = rw (b.types d (sign (codes ",") ∷ spelled e (sign (codes ">") ∷ rest)) h.0, b.types e (sign (codes ">") ∷ rest) h.1) refl
-types_more source n b (Held d) rest h = rw (b.types d (sign (codes ">") ∷ rest) h) refl
-types_more source n b (Many Eight d) rest h = rw (b.types d (sign (codes ">") ∷ rest) h.0, list_many Eight d h.1) refl
+types_more source n b (Held d) rest h = rw (begins_no_text d n (sign (codes ">") ∷ rest) h, b.types d (sign (codes ">") ∷ rest) h) refl
+types_more source n b (Many Eight d) rest h = rw (
+  begins_no_text d n (sign (codes ">") ∷ rest) h.0,
+  b.types d (sign (codes ">") ∷ rest) h.0,
+  list_many Eight d h.1,
+) refl
 types_more source n b (Many Short d) rest h = rw (b.types d (sign (codes ">") ∷ rest) h.0, list_many Short d h.1) refl
-types_more source n b (Several d) rest h = rw (b.types d (sign (codes ">") ∷ rest) h) refl
+types_more source n b (Several d) rest h = rw (begins_no_text d n (sign (codes ">") ∷ rest) h, b.types d (sign (codes ">") ∷ rest) h) refl
 types_more source n b (Pairs (Both d e)) rest h = rw (b.types d (sign (codes ",") ∷ spelled e (sign (codes ">") ∷ rest)) h.0, b.types e (sign (codes ">") ∷ rest) h.1)
     refl
 types_more source n b (Block k d) rest h = rw (

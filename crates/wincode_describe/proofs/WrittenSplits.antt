@@ -347,7 +347,7 @@ made_back f (Ok d) h = h
 made_back f (Err e) h = h
 
 -- and what is parsed by a source is what is known of it
-known_as : (source : List Piece) (o : Option Form) (d : Described) → Parses source o (Ok d) → IsKnownAs o (seen d)
+pub known_as : (source : List Piece) (o : Option Form) (d : Described) → Parses source o (Ok d) → IsKnownAs o (seen d)
 known_as source None d h = tt
 known_as source (Some f) d h = h
 

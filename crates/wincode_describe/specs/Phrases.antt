@@ -51,6 +51,12 @@ behind_sign s [] = None
 behind_sign s ((kind.Sign, t) ∷ rest) = if bytes_eq t s then Some rest else None
 behind_sign s (_ ∷ rest) = None
 
+-- what stands behind this word
+abbrev pub behind_name : List ℕ → List Piece → Option (List Piece)
+behind_name w [] = None
+behind_name w ((kind.Word, t) ∷ rest) = if bytes_eq t w then Some rest else None
+behind_name w (_ ∷ rest) = None
+
 -- the word in front, and the rest
 abbrev pub word_front : List Piece → Option (List ℕ × List Piece)
 word_front ((kind.Word, c ∷ cs) ∷ rest) = Some (c ∷ cs, rest)

@@ -1,13 +1,14 @@
 -- How a type is read of its words and signs.
-use Rattle.std.specs.Prelude.{◌≡◌, ◌^◌, ◌-◌, ℕ, zero, suc, Bool, true, false, if◌then◌else◌, nat_lt, nat_eq, ◌||◌, List, [], ◌∷◌, codes, bytes_eq}
+use Rattle.std.specs.Prelude.{◌≡◌, ◌^◌, ◌-◌, ◌/◌, ℕ, zero, suc, Bool, true, false, if◌then◌else◌, nat_lt, nat_eq, ◌||◌, List, [], ◌∷◌, drop, codes, bytes_eq}
 use Rattle.std.specs.Prelude.{Option, Some, None, Result, Ok, Err, option_map}
 use Rattle.std.specs.Fmt.{decimal}
 use Rattle.std.specs.Str.{chars}
 use Rattle.wincode_derive_text.specs.Splits.{tokens_in}
 use Rattle.wincode_describe.specs.Forms.{Form, seen, Number, NotZero, Standard, Flag, Letter, Nothing, Words, Bytes, ByteBlock, Maybe, Either, Held, Many, Several}
 use Rattle.wincode_describe.specs.Forms.{Pairs, Block, Group, Record, Both, Named, Choice, LastCase, OneCase}
-use Rattle.wincode_describe.specs.Phrases.{Piece, and_then, on, behind_sign, word_front, number_front, IsRefusal}
-use Rattle.wincode_describe.specs.Sources.{heads, next_number, declaration_of}
+use Rattle.wincode_describe.specs.Phrases.{Piece, and_then, on, behind_sign, behind_name, word_front, front_text, number_front, IsRefusal}
+use Rattle.wincode_describe.specs.Sources.{heads, is_there, next_number, declaration_of}
+use Rattle.wincode_derive_text.specs.declared.tokens.Kind.TheVariants as kind
 use Rattle.wincode_describe.specs.declared.tokens.Over.TheVariants as over
 use Rattle.wincode_describe.specs.declared.described.Described.{Described}
 use Rattle.wincode_describe.specs.declared.described.Integer.TheVariants.{U8, U16, U32, U64, U128, Usize, I8, I16, I32, I64, I128, Isize}
@@ -34,6 +35,10 @@ Reader = List Piece → Option (Form × List Piece)
 -- a sign in front, and the rest
 abbrev pub sign_front : List ℕ → List Piece → Option (Unit {0} × List Piece)
 sign_front s ts = option_map (λ rest. (tt, rest)) (behind_sign s ts)
+
+-- what stands behind a lifetime and its comma, if a lifetime stands in front
+abbrev pub lifetime_front : List Piece → Option (Unit {0} × List Piece)
+lifetime_front ts = if is_there (front_text kind.Lifetime ts) then sign_front (codes ",") (drop 1 ts) else Some (tt, ts)
 
 -- the form that a word is that names one of std's types
 abbrev pub std_plain_of : List ℕ → Option Form
@@ -127,6 +132,10 @@ tag_of w =
     else if bytes_eq w (codes "u64") then Some tag.U64
     else None
 
+-- how a list's length is written, by the word of its scheme
+abbrev pub scheme_of : List ℕ → Option LengthScheme
+scheme_of w = if bytes_eq w (codes "ShortU16Len") then Some Short else if bytes_eq w (codes "BincodeLen") then Some Eight else None
+
 -- the greatest tag of this width
 abbrev pub greatest_of : TagSize → ℕ
 greatest_of tag.U8 = 255
@@ -152,6 +161,16 @@ held_form holder.Shared d = Held d
 held_form holder.Set d = Several d
 held_form holder.List d = list_form Eight d
 held_form holder.Bare d = d
+
+-- what holds a `str`: a text, or a box that several hold of one
+abbrev pub text_form : Holder → Option Form
+text_form holder.Boxed = Some Words
+text_form holder.Shared = Some (Held Words)
+text_form _ = None
+
+-- two bounds of one type
+abbrev pub range_form : Form → Form
+range_form d = Record (Both (Named (codes "start") d) (Named (codes "end") d))
 
 -- what such a word is by itself, made of other types
 abbrev pub known_form : Known → Form
@@ -181,15 +200,54 @@ goes_on closing ts = on (behind_sign (codes ",") ts)
     (λ rest. Some (on (behind_sign closing rest) (λ end. (false, end)) (true, rest)))
     (option_map (λ end. (false, end)) (behind_sign closing ts))
 
+-- this form, behind which its angle bracket is closed
+abbrev pub closed : Form → Reader
+closed d ts = and_then (sign_front (codes ">") ts) (λ e. Some (d, e.1))
+
+-- a list of such items, whose scheme of length stands in front
+abbrev pub schemed : Form → Reader
+schemed d ts = and_then (word_front ts) (λ w. and_then (scheme_of w.0) (λ k. closed (list_form k d) w.1))
+
+-- what holds a `str`, behind that word
+abbrev pub text_by : Holder → Reader
+text_by h ts = and_then (text_form h) (λ d. closed d ts)
+
 module _ (types : Reader) where
   -- an item, a semicolon, how many there are, and the closing bracket
   abbrev pub array_by : Reader
   array_by ts = and_then (types ts) (λ d. and_then (sign_front (codes ";") d.1)
       (λ s. and_then (number_front s.1) (λ n. and_then (sign_front (codes "]") n.1) (λ e. Some (array_form n.0 d.0, e.1)))))
 
+  -- one type, behind which its angle bracket is closed
+  abbrev pub held_in : (Form → Form) → Reader
+  held_in f ts = and_then (types ts) (λ d. closed (f d.0) d.1)
+
   -- one type in angle brackets
   abbrev pub item_by : (Form → Form) → Reader
-  item_by f ts = and_then (sign_front (codes "<") ts) (λ s. and_then (types s.1) (λ d. and_then (sign_front (codes ">") d.1) (λ e. Some (f d.0, e.1))))
+  item_by f ts = and_then (sign_front (codes "<") ts) (λ s. held_in f s.1)
+
+  -- what holds one type, or a `str`, in angle brackets
+  abbrev pub one_by : Holder → Reader
+  one_by h ts = and_then (sign_front (codes "<") ts) (λ s. on (behind_name (codes "str") s.1) (text_by h) (held_in (held_form h) s.1))
+
+  -- an item in brackets, behind which an angle bracket is closed: a list
+  abbrev pub slice_by : Reader
+  slice_by ts = and_then (sign_front (codes "[") ts)
+      (λ s. and_then (types s.1) (λ d. and_then (sign_front (codes "]") d.1) (λ e. closed (list_form Eight d.0) e.1)))
+
+  -- a `str` or a slice in angle brackets, behind a lifetime or none
+  abbrev pub cow_by : Reader
+  cow_by ts = and_then (sign_front (codes "<") ts)
+      (λ s. and_then (lifetime_front s.1) (λ l. on (behind_name (codes "str") l.1) (closed Words) (slice_by l.1)))
+
+  -- an item and its scheme of length in angle brackets
+  abbrev pub schemed_by : Reader
+  schemed_by ts = and_then (sign_front (codes "<") ts) (λ s. and_then (types s.1) (λ d. and_then (sign_front (codes ",") d.1) (λ e. schemed d.0 e.1)))
+
+  -- `::Vec`, its item and its scheme of length
+  abbrev pub container_by : Reader
+  container_by ts = and_then (sign_front (codes "::") ts) (λ s. and_then (word_front s.1)
+      (λ w. if bytes_eq w.0 (codes "Vec") then schemed_by w.1 else None))
 
   -- `Vec` and its item, behind the word `short`: a list behind a short length
   abbrev pub short_by : Reader
@@ -239,8 +297,10 @@ module _ (types : Reader) where
       (λ s. and_then (types s.1) (λ d. and_then (goes_on (codes "}") d.1)
       (λ g. if g.0 then and_then (cases g.1) (λ e. if has_tag e.0 n.0 then None else Some (OneCase n.0 d.0 e.0, e.1)) else Some (LastCase n.0 d.0, g.1)))))
 
--- the readers of types and of their parts, each for so many levels
+-- the readers of types and of their parts, each for so many levels, and those of types for fewer
 pub record Readers : Type 0 where
+  pub levels : ℕ
+  pub types_of : ℕ → Reader
   pub types : Reader
   pub tuple : Reader
   pub members : Reader
@@ -293,9 +353,13 @@ declared_enum below ts = and_then (sign_front (codes "{") ts) (λ s. and_then (b
 abbrev pub found_as : Readers → Bool × List Piece → Option Form
 found_as below k = and_then (if k.0 then declared_struct below k.1 else declared_enum below k.1) (λ d. Some d.0)
 
--- the struct or enum that a source declares by this name, which isn't `str`
+-- the struct or enum that a source declares by this name
 abbrev pub declared_as : List Piece → Readers → List ℕ → Option Form
-declared_as source below name = if bytes_eq name (codes "str") then None else and_then (declaration_of name 0 source) (found_as below)
+declared_as source below name = and_then (declaration_of name 0 source) (found_as below)
+
+-- A range, in angle brackets the type of its bounds: that has half of the levels, since it stands there twice.
+abbrev pub range_by : Readers → Reader
+range_by below ts = item_by (below.types_of (below.levels / 2)) range_form ts
 
 -- what stands behind the word that begins a type; a word that is none of a type's names what the source declares
 abbrev pub behind_word : List Piece → Readers → Opening → List ℕ → Reader
@@ -303,10 +367,12 @@ behind_word source below opening.Struct w ts = struct_by below.fields ts
 behind_word source below opening.Enum w ts = enum_by below.cases ts
 behind_word source below opening.ShortList w ts = short_by below.types ts
 behind_word source below (opening.Two p) w ts = two_by below.types (pair_form p) ts
-behind_word source below (opening.One h) w ts = item_by below.types (held_form h) ts
+behind_word source below (opening.One h) w ts = one_by below.types h ts
+behind_word source below opening.Container w ts = container_by below.types ts
+behind_word source below opening.Range w ts = range_by below ts
+behind_word source below opening.Cow w ts = cow_by below.types ts
 behind_word source below (opening.Known k) w ts = Some (known_form k, ts)
 behind_word source below opening.Name w ts = and_then (declared_as source below w) (λ d. Some (d, ts))
-behind_word source below _ w ts = None
 
 -- a type that begins with a word, which stands in front of the rest
 abbrev pub word_by : List Piece → Readers → List ℕ × List Piece → Option (Form × List Piece)
@@ -323,6 +389,8 @@ type_by source below ts = on (behind_sign (codes "(") ts) below.tuple (array_or_
 -- one level more
 abbrev pub one_more : List Piece → Readers → Readers
 one_more source below = record {
+  levels = suc below.levels;
+  types_of = λ n. if nat_lt below.levels n then type_by source below else below.types_of n;
   types = type_by source below;
   tuple = tuple_by (type_by source below) below.members;
   members = members_by (type_by source below) below.members;
@@ -340,6 +408,8 @@ unread ts = None
 -- where no level is left, nothing is read but `()`
 abbrev pub no_more : Readers
 no_more = record {
+  levels = 0;
+  types_of = λ n. unread;
   types = unread;
   tuple = tuple_by unread unread;
   members = unread;
@@ -370,12 +440,26 @@ Parses source None result = Unit
 Parses source (Some f) (Ok d) = seen d ≡ f
 Parses source (Some f) (Err e) = IsRefusal source e
 
+-- The type that a text describes, where names are those of what these words and signs declare; nothing is said where the
+-- text's aren't known.
+abbrev pub type_among : List Piece → List ℕ → ℕ → Option Form
+type_among source text levels = and_then (tokens_in (chars text)) (whole source levels)
+
+-- so, where no name is declared
+abbrev pub type_of : List ℕ → ℕ → Option Form
+type_of text levels = type_among [] text levels
+
 -- The type that a text describes, where the structs and enums of a source have their names; nothing is said where the
--- tokens of one of them aren't known.
+-- words and signs of one of them aren't known.
 abbrev pub type_in : List ℕ → List ℕ → ℕ → Option Form
-type_in source text levels = and_then (tokens_in (chars source)) (λ s. and_then (tokens_in (chars text)) (whole s levels))
+type_in source text levels = and_then (tokens_in (chars source)) (λ s. type_among s text levels)
 
 -- the type is that one, if it is known
 abbrev pub IsKnownAs : Option Form → Form → Type 0
 IsKnownAs None f = Unit
 IsKnownAs (Some g) f = f ≡ g
+
+-- nothing but memory is refused of a type that is known
+abbrev pub IsRefusedOf : Option Form → DescribeError → Type 0
+IsRefusedOf None e = Unit
+IsRefusedOf (Some f) e = e ≡ OutOfMemory

@@ -1,19 +1,20 @@
 //! The text of a type, as a Rust programmer writes it, to its description.
-ghost use Rattle.std.specs.Prelude.{◌≡◌, ◌<◌, [], false, None, option_map, length, IfOk};
+ghost use Rattle.std.specs.Prelude.{◌≡◌, ◌<◌, ◌/◌, [], false, None, option_map, length, IfErr, IfOk};
 ghost use Rattle.std.specs.Fmt.{decimal};
 ghost use Rattle.std.specs.String.{string_bytes};
-ghost use Rattle.std.specs.Str.{chars};
-ghost use Rattle.wincode_derive_text.specs.Splits.{tokens_in};
 ghost use Rattle.wincode_describe.specs.Forms.{Both, Choice, Form, Group, LastCase, Named, OneCase, Record, seen, seen_cases};
-ghost use Rattle.wincode_describe.specs.Phrases.{and_then, left, pieces, Reads};
+ghost use Rattle.wincode_describe.specs.Phrases.{left, pieces, Reads};
 ghost use Rattle.wincode_describe.specs.Sources.{next_number};
 ghost use Rattle.wincode_describe.specs.Readers.{
   IsKnownAs,
+  IsRefusedOf,
   Makes,
   Parses,
   array_by,
   array_form,
   braced_by,
+  container_by,
+  cow_by,
   declared_as,
   declared_enum,
   declared_struct,
@@ -26,19 +27,25 @@ ghost use Rattle.wincode_describe.specs.Readers.{
   item_by,
   known_form,
   list_form,
+  one_by,
   opening_of,
   pair_form,
   plain_of,
+  range_form,
   readers,
   rounded_by,
+  scheme_of,
+  schemed,
   shape_by,
   short_by,
   std_plain_of,
   struct_by,
   tag_of,
+  text_by,
   two_by,
+  type_among,
   type_in,
-  whole,
+  type_of,
 };
 ghost use Rattle.wincode_describe.specs.Spelled.{IsType};
 ghost use Rattle.wincode_describe.specs.Written.{written};
@@ -59,8 +66,9 @@ impl Described {
     /// Reads a type as a Rust programmer writes it: `Vec<(u64, Option<String>, [u8; 32])>`. An error says what was
     /// wanted and at which byte of the text.
     pub fn parse(alloc: Global, text: &str) -> DescribeResult<Described>
-        ensures { (form : Form) → IsType MAX_DEPTH form → text.now ≡ written form
-            → Makes seen form result }
+        ensures ok { (form : Form) → IsType MAX_DEPTH form → text.now ≡ written form → Makes seen form result }
+        ensures known { IfOk result (λ d. IsKnownAs (type_of text.now MAX_DEPTH) (seen d)) }
+        ensures refused { IfErr result (IsRefusedOf (type_of text.now MAX_DEPTH)) }
     {
         whole_type(alloc, &[], text, MAX_DEPTH)
     }
@@ -220,6 +228,17 @@ pub(crate) fn tag_size(word: &str) -> Option<TagSize>
     }
 }
 
+/// How a list's length is written, by the word of its scheme.
+fn length_scheme(word: &str) -> Option<LengthScheme>
+    ensures { result ≡ scheme_of word.now }
+{
+    match word {
+        "ShortU16Len" => Some(LengthScheme::Short),
+        "BincodeLen" => Some(LengthScheme::Eight),
+        _ => None,
+    }
+}
+
 /// The greatest tag of a scheme.
 fn greatest_tag(size: TagSize) -> usize
     ensures { result ≡ greatest_of size }
@@ -293,7 +312,9 @@ fn text_at(
     tokens: &mut Tokens,
     holder: Holder,
     at: usize,
-) -> DescribeResult<Described> {
+) -> DescribeResult<Described>
+    ensures { Reads [] seen (text_by holder (left tokens.old)) result (left tokens.new) }
+{
     let text = match holder {
         Holder::Boxed => Described::Text,
         Holder::Shared => known_type(alloc, Known::SharedText)?,
@@ -420,8 +441,7 @@ fn whole_type(
     text: &str,
     levels: usize,
 ) -> DescribeResult<Described>
-    ensures { Parses (pieces source.now)
-        (and_then (tokens_in (chars text.now)) (whole (pieces source.now) levels)) result }
+    ensures { Parses (pieces source.now) (type_among (pieces source.now) text.now levels) result }
 {
     let all = text_tokens(alloc, text)?;
     let mut tokens = Tokens::new(all.as_slice(), text.len());
@@ -566,7 +586,7 @@ fn one_at(
     holder: Holder,
     levels: usize,
 ) -> DescribeResult<Described>
-    ensures { Reads (pieces source.now) seen (item_by (readers (pieces source.now) levels).types (held_form holder) (left tokens.old))
+    ensures { Reads (pieces source.now) seen (one_by (readers (pieces source.now) levels).types holder (left tokens.old))
         result (left tokens.new) }
 {
     tokens.expect("<", "`<`")?;
@@ -705,20 +725,30 @@ fn container_at(
     source: &[Token],
     tokens: &mut Tokens,
     levels: usize,
-) -> DescribeResult<Described> {
+) -> DescribeResult<Described>
+    ensures { Reads (pieces source.now) seen (container_by (readers (pieces source.now) levels).types (left tokens.old)) result
+        (left tokens.new) }
+{
     tokens.expect("::", "`::`")?;
     let at = tokens.place();
-    if tokens.word(alloc)?.as_str() != "Vec" {
+    let word = tokens.word(alloc)?;
+    if word.as_str() != "Vec" {
         return Err(wanted("`Vec`", at));
     }
     tokens.expect("<", "`<`")?;
     let item = type_at(alloc, source, tokens, levels)?;
     tokens.expect(",", "`,`")?;
+    schemed_list(alloc, tokens, item)
+}
+
+/// A list of such items, behind whose comma its scheme of length stands.
+fn schemed_list(alloc: Global, tokens: &mut Tokens, item: Described) -> DescribeResult<Described>
+    ensures { Reads [] seen (schemed (seen item) (left tokens.old)) result (left tokens.new) }
+{
     let at = tokens.place();
-    let scheme = match tokens.word(alloc)?.as_str() {
-        "ShortU16Len" => LengthScheme::Short,
-        "BincodeLen" => LengthScheme::Eight,
-        _ => return Err(wanted("`ShortU16Len` or `BincodeLen`", at)),
+    let word = tokens.word(alloc)?;
+    let Some(scheme) = length_scheme(word.as_str()) else {
+        return Err(wanted("`ShortU16Len` or `BincodeLen`", at));
     };
     tokens.expect(">", "`>`")?;
     list(alloc, scheme, item)
@@ -732,12 +762,22 @@ fn range_at(
     source: &[Token],
     tokens: &mut Tokens,
     levels: usize,
-) -> DescribeResult<Described> {
+) -> DescribeResult<Described>
+    ensures { Reads (pieces source.now) seen
+        (item_by (readers (pieces source.now) (levels / 2)).types range_form (left tokens.old)) result (left tokens.new) }
+{
     tokens.expect("<", "`<`")?;
-    let start = type_at(alloc, source, tokens, levels / 2)?;
+    let bound = type_at(alloc, source, tokens, levels / 2)?;
     tokens.expect(">", "`>`")?;
-    let end = copied(alloc, &start)?;
-    let start = field(alloc, String::from_str(alloc, "start")?, start)?;
+    range(alloc, bound)
+}
+
+/// A range of two bounds of this type.
+fn range(alloc: Global, bound: Described) -> DescribeResult<Described>
+    ensures { Makes seen (range_form (seen bound)) result }
+{
+    let end = copied(alloc, &bound)?;
+    let start = field(alloc, String::from_str(alloc, "start")?, bound)?;
     let end = field(alloc, String::from_str(alloc, "end")?, end)?;
     let fields = joined(alloc, start, end)?;
     structure(alloc, fields)
@@ -750,11 +790,12 @@ fn cow_at(
     source: &[Token],
     tokens: &mut Tokens,
     levels: usize,
-) -> DescribeResult<Described> {
+) -> DescribeResult<Described>
+    ensures { Reads (pieces source.now) seen (cow_by (readers (pieces source.now) levels).types (left tokens.old)) result
+        (left tokens.new) }
+{
     tokens.expect("<", "`<`")?;
-    if tokens.takes_lifetime() {
-        tokens.expect(",", "`,`")?;
-    }
+    tokens.pass_lifetime()?;
     if tokens.takes_word("str") {
         tokens.expect(">", "`>`")?;
         return Ok(Described::Text);

@@ -3,8 +3,8 @@ ghost use Rattle.std.specs.Prelude.{◌≡◌, ◌<◌, ◌==◌, if◌then◌el
 ghost use Rattle.std.specs.Bool.{OnFalse};
 ghost use Rattle.std.specs.Str.{chars};
 ghost use Rattle.wincode_derive_text.specs.Splits.{tokens_in};
-ghost use Rattle.wincode_describe.specs.Phrases.{HasTokens, Reads, behind_sign, front_text, front_word, left, number_front, pieces, word_front};
-ghost use Rattle.wincode_describe.specs.Readers.{sign_front};
+ghost use Rattle.wincode_describe.specs.Phrases.{HasTokens, Reads, behind_name, behind_sign, front_text, front_word, left, number_front, pieces, word_front};
+ghost use Rattle.wincode_describe.specs.Readers.{lifetime_front, sign_front};
 ghost use Rattle.wincode_describe.specs.Sources.{
   PassesHead,
   behind_head,
@@ -180,7 +180,7 @@ impl<'a> Tokens<'a> {
     /// Takes the word, if it is the next token.
     pub(crate) fn takes_word(&mut self, word: &str) -> bool
         requires { 0 < length word.now }
-        ensures taken { result ≡ true → word_front (left self.old) ≡ Some (word.now, left self.new) }
+        ensures taken { behind_name word.now (left self.old) ≡ (if result then Some (left self.new) else None) }
         ensures kept { OnFalse result (left self.new ≡ left self.old) }
     {
         if self.text_of(Kind::Word) != word {
@@ -190,13 +190,16 @@ impl<'a> Tokens<'a> {
         true
     }
 
-    /// Takes a lifetime, if one is the next token.
-    pub(crate) fn takes_lifetime(&mut self) -> bool {
-        let is_there = !self.text_of(Kind::Lifetime).is_empty();
-        if is_there {
-            self.skip();
+    /// Passes a lifetime and the comma behind it, if a lifetime is the next token.
+    pub(crate) fn pass_lifetime(&mut self) -> DescribeResult<()>
+        ensures { Reads [] (λ u. u) (lifetime_front (left self.old)) result
+            (left self.new) }
+    {
+        if self.text_of(Kind::Lifetime).is_empty() {
+            return Ok(());
         }
-        is_there
+        self.skip();
+        self.expect(",", "`,`")
     }
 
     /// Whether `(crate)`, `(super)`, `(self)` or `(in ..)` stands there.

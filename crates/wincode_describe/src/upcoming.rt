@@ -1,5 +1,8 @@
 //! What is still to come of a type whose parts are taken one after another: where the next one stands is known before it
 //! is there.
+ghost use Rattle.std.specs.Prelude.{◌≡◌, IfOk};
+ghost use Rattle.wincode_describe.specs.Forms.{seen, seen_cases};
+
 use crate::described::{Cases, Described};
 use crate::places::number_of;
 use crate::shown::Shown;
@@ -33,7 +36,9 @@ pub(crate) struct Upcoming {
 
 /// The same type once more.
 #[cycle(copying)]
-pub(crate) fn copied(alloc: Global, described: &Described) -> Result<Described, AllocError> {
+pub(crate) fn copied(alloc: Global, described: &Described) -> Result<Described, AllocError>
+    ensures { IfOk result (λ d. seen d ≡ seen described.now) }
+{
     Ok(match described {
         Described::Integer(integer) => Described::Integer(*integer),
         Described::NonZero(integer) => Described::NonZero(*integer),
@@ -70,14 +75,18 @@ pub(crate) fn copied(alloc: Global, described: &Described) -> Result<Described, 
 
 /// The same type once more, in a box of its own.
 #[cycle(copying)]
-fn boxed(alloc: Global, described: &Described) -> Result<Box<Described>, AllocError> {
+fn boxed(alloc: Global, described: &Described) -> Result<Box<Described>, AllocError>
+    ensures { IfOk result (λ d. seen d.value ≡ seen described.now) }
+{
     let described = copied(alloc, described)?;
     Ok(Box::new(alloc, described)?)
 }
 
 /// The same cases once more, in a box of their own.
 #[cycle(copying)]
-fn boxed_cases(alloc: Global, cases: &Cases) -> Result<Box<Cases>, AllocError> {
+fn boxed_cases(alloc: Global, cases: &Cases) -> Result<Box<Cases>, AllocError>
+    ensures { IfOk result (λ d. seen_cases d.value ≡ seen_cases cases.now) }
+{
     let cases = match cases {
         Cases::Last(tag, content) => Cases::Last(*tag, boxed(alloc, content)?),
         Cases::Case(tag, content, others) => {

@@ -3,14 +3,15 @@ use Rattle.std.proofs.Common.{◌≡◌, ◌∙◌, sym, ap, refl, suc, bytes_eq
 use Rattle.std.proofs.lemmas.Bool.{lt-ltb, le-ltb}
 use Rattle.std.proofs.lemmas.Result.{err_from_is_err_and}
 use Rattle.std.specs.String.{string_bytes}
-use Rattle.wincode_describe.specs.Forms.{Record, seen, seen_cases}
-use Rattle.wincode_describe.specs.Phrases.{Piece, and_then, on, behind_sign, left, pieces, word_front}
+use Rattle.wincode_describe.specs.Forms.{Record, Words, seen, seen_cases}
+use Rattle.wincode_describe.specs.Phrases.{Piece, and_then, on, behind_sign, left, pieces}
 use Rattle.wincode_describe.specs.Sources.{declaration_of}
-use Rattle.wincode_describe.specs.Readers.{held_form, readers, rounded_by, there, array_or_word, word_by, several_by, unread, tag_of, plain_of, opening_of}
+use Rattle.wincode_describe.specs.Readers.{held_form, held_in, closed, slice_by, text_by, readers, rounded_by, there, array_or_word, several_by, unread, tag_of, plain_of, opening_of}
 use Rattle.wincode_describe.specs.declared.parsing.Opening.TheVariants as opening
 use Rattle.wincode_describe.proofs.ReadSteps.{next_ok, next_err, next_fault, next_word, made, sign_taken, sign_left, one_level, no_level, below_is, members_is}
 use Rattle.wincode_describe.proofs.ReadSteps.{tuple_is, below_members, below_members_is, word_plain, word_opening, no_word, chosen_is, chosen_is_none}
-use Rattle.wincode_describe.proofs.ReadSteps.{held_by, text_read, word_left, test_true, test_false, parsed_no_tokens, parsed_err, parsed_ok, parsed_more, headed, named_ok, found_of, named_found, named_refused}
+use Rattle.wincode_describe.proofs.ReadSteps.{anywhere, name_left, range_read, worded, test_true, test_false, parsed_no_tokens}
+use Rattle.wincode_describe.proofs.ReadSteps.{parsed_err, parsed_ok, parsed_more, headed, named_ok, found_of, named_found, named_refused}
 use Rattle.wincode_describe.proofs.parsing.+parsing.Goals as goal
 
 pub members_at-returns-in_err-first : goal.members_at-returns-in_err-first
@@ -94,27 +95,36 @@ array_at-returns t c =
     (next_ok [] s (λ n. n) seen _ c.in_ok-n.n _ _ _ _ c.in_ok-n.ensures
     (next_ok [] s (λ u. u) seen _ c.in_ok-expect-2.field-0 _ _ _ _ c.in_ok-expect-2.ensures (made s seen _ _ _ c.array.ensures)))))
 
+pub one_at-returns-in_err-part : goal.one_at-returns-in_err-part
+one_at-returns-in_err-part t c =
+    let s : List Piece = pieces c.args.source.now in
+    let p = err_from_is_err_and c.from_residual-in_err-part.result c.from_residual-in_err-part.ensures.1 in
+    rw (p.1, p.2) (next_ok [] s (λ u. u) seen _ c.in_ok-expect.field-0 _ _ _ _ c.in_ok-expect.ensures
+    (name_left s seen (codes "str") (left c.expect.new.self) c.takes_word.result (left c.takes_word.new.self) (text_by c.args.holder)
+    (held_in (readers s c.args.levels).types (held_form c.args.holder)) _ _ c.takes_word.ensures.taken c.takes_word.ensures.kept c.if-takes_word.false
+    (next_err s seen seen _ _ _ _ _ c.in_err-part.ensures)))
+
 pub one_at-returns-in_err-expect-2 : goal.one_at-returns-in_err-expect-2
 one_at-returns-in_err-expect-2 t c =
     let s : List Piece = pieces c.args.source.now in
     let p = err_from_is_err_and c.from_residual-in_err-expect-2.result c.from_residual-in_err-expect-2.ensures.1 in
     rw (p.1, p.2) (next_ok [] s (λ u. u) seen _ c.in_ok-expect.field-0 _ _ _ _ c.in_ok-expect.ensures
-    (word_left s seen c.takes_word.result (left c.expect.new.self) (left c.takes_word.new.self)
-    (held_by (readers s c.args.levels).types (held_form c.args.holder)) _ _ c.takes_word.ensures.kept c.if-takes_word.false
+    (name_left s seen (codes "str") (left c.expect.new.self) c.takes_word.result (left c.takes_word.new.self) (text_by c.args.holder)
+    (held_in (readers s c.args.levels).types (held_form c.args.holder)) _ _ c.takes_word.ensures.taken c.takes_word.ensures.kept c.if-takes_word.false
     (next_ok s s seen seen _ c.in_ok-part.part _ _ _ _ c.in_ok-part.ensures (next_fault s (λ u. u) seen _ _ _ _ _ c.in_err-expect-2.ensures))))
 
 pub one_at-returns-then-takes_word : goal.one_at-returns-then-takes_word
 one_at-returns-then-takes_word t c =
     let s : List Piece = pieces c.args.source.now in
     next_ok [] s (λ u. u) seen _ c.in_ok-expect.field-0 _ _ _ _ c.in_ok-expect.ensures
-    (text_read s seen c.args.levels _ _ _ _ _ (c.takes_word.ensures.taken c.if-takes_word.true))
+    (sign_taken s seen _ c.takes_word.result _ _ _ _ _ c.takes_word.ensures.taken c.if-takes_word.true (anywhere s seen _ _ _ c.text_at.ensures))
 
 pub one_at-returns : goal.one_at-returns
 one_at-returns t c =
     let s : List Piece = pieces c.args.source.now in
     next_ok [] s (λ u. u) seen _ c.in_ok-expect.field-0 _ _ _ _ c.in_ok-expect.ensures
-    (word_left s seen c.takes_word.result (left c.expect.new.self) (left c.takes_word.new.self)
-    (held_by (readers s c.args.levels).types (held_form c.args.holder)) _ _ c.takes_word.ensures.kept c.if-takes_word.false
+    (name_left s seen (codes "str") (left c.expect.new.self) c.takes_word.result (left c.takes_word.new.self) (text_by c.args.holder)
+    (held_in (readers s c.args.levels).types (held_form c.args.holder)) _ _ c.takes_word.ensures.taken c.takes_word.ensures.kept c.if-takes_word.false
     (next_ok s s seen seen _ c.in_ok-part.part _ _ _ _ c.in_ok-part.ensures
     (next_ok [] s (λ u. u) seen _ c.in_ok-expect-2.field-0 _ _ _ _ c.in_ok-expect-2.ensures (made s seen _ _ _ c.held.ensures))))
 
@@ -400,13 +410,11 @@ pub type_at-returns-in-Some-plain : goal.type_at-returns-in-Some-plain
 type_at-returns-in-Some-plain t c =
     let s : List Piece = pieces c.args.source.now in
     let l : c.args.levels ≡ suc c.in-Some.below = below_is _ _ c.in-Some.ensures.0 c.in-Some.ensures.1 in
-    rw (one_level _ _ _ l) (sign_left s seen (codes "(") (left c.args.tokens.now) c.takes.result (left c.takes.new.self) _
-    (array_or_word s (readers s c.in-Some.below)) _ _ c.takes.ensures.taken c.takes.ensures.kept c.if-takes.false
-    (sign_left s seen (codes "[") (left c.takes.new.self) c.takes-2.result (left c.takes-2.new.self) _
-    (λ ts. and_then (word_front ts) (word_by s (readers s c.in-Some.below))) _ _ c.takes-2.ensures.taken c.takes-2.ensures.kept c.if-takes-2.false
-    (next_word s seen (string_bytes c.in_ok-word.word) _ (left c.word.new.self) (word_by s (readers s c.in-Some.below)) _ _ c.in_ok-word.ensures
+    rw (one_level _ _ _ l) (worded s (readers s c.in-Some.below) (left c.args.tokens.now) (left c.takes.new.self) (left c.takes-2.new.self) c.takes.result
+    c.takes-2.result (string_bytes c.in_ok-word.word) (left c.word.new.self) _ _ c.takes.ensures.taken c.takes.ensures.kept c.if-takes.false
+    c.takes-2.ensures.taken c.takes-2.ensures.kept c.if-takes-2.false c.in_ok-word.ensures
     (word_plain s (readers s c.in-Some.below) (string_bytes c.in_ok-word.word) (left c.word.new.self) c.in-Some-plain.described
-    (ap plain_of (sym c.as_str.ensures.value) ∙ sym c.plain.ensures ∙ ap (option_map seen) c.in-Some-plain.is)))))
+    (ap plain_of (sym c.as_str.ensures.value) ∙ sym c.plain.ensures ∙ ap (option_map seen) c.in-Some-plain.is)))
 
 pub type_at-returns-in-Struct : goal.type_at-returns-in-Struct
 type_at-returns-in-Struct t c =
@@ -414,12 +422,10 @@ type_at-returns-in-Struct t c =
     let l : c.args.levels ≡ suc c.in-Some.below = below_is _ _ c.in-Some.ensures.0 c.in-Some.ensures.1 in
     let p = ap plain_of (sym c.as_str.ensures.value) ∙ sym c.plain.ensures ∙ ap (option_map seen) c.in_default-plain.is in
     let q = ap opening_of (sym c.as_str-2.ensures.value) ∙ sym c.opened_by.ensures ∙ c.in-Struct.is in
-    rw (one_level _ _ _ l) (sign_left s seen (codes "(") (left c.args.tokens.now) c.takes.result (left c.takes.new.self) _
-    (array_or_word s (readers s c.in-Some.below)) _ _ c.takes.ensures.taken c.takes.ensures.kept c.if-takes.false
-    (sign_left s seen (codes "[") (left c.takes.new.self) c.takes-2.result (left c.takes-2.new.self) _
-    (λ ts. and_then (word_front ts) (word_by s (readers s c.in-Some.below))) _ _ c.takes-2.ensures.taken c.takes-2.ensures.kept c.if-takes-2.false
-    (next_word s seen (string_bytes c.in_ok-word.word) _ (left c.word.new.self) (word_by s (readers s c.in-Some.below)) _ _ c.in_ok-word.ensures
-    (word_opening s (readers s c.in-Some.below) (string_bytes c.in_ok-word.word) (left c.word.new.self) (opening.Struct) _ _ p q c.struct_at.ensures))))
+    rw (one_level _ _ _ l) (worded s (readers s c.in-Some.below) (left c.args.tokens.now) (left c.takes.new.self) (left c.takes-2.new.self) c.takes.result
+    c.takes-2.result (string_bytes c.in_ok-word.word) (left c.word.new.self) _ _ c.takes.ensures.taken c.takes.ensures.kept c.if-takes.false
+    c.takes-2.ensures.taken c.takes-2.ensures.kept c.if-takes-2.false c.in_ok-word.ensures
+    (word_opening s (readers s c.in-Some.below) (string_bytes c.in_ok-word.word) (left c.word.new.self) (opening.Struct) _ _ p q c.struct_at.ensures))
 
 pub type_at-returns-in-Enum : goal.type_at-returns-in-Enum
 type_at-returns-in-Enum t c =
@@ -427,12 +433,10 @@ type_at-returns-in-Enum t c =
     let l : c.args.levels ≡ suc c.in-Some.below = below_is _ _ c.in-Some.ensures.0 c.in-Some.ensures.1 in
     let p = ap plain_of (sym c.as_str.ensures.value) ∙ sym c.plain.ensures ∙ ap (option_map seen) c.in_default-plain.is in
     let q = ap opening_of (sym c.as_str-2.ensures.value) ∙ sym c.opened_by.ensures ∙ c.in-Enum.is in
-    rw (one_level _ _ _ l) (sign_left s seen (codes "(") (left c.args.tokens.now) c.takes.result (left c.takes.new.self) _
-    (array_or_word s (readers s c.in-Some.below)) _ _ c.takes.ensures.taken c.takes.ensures.kept c.if-takes.false
-    (sign_left s seen (codes "[") (left c.takes.new.self) c.takes-2.result (left c.takes-2.new.self) _
-    (λ ts. and_then (word_front ts) (word_by s (readers s c.in-Some.below))) _ _ c.takes-2.ensures.taken c.takes-2.ensures.kept c.if-takes-2.false
-    (next_word s seen (string_bytes c.in_ok-word.word) _ (left c.word.new.self) (word_by s (readers s c.in-Some.below)) _ _ c.in_ok-word.ensures
-    (word_opening s (readers s c.in-Some.below) (string_bytes c.in_ok-word.word) (left c.word.new.self) (opening.Enum) _ _ p q c.enum_at.ensures))))
+    rw (one_level _ _ _ l) (worded s (readers s c.in-Some.below) (left c.args.tokens.now) (left c.takes.new.self) (left c.takes-2.new.self) c.takes.result
+    c.takes-2.result (string_bytes c.in_ok-word.word) (left c.word.new.self) _ _ c.takes.ensures.taken c.takes.ensures.kept c.if-takes.false
+    c.takes-2.ensures.taken c.takes-2.ensures.kept c.if-takes-2.false c.in_ok-word.ensures
+    (word_opening s (readers s c.in-Some.below) (string_bytes c.in_ok-word.word) (left c.word.new.self) (opening.Enum) _ _ p q c.enum_at.ensures))
 
 pub type_at-returns-in-ShortList : goal.type_at-returns-in-ShortList
 type_at-returns-in-ShortList t c =
@@ -440,12 +444,10 @@ type_at-returns-in-ShortList t c =
     let l : c.args.levels ≡ suc c.in-Some.below = below_is _ _ c.in-Some.ensures.0 c.in-Some.ensures.1 in
     let p = ap plain_of (sym c.as_str.ensures.value) ∙ sym c.plain.ensures ∙ ap (option_map seen) c.in_default-plain.is in
     let q = ap opening_of (sym c.as_str-2.ensures.value) ∙ sym c.opened_by.ensures ∙ c.in-ShortList.is in
-    rw (one_level _ _ _ l) (sign_left s seen (codes "(") (left c.args.tokens.now) c.takes.result (left c.takes.new.self) _
-    (array_or_word s (readers s c.in-Some.below)) _ _ c.takes.ensures.taken c.takes.ensures.kept c.if-takes.false
-    (sign_left s seen (codes "[") (left c.takes.new.self) c.takes-2.result (left c.takes-2.new.self) _
-    (λ ts. and_then (word_front ts) (word_by s (readers s c.in-Some.below))) _ _ c.takes-2.ensures.taken c.takes-2.ensures.kept c.if-takes-2.false
-    (next_word s seen (string_bytes c.in_ok-word.word) _ (left c.word.new.self) (word_by s (readers s c.in-Some.below)) _ _ c.in_ok-word.ensures
-    (word_opening s (readers s c.in-Some.below) (string_bytes c.in_ok-word.word) (left c.word.new.self) (opening.ShortList) _ _ p q c.short_at.ensures))))
+    rw (one_level _ _ _ l) (worded s (readers s c.in-Some.below) (left c.args.tokens.now) (left c.takes.new.self) (left c.takes-2.new.self) c.takes.result
+    c.takes-2.result (string_bytes c.in_ok-word.word) (left c.word.new.self) _ _ c.takes.ensures.taken c.takes.ensures.kept c.if-takes.false
+    c.takes-2.ensures.taken c.takes-2.ensures.kept c.if-takes-2.false c.in_ok-word.ensures
+    (word_opening s (readers s c.in-Some.below) (string_bytes c.in_ok-word.word) (left c.word.new.self) (opening.ShortList) _ _ p q c.short_at.ensures))
 
 pub type_at-returns-in-Two : goal.type_at-returns-in-Two
 type_at-returns-in-Two t c =
@@ -453,12 +455,10 @@ type_at-returns-in-Two t c =
     let l : c.args.levels ≡ suc c.in-Some.below = below_is _ _ c.in-Some.ensures.0 c.in-Some.ensures.1 in
     let p = ap plain_of (sym c.as_str.ensures.value) ∙ sym c.plain.ensures ∙ ap (option_map seen) c.in_default-plain.is in
     let q = ap opening_of (sym c.as_str-2.ensures.value) ∙ sym c.opened_by.ensures ∙ c.in-Two.is in
-    rw (one_level _ _ _ l) (sign_left s seen (codes "(") (left c.args.tokens.now) c.takes.result (left c.takes.new.self) _
-    (array_or_word s (readers s c.in-Some.below)) _ _ c.takes.ensures.taken c.takes.ensures.kept c.if-takes.false
-    (sign_left s seen (codes "[") (left c.takes.new.self) c.takes-2.result (left c.takes-2.new.self) _
-    (λ ts. and_then (word_front ts) (word_by s (readers s c.in-Some.below))) _ _ c.takes-2.ensures.taken c.takes-2.ensures.kept c.if-takes-2.false
-    (next_word s seen (string_bytes c.in_ok-word.word) _ (left c.word.new.self) (word_by s (readers s c.in-Some.below)) _ _ c.in_ok-word.ensures
-    (word_opening s (readers s c.in-Some.below) (string_bytes c.in_ok-word.word) (left c.word.new.self) (opening.Two c.in-Two.pair) _ _ p q c.two_at.ensures))))
+    rw (one_level _ _ _ l) (worded s (readers s c.in-Some.below) (left c.args.tokens.now) (left c.takes.new.self) (left c.takes-2.new.self) c.takes.result
+    c.takes-2.result (string_bytes c.in_ok-word.word) (left c.word.new.self) _ _ c.takes.ensures.taken c.takes.ensures.kept c.if-takes.false
+    c.takes-2.ensures.taken c.takes-2.ensures.kept c.if-takes-2.false c.in_ok-word.ensures
+    (word_opening s (readers s c.in-Some.below) (string_bytes c.in_ok-word.word) (left c.word.new.self) (opening.Two c.in-Two.pair) _ _ p q c.two_at.ensures))
 
 pub type_at-returns-in-One : goal.type_at-returns-in-One
 type_at-returns-in-One t c =
@@ -466,12 +466,10 @@ type_at-returns-in-One t c =
     let l : c.args.levels ≡ suc c.in-Some.below = below_is _ _ c.in-Some.ensures.0 c.in-Some.ensures.1 in
     let p = ap plain_of (sym c.as_str.ensures.value) ∙ sym c.plain.ensures ∙ ap (option_map seen) c.in_default-plain.is in
     let q = ap opening_of (sym c.as_str-2.ensures.value) ∙ sym c.opened_by.ensures ∙ c.in-One.is in
-    rw (one_level _ _ _ l) (sign_left s seen (codes "(") (left c.args.tokens.now) c.takes.result (left c.takes.new.self) _
-    (array_or_word s (readers s c.in-Some.below)) _ _ c.takes.ensures.taken c.takes.ensures.kept c.if-takes.false
-    (sign_left s seen (codes "[") (left c.takes.new.self) c.takes-2.result (left c.takes-2.new.self) _
-    (λ ts. and_then (word_front ts) (word_by s (readers s c.in-Some.below))) _ _ c.takes-2.ensures.taken c.takes-2.ensures.kept c.if-takes-2.false
-    (next_word s seen (string_bytes c.in_ok-word.word) _ (left c.word.new.self) (word_by s (readers s c.in-Some.below)) _ _ c.in_ok-word.ensures
-    (word_opening s (readers s c.in-Some.below) (string_bytes c.in_ok-word.word) (left c.word.new.self) (opening.One c.in-One.holder) _ _ p q c.one_at.ensures))))
+    rw (one_level _ _ _ l) (worded s (readers s c.in-Some.below) (left c.args.tokens.now) (left c.takes.new.self) (left c.takes-2.new.self) c.takes.result
+    c.takes-2.result (string_bytes c.in_ok-word.word) (left c.word.new.self) _ _ c.takes.ensures.taken c.takes.ensures.kept c.if-takes.false
+    c.takes-2.ensures.taken c.takes-2.ensures.kept c.if-takes-2.false c.in_ok-word.ensures
+    (word_opening s (readers s c.in-Some.below) (string_bytes c.in_ok-word.word) (left c.word.new.self) (opening.One c.in-One.holder) _ _ p q c.one_at.ensures))
 
 pub type_at-returns-in-Container : goal.type_at-returns-in-Container
 type_at-returns-in-Container t c =
@@ -479,12 +477,10 @@ type_at-returns-in-Container t c =
     let l : c.args.levels ≡ suc c.in-Some.below = below_is _ _ c.in-Some.ensures.0 c.in-Some.ensures.1 in
     let p = ap plain_of (sym c.as_str.ensures.value) ∙ sym c.plain.ensures ∙ ap (option_map seen) c.in_default-plain.is in
     let q = ap opening_of (sym c.as_str-2.ensures.value) ∙ sym c.opened_by.ensures ∙ c.in-Container.is in
-    rw (one_level _ _ _ l) (sign_left s seen (codes "(") (left c.args.tokens.now) c.takes.result (left c.takes.new.self) _
-    (array_or_word s (readers s c.in-Some.below)) _ _ c.takes.ensures.taken c.takes.ensures.kept c.if-takes.false
-    (sign_left s seen (codes "[") (left c.takes.new.self) c.takes-2.result (left c.takes-2.new.self) _
-    (λ ts. and_then (word_front ts) (word_by s (readers s c.in-Some.below))) _ _ c.takes-2.ensures.taken c.takes-2.ensures.kept c.if-takes-2.false
-    (next_word s seen (string_bytes c.in_ok-word.word) _ (left c.word.new.self) (word_by s (readers s c.in-Some.below)) _ _ c.in_ok-word.ensures
-    (word_opening s (readers s c.in-Some.below) (string_bytes c.in_ok-word.word) (left c.word.new.self) (opening.Container) _ _ p q tt))))
+    rw (one_level _ _ _ l) (worded s (readers s c.in-Some.below) (left c.args.tokens.now) (left c.takes.new.self) (left c.takes-2.new.self) c.takes.result
+    c.takes-2.result (string_bytes c.in_ok-word.word) (left c.word.new.self) _ _ c.takes.ensures.taken c.takes.ensures.kept c.if-takes.false
+    c.takes-2.ensures.taken c.takes-2.ensures.kept c.if-takes-2.false c.in_ok-word.ensures
+    (word_opening s (readers s c.in-Some.below) (string_bytes c.in_ok-word.word) (left c.word.new.self) (opening.Container) _ _ p q c.container_at.ensures))
 
 pub type_at-returns-in-Range : goal.type_at-returns-in-Range
 type_at-returns-in-Range t c =
@@ -492,12 +488,11 @@ type_at-returns-in-Range t c =
     let l : c.args.levels ≡ suc c.in-Some.below = below_is _ _ c.in-Some.ensures.0 c.in-Some.ensures.1 in
     let p = ap plain_of (sym c.as_str.ensures.value) ∙ sym c.plain.ensures ∙ ap (option_map seen) c.in_default-plain.is in
     let q = ap opening_of (sym c.as_str-2.ensures.value) ∙ sym c.opened_by.ensures ∙ c.in-Range.is in
-    rw (one_level _ _ _ l) (sign_left s seen (codes "(") (left c.args.tokens.now) c.takes.result (left c.takes.new.self) _
-    (array_or_word s (readers s c.in-Some.below)) _ _ c.takes.ensures.taken c.takes.ensures.kept c.if-takes.false
-    (sign_left s seen (codes "[") (left c.takes.new.self) c.takes-2.result (left c.takes-2.new.self) _
-    (λ ts. and_then (word_front ts) (word_by s (readers s c.in-Some.below))) _ _ c.takes-2.ensures.taken c.takes-2.ensures.kept c.if-takes-2.false
-    (next_word s seen (string_bytes c.in_ok-word.word) _ (left c.word.new.self) (word_by s (readers s c.in-Some.below)) _ _ c.in_ok-word.ensures
-    (word_opening s (readers s c.in-Some.below) (string_bytes c.in_ok-word.word) (left c.word.new.self) (opening.Range) _ _ p q tt))))
+    rw (one_level _ _ _ l) (worded s (readers s c.in-Some.below) (left c.args.tokens.now) (left c.takes.new.self) (left c.takes-2.new.self) c.takes.result
+    c.takes-2.result (string_bytes c.in_ok-word.word) (left c.word.new.self) _ _ c.takes.ensures.taken c.takes.ensures.kept c.if-takes.false
+    c.takes-2.ensures.taken c.takes-2.ensures.kept c.if-takes-2.false c.in_ok-word.ensures
+    (word_opening s (readers s c.in-Some.below) (string_bytes c.in_ok-word.word) (left c.word.new.self) (opening.Range) _ _ p q
+    (range_read s c.in-Some.below (left c.word.new.self) c.range_at.result (left c.range_at.new.tokens) c.range_at.ensures)))
 
 pub type_at-returns-in-Cow : goal.type_at-returns-in-Cow
 type_at-returns-in-Cow t c =
@@ -505,12 +500,10 @@ type_at-returns-in-Cow t c =
     let l : c.args.levels ≡ suc c.in-Some.below = below_is _ _ c.in-Some.ensures.0 c.in-Some.ensures.1 in
     let p = ap plain_of (sym c.as_str.ensures.value) ∙ sym c.plain.ensures ∙ ap (option_map seen) c.in_default-plain.is in
     let q = ap opening_of (sym c.as_str-2.ensures.value) ∙ sym c.opened_by.ensures ∙ c.in-Cow.is in
-    rw (one_level _ _ _ l) (sign_left s seen (codes "(") (left c.args.tokens.now) c.takes.result (left c.takes.new.self) _
-    (array_or_word s (readers s c.in-Some.below)) _ _ c.takes.ensures.taken c.takes.ensures.kept c.if-takes.false
-    (sign_left s seen (codes "[") (left c.takes.new.self) c.takes-2.result (left c.takes-2.new.self) _
-    (λ ts. and_then (word_front ts) (word_by s (readers s c.in-Some.below))) _ _ c.takes-2.ensures.taken c.takes-2.ensures.kept c.if-takes-2.false
-    (next_word s seen (string_bytes c.in_ok-word.word) _ (left c.word.new.self) (word_by s (readers s c.in-Some.below)) _ _ c.in_ok-word.ensures
-    (word_opening s (readers s c.in-Some.below) (string_bytes c.in_ok-word.word) (left c.word.new.self) (opening.Cow) _ _ p q tt))))
+    rw (one_level _ _ _ l) (worded s (readers s c.in-Some.below) (left c.args.tokens.now) (left c.takes.new.self) (left c.takes-2.new.self) c.takes.result
+    c.takes-2.result (string_bytes c.in_ok-word.word) (left c.word.new.self) _ _ c.takes.ensures.taken c.takes.ensures.kept c.if-takes.false
+    c.takes-2.ensures.taken c.takes-2.ensures.kept c.if-takes-2.false c.in_ok-word.ensures
+    (word_opening s (readers s c.in-Some.below) (string_bytes c.in_ok-word.word) (left c.word.new.self) (opening.Cow) _ _ p q c.cow_at.ensures))
 
 pub type_at-returns-in-Known : goal.type_at-returns-in-Known
 type_at-returns-in-Known t c =
@@ -518,12 +511,10 @@ type_at-returns-in-Known t c =
     let l : c.args.levels ≡ suc c.in-Some.below = below_is _ _ c.in-Some.ensures.0 c.in-Some.ensures.1 in
     let p = ap plain_of (sym c.as_str.ensures.value) ∙ sym c.plain.ensures ∙ ap (option_map seen) c.in_default-plain.is in
     let q = ap opening_of (sym c.as_str-2.ensures.value) ∙ sym c.opened_by.ensures ∙ c.in-Known.is in
-    rw (one_level _ _ _ l) (sign_left s seen (codes "(") (left c.args.tokens.now) c.takes.result (left c.takes.new.self) _
-    (array_or_word s (readers s c.in-Some.below)) _ _ c.takes.ensures.taken c.takes.ensures.kept c.if-takes.false
-    (sign_left s seen (codes "[") (left c.takes.new.self) c.takes-2.result (left c.takes-2.new.self) _
-    (λ ts. and_then (word_front ts) (word_by s (readers s c.in-Some.below))) _ _ c.takes-2.ensures.taken c.takes-2.ensures.kept c.if-takes-2.false
-    (next_word s seen (string_bytes c.in_ok-word.word) _ (left c.word.new.self) (word_by s (readers s c.in-Some.below)) _ _ c.in_ok-word.ensures
-    (word_opening s (readers s c.in-Some.below) (string_bytes c.in_ok-word.word) (left c.word.new.self) (opening.Known c.in-Known.known) _ _ p q (made s seen _ _ _ c.known_type.ensures)))))
+    rw (one_level _ _ _ l) (worded s (readers s c.in-Some.below) (left c.args.tokens.now) (left c.takes.new.self) (left c.takes-2.new.self) c.takes.result
+    c.takes-2.result (string_bytes c.in_ok-word.word) (left c.word.new.self) _ _ c.takes.ensures.taken c.takes.ensures.kept c.if-takes.false
+    c.takes-2.ensures.taken c.takes-2.ensures.kept c.if-takes-2.false c.in_ok-word.ensures
+    (word_opening s (readers s c.in-Some.below) (string_bytes c.in_ok-word.word) (left c.word.new.self) (opening.Known c.in-Known.known) _ _ p q (made s seen _ _ _ c.known_type.ensures)))
 
 pub type_at-returns : goal.type_at-returns
 type_at-returns t c =
@@ -531,12 +522,11 @@ type_at-returns t c =
     let l : c.args.levels ≡ suc c.in-Some.below = below_is _ _ c.in-Some.ensures.0 c.in-Some.ensures.1 in
     let p = ap plain_of (sym c.as_str.ensures.value) ∙ sym c.plain.ensures ∙ ap (option_map seen) c.in_default-plain.is in
     let q = ap opening_of (sym c.as_str-2.ensures.value) ∙ sym c.opened_by.ensures ∙ c.in-Name.is in
-    rw (one_level _ _ _ l) (sign_left s seen (codes "(") (left c.args.tokens.now) c.takes.result (left c.takes.new.self) _
-    (array_or_word s (readers s c.in-Some.below)) _ _ c.takes.ensures.taken c.takes.ensures.kept c.if-takes.false
-    (sign_left s seen (codes "[") (left c.takes.new.self) c.takes-2.result (left c.takes-2.new.self) _
-    (λ ts. and_then (word_front ts) (word_by s (readers s c.in-Some.below))) _ _ c.takes-2.ensures.taken c.takes-2.ensures.kept c.if-takes-2.false
-    (next_word s seen (string_bytes c.in_ok-word.word) _ (left c.word.new.self) (word_by s (readers s c.in-Some.below)) _ _ c.in_ok-word.ensures
-    (word_opening s (readers s c.in-Some.below) (string_bytes c.in_ok-word.word) (left c.word.new.self) (opening.Name) _ _ p q (named_ok _ _ _ _ (rw c.as_str-in-Name.ensures.value at c.named_type.ensures))))))
+    rw (one_level _ _ _ l) (worded s (readers s c.in-Some.below) (left c.args.tokens.now) (left c.takes.new.self) (left c.takes-2.new.self) c.takes.result
+    c.takes-2.result (string_bytes c.in_ok-word.word) (left c.word.new.self) _ _ c.takes.ensures.taken c.takes.ensures.kept c.if-takes.false
+    c.takes-2.ensures.taken c.takes-2.ensures.kept c.if-takes-2.false c.in_ok-word.ensures
+    (word_opening s (readers s c.in-Some.below) (string_bytes c.in_ok-word.word) (left c.word.new.self) (opening.Name) _ _ p q
+    (named_ok _ _ _ _ (rw c.as_str-in-Name.ensures.value at c.named_type.ensures))))
 
 pub whole_type-returns-in_err-all : goal.whole_type-returns-in_err-all
 whole_type-returns-in_err-all t c =
@@ -646,14 +636,16 @@ pub braced_at-returns-in_err-fields : goal.braced_at-returns-in_err-fields
 braced_at-returns-in_err-fields t c =
     let s : List Piece = pieces c.args.source.now in
     let p = err_from_is_err_and c.from_residual.result c.from_residual.ensures.1 in
-    rw (p.1, p.2) (sign_left s seen (codes "}") (left c.args.tokens.now) c.takes.result (left c.takes.new.self) _ (λ ts. and_then ((readers s c.args.levels).fields ts) (λ d. Some (Record d.0, d.1))) _ _
+    rw (p.1, p.2) (sign_left s seen (codes "}") (left c.args.tokens.now) c.takes.result (left c.takes.new.self) _
+    (λ ts. and_then ((readers s c.args.levels).fields ts) (λ d. Some (Record d.0, d.1))) _ _
     c.takes.ensures.taken c.takes.ensures.kept c.if-takes.false
     (next_err s seen seen _ _ _ _ _ c.in_err-fields.ensures))
 
 pub braced_at-returns : goal.braced_at-returns
 braced_at-returns t c =
     let s : List Piece = pieces c.args.source.now in
-    sign_left s seen (codes "}") (left c.args.tokens.now) c.takes.result (left c.takes.new.self) _ (λ ts. and_then ((readers s c.args.levels).fields ts) (λ d. Some (Record d.0, d.1))) _ _
+    sign_left s seen (codes "}") (left c.args.tokens.now) c.takes.result (left c.takes.new.self) _
+    (λ ts. and_then ((readers s c.args.levels).fields ts) (λ d. Some (Record d.0, d.1))) _ _
     c.takes.ensures.taken c.takes.ensures.kept c.if-takes.false
     (next_ok s s seen seen _ c.in_ok-fields.fields _ _ _ _ c.in_ok-fields.ensures (made s seen _ _ _ c.structure.ensures))
 
@@ -666,14 +658,16 @@ pub rounded_at-returns-in_err-fields : goal.rounded_at-returns-in_err-fields
 rounded_at-returns-in_err-fields t c =
     let s : List Piece = pieces c.args.source.now in
     let p = err_from_is_err_and c.from_residual.result c.from_residual.ensures.1 in
-    rw (p.1, p.2) (sign_left s seen (codes ")") (left c.args.tokens.now) c.takes.result (left c.takes.new.self) _ (λ ts. and_then ((readers s c.args.levels).numbered 0 ts) (λ d. Some (Record d.0, d.1))) _ _
+    rw (p.1, p.2) (sign_left s seen (codes ")") (left c.args.tokens.now) c.takes.result (left c.takes.new.self) _
+    (λ ts. and_then ((readers s c.args.levels).numbered 0 ts) (λ d. Some (Record d.0, d.1))) _ _
     c.takes.ensures.taken c.takes.ensures.kept c.if-takes.false
     (next_err s seen seen _ _ _ _ _ c.in_err-fields.ensures))
 
 pub rounded_at-returns : goal.rounded_at-returns
 rounded_at-returns t c =
     let s : List Piece = pieces c.args.source.now in
-    sign_left s seen (codes ")") (left c.args.tokens.now) c.takes.result (left c.takes.new.self) _ (λ ts. and_then ((readers s c.args.levels).numbered 0 ts) (λ d. Some (Record d.0, d.1))) _ _
+    sign_left s seen (codes ")") (left c.args.tokens.now) c.takes.result (left c.takes.new.self) _
+    (λ ts. and_then ((readers s c.args.levels).numbered 0 ts) (λ d. Some (Record d.0, d.1))) _ _
     c.takes.ensures.taken c.takes.ensures.kept c.if-takes.false
     (next_ok s s seen seen _ c.in_ok-fields.fields _ _ _ _ c.in_ok-fields.ensures (made s seen _ _ _ c.structure.ensures))
 
@@ -711,7 +705,8 @@ shape_at-returns t c =
     let s : List Piece = pieces c.args.source.now in
     sign_left s (option_map seen) (codes "{") (left c.args.tokens.now) c.takes.result (left c.takes.new.self) _
     (λ ts. on (behind_sign (codes "(") ts) (λ rest. and_then (rounded_by (readers s c.args.levels) rest) there) (Some (None, ts))) _ _ c.takes.ensures.taken c.takes.ensures.kept c.if-takes.false
-    (sign_left s (option_map seen) (codes "(") (left c.takes.new.self) c.takes-2.result (left c.takes-2.new.self) _ (λ ts. Some (None, ts)) _ _ c.takes-2.ensures.taken c.takes-2.ensures.kept c.if-takes-2.false (refl, refl))
+    (sign_left s (option_map seen) (codes "(") (left c.takes.new.self) c.takes-2.result (left c.takes-2.new.self) _ (λ ts. Some (None, ts)) _ _
+    c.takes-2.ensures.taken c.takes-2.ensures.kept c.if-takes-2.false (refl, refl))
 
 pub held_at-returns-in_default : goal.held_at-returns-in_default
 held_at-returns-in_default t c =
@@ -873,19 +868,141 @@ pub named_type-returns-in_err-size : goal.named_type-returns-in_err-size
 named_type-returns-in_err-size t c =
     let s : List Piece = pieces c.args.source.now in
     let p = err_from_is_err_and c.from_residual.result c.from_residual.ensures.1 in
-    rw (p.1, p.2) (named_refused s _ c.args.name.now (readers s c.args.levels) _)
+    rw (p.1, p.2) (named_refused s c.args.name.now (readers s c.args.levels) _)
 
 pub named_type-returns-in_default : goal.named_type-returns-in_default
 named_type-returns-in_default t c =
     let s : List Piece = pieces c.args.source.now in
-    named_refused s _ c.args.name.now (readers s c.args.levels) _
+    named_refused s c.args.name.now (readers s c.args.levels) _
 
 pub named_type-returns-in-Ok : goal.named_type-returns-in-Ok
 named_type-returns-in-Ok t c =
     let s : List Piece = pieces c.args.source.now in
-    named_found s (bytes_eq c.args.name.now (codes "str")) (declaration_of c.args.name.now 0 s) c.in-Some.found (readers s c.args.levels) _ (rw c.in-Some.is at c.declaration_in.ensures) (rw c.in-Ok.is at c.found_type.ensures)
+    named_found s (declaration_of c.args.name.now 0 s) c.in-Some.found (readers s c.args.levels) _ (rw c.in-Some.is at c.declaration_in.ensures) (rw c.in-Ok.is at c.found_type.ensures)
 
 pub named_type-returns-in-Err : goal.named_type-returns-in-Err
 named_type-returns-in-Err t c =
     let s : List Piece = pieces c.args.source.now in
-    named_refused s _ c.args.name.now (readers s c.args.levels) _
+    named_refused s c.args.name.now (readers s c.args.levels) _
+
+-- the lists and texts of other crates
+
+pub container_at-returns-in_err-expect-2 : goal.container_at-returns-in_err-expect-2
+container_at-returns-in_err-expect-2 t c =
+    let s : List Piece = pieces c.args.source.now in
+    let e : bytes_eq (string_bytes c.in_ok-word.word) (codes "Vec") ≡ true = search rules in
+    let p = err_from_is_err_and c.from_residual-in_err-expect-2.result c.from_residual-in_err-expect-2.ensures.1 in
+    rw (p.1, p.2) (next_ok [] s (λ u. u) seen _ c.in_ok-expect.field-0 _ _ _ _ c.in_ok-expect.ensures
+    (next_word s seen (string_bytes c.in_ok-word.word) _ _ _ _ _ c.in_ok-word.ensures
+    (test_true s seen _ _ _ _ _ e (next_fault s (λ u. u) seen _ _ _ _ _ c.in_err-expect-2.ensures))))
+
+pub container_at-returns-in_err-item : goal.container_at-returns-in_err-item
+container_at-returns-in_err-item t c =
+    let s : List Piece = pieces c.args.source.now in
+    let e : bytes_eq (string_bytes c.in_ok-word.word) (codes "Vec") ≡ true = search rules in
+    let p = err_from_is_err_and c.from_residual-in_err-item.result c.from_residual-in_err-item.ensures.1 in
+    rw (p.1, p.2) (next_ok [] s (λ u. u) seen _ c.in_ok-expect.field-0 _ _ _ _ c.in_ok-expect.ensures
+    (next_word s seen (string_bytes c.in_ok-word.word) _ _ _ _ _ c.in_ok-word.ensures
+    (test_true s seen _ _ _ _ _ e (next_ok [] s (λ u. u) seen _ c.in_ok-expect-2.field-0 _ _ _ _ c.in_ok-expect-2.ensures
+    (next_err s seen seen _ _ _ _ _ c.in_err-item.ensures)))))
+
+pub container_at-returns-in_err-expect-3 : goal.container_at-returns-in_err-expect-3
+container_at-returns-in_err-expect-3 t c =
+    let s : List Piece = pieces c.args.source.now in
+    let e : bytes_eq (string_bytes c.in_ok-word.word) (codes "Vec") ≡ true = search rules in
+    let p = err_from_is_err_and c.from_residual-in_err-expect-3.result c.from_residual-in_err-expect-3.ensures.1 in
+    rw (p.1, p.2) (next_ok [] s (λ u. u) seen _ c.in_ok-expect.field-0 _ _ _ _ c.in_ok-expect.ensures
+    (next_word s seen (string_bytes c.in_ok-word.word) _ _ _ _ _ c.in_ok-word.ensures
+    (test_true s seen _ _ _ _ _ e (next_ok [] s (λ u. u) seen _ c.in_ok-expect-2.field-0 _ _ _ _ c.in_ok-expect-2.ensures
+    (next_ok s s seen seen _ c.in_ok-item.item _ _ _ _ c.in_ok-item.ensures (next_fault s (λ u. u) seen _ _ _ _ _ c.in_err-expect-3.ensures))))))
+
+pub container_at-returns : goal.container_at-returns
+container_at-returns t c =
+    let s : List Piece = pieces c.args.source.now in
+    let e : bytes_eq (string_bytes c.in_ok-word.word) (codes "Vec") ≡ true = search rules in
+    next_ok [] s (λ u. u) seen _ c.in_ok-expect.field-0 _ _ _ _ c.in_ok-expect.ensures
+    (next_word s seen (string_bytes c.in_ok-word.word) _ _ _ _ _ c.in_ok-word.ensures
+    (test_true s seen _ _ _ _ _ e (next_ok [] s (λ u. u) seen _ c.in_ok-expect-2.field-0 _ _ _ _ c.in_ok-expect-2.ensures
+    (next_ok s s seen seen _ c.in_ok-item.item _ _ _ _ c.in_ok-item.ensures
+    (next_ok [] s (λ u. u) seen _ c.in_ok-expect-3.field-0 _ _ _ _ c.in_ok-expect-3.ensures (anywhere s seen _ _ _ c.schemed_list.ensures))))))
+
+pub range_at-returns-in_err-expect-2 : goal.range_at-returns-in_err-expect-2
+range_at-returns-in_err-expect-2 t c =
+    let s : List Piece = pieces c.args.source.now in
+    let p = err_from_is_err_and c.from_residual-in_err-expect-2.result c.from_residual-in_err-expect-2.ensures.1 in
+    rw (p.1, p.2) (next_ok [] s (λ u. u) seen _ c.in_ok-expect.field-0 _ _ _ _ c.in_ok-expect.ensures
+    (next_ok s s seen seen _ c.in_ok-bound.bound _ _ _ _ c.in_ok-bound.ensures (next_fault s (λ u. u) seen _ _ _ _ _ c.in_err-expect-2.ensures)))
+
+pub range_at-returns : goal.range_at-returns
+range_at-returns t c =
+    let s : List Piece = pieces c.args.source.now in
+    next_ok [] s (λ u. u) seen _ c.in_ok-expect.field-0 _ _ _ _ c.in_ok-expect.ensures
+    (next_ok s s seen seen _ c.in_ok-bound.bound _ _ _ _ c.in_ok-bound.ensures
+    (next_ok [] s (λ u. u) seen _ c.in_ok-expect-2.field-0 _ _ _ _ c.in_ok-expect-2.ensures (made s seen _ _ _ c.range.ensures)))
+
+pub cow_at-returns-in_err-pass_lifetime : goal.cow_at-returns-in_err-pass_lifetime
+cow_at-returns-in_err-pass_lifetime t c =
+    let s : List Piece = pieces c.args.source.now in
+    let p = err_from_is_err_and c.from_residual-in_err-pass_lifetime.result c.from_residual-in_err-pass_lifetime.ensures.1 in
+    rw (p.1, p.2) (next_ok [] s (λ u. u) seen _ c.in_ok-expect.field-0 _ _ _ _ c.in_ok-expect.ensures
+    (next_fault s (λ u. u) seen _ _ _ _ _ c.in_err-pass_lifetime.ensures))
+
+pub cow_at-returns-in_err-expect-2 : goal.cow_at-returns-in_err-expect-2
+cow_at-returns-in_err-expect-2 t c =
+    let s : List Piece = pieces c.args.source.now in
+    let p = err_from_is_err_and c.from_residual-in_err-expect-2.result c.from_residual-in_err-expect-2.ensures.1 in
+    rw (p.1, p.2) (next_ok [] s (λ u. u) seen _ c.in_ok-expect.field-0 _ _ _ _ c.in_ok-expect.ensures
+    (next_ok [] s (λ u. u) seen _ c.in_ok-pass_lifetime.field-0 _ _ _ _ c.in_ok-pass_lifetime.ensures
+    (sign_taken s seen _ c.takes_word.result _ _ _ _ _ c.takes_word.ensures.taken c.if-takes_word.true
+    (next_fault s (λ u. u) seen _ _ _ _ _ c.in_err-expect-2.ensures))))
+
+pub cow_at-returns-then-takes_word : goal.cow_at-returns-then-takes_word
+cow_at-returns-then-takes_word t c =
+    let s : List Piece = pieces c.args.source.now in
+    next_ok [] s (λ u. u) seen _ c.in_ok-expect.field-0 _ _ _ _ c.in_ok-expect.ensures
+    (next_ok [] s (λ u. u) seen _ c.in_ok-pass_lifetime.field-0 _ _ _ _ c.in_ok-pass_lifetime.ensures
+    (sign_taken s seen _ c.takes_word.result _ _ _ _ _ c.takes_word.ensures.taken c.if-takes_word.true
+    (next_ok [] s (λ u. u) seen _ c.in_ok-expect-2.field-0 _ _ _ _ c.in_ok-expect-2.ensures (refl, refl))))
+
+pub cow_at-returns-in_err-expect-4 : goal.cow_at-returns-in_err-expect-4
+cow_at-returns-in_err-expect-4 t c =
+    let s : List Piece = pieces c.args.source.now in
+    let p = err_from_is_err_and c.from_residual-in_err-expect-4.result c.from_residual-in_err-expect-4.ensures.1 in
+    rw (p.1, p.2) (next_ok [] s (λ u. u) seen _ c.in_ok-expect.field-0 _ _ _ _ c.in_ok-expect.ensures
+    (next_ok [] s (λ u. u) seen _ c.in_ok-pass_lifetime.field-0 _ _ _ _ c.in_ok-pass_lifetime.ensures
+    (name_left s seen (codes "str") (left c.pass_lifetime.new.self) c.takes_word.result (left c.takes_word.new.self) (closed Words)
+    (slice_by (readers s c.args.levels).types) _ _ c.takes_word.ensures.taken c.takes_word.ensures.kept c.if-takes_word.false
+    (next_ok [] s (λ u. u) seen _ c.in_ok-expect-3.field-0 _ _ _ _ c.in_ok-expect-3.ensures
+    (next_ok s s seen seen _ c.in_ok-item.item _ _ _ _ c.in_ok-item.ensures
+    (next_fault s (λ u. u) seen _ _ _ _ _ c.in_err-expect-4.ensures))))))
+
+pub cow_at-returns-in_err-expect-5 : goal.cow_at-returns-in_err-expect-5
+cow_at-returns-in_err-expect-5 t c =
+    let s : List Piece = pieces c.args.source.now in
+    let p = err_from_is_err_and c.from_residual-in_err-expect-5.result c.from_residual-in_err-expect-5.ensures.1 in
+    rw (p.1, p.2) (next_ok [] s (λ u. u) seen _ c.in_ok-expect.field-0 _ _ _ _ c.in_ok-expect.ensures
+    (next_ok [] s (λ u. u) seen _ c.in_ok-pass_lifetime.field-0 _ _ _ _ c.in_ok-pass_lifetime.ensures
+    (name_left s seen (codes "str") (left c.pass_lifetime.new.self) c.takes_word.result (left c.takes_word.new.self) (closed Words)
+    (slice_by (readers s c.args.levels).types) _ _ c.takes_word.ensures.taken c.takes_word.ensures.kept c.if-takes_word.false
+    (next_ok [] s (λ u. u) seen _ c.in_ok-expect-3.field-0 _ _ _ _ c.in_ok-expect-3.ensures
+    (next_ok s s seen seen _ c.in_ok-item.item _ _ _ _ c.in_ok-item.ensures
+    (next_ok [] s (λ u. u) seen _ c.in_ok-expect-4.field-0 _ _ _ _ c.in_ok-expect-4.ensures
+    (next_fault s (λ u. u) seen _ _ _ _ _ c.in_err-expect-5.ensures)))))))
+
+pub cow_at-returns : goal.cow_at-returns
+cow_at-returns t c =
+    let s : List Piece = pieces c.args.source.now in
+    next_ok [] s (λ u. u) seen _ c.in_ok-expect.field-0 _ _ _ _ c.in_ok-expect.ensures
+    (next_ok [] s (λ u. u) seen _ c.in_ok-pass_lifetime.field-0 _ _ _ _ c.in_ok-pass_lifetime.ensures
+    (name_left s seen (codes "str") (left c.pass_lifetime.new.self) c.takes_word.result (left c.takes_word.new.self) (closed Words)
+    (slice_by (readers s c.args.levels).types) _ _ c.takes_word.ensures.taken c.takes_word.ensures.kept c.if-takes_word.false
+    (next_ok [] s (λ u. u) seen _ c.in_ok-expect-3.field-0 _ _ _ _ c.in_ok-expect-3.ensures
+    (next_ok s s seen seen _ c.in_ok-item.item _ _ _ _ c.in_ok-item.ensures
+    (next_ok [] s (λ u. u) seen _ c.in_ok-expect-4.field-0 _ _ _ _ c.in_ok-expect-4.ensures
+    (next_ok [] s (λ u. u) seen _ c.in_ok-expect-5.field-0 _ _ _ _ c.in_ok-expect-5.ensures (made s seen _ _ _ c.list.ensures)))))))
+
+pub one_at-returns-in_err-expect : goal.one_at-returns-in_err-expect
+one_at-returns-in_err-expect t c =
+    let s : List Piece = pieces c.args.source.now in
+    let p = err_from_is_err_and c.from_residual.result c.from_residual.ensures.1 in
+    rw (p.1, p.2) (next_fault s (λ u. u) seen _ _ _ _ _ c.in_err-expect.ensures)

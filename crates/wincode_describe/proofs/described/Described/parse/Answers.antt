@@ -1,7 +1,24 @@
--- What is written of a type is parsed as that type.
-use Rattle.std.proofs.Common.{[]}
-use Rattle.wincode_describe.proofs.WrittenSplits.{made_back, parses_back}
+-- What is parsed of a text is the type that it describes, and that is the one that it is written of.
+use Rattle.std.proofs.Common.{[], Option, None, Some, Result, Ok, Err, IfOk, IfErr}
+use Rattle.wincode_describe.specs.Forms.{Form, seen}
+use Rattle.wincode_describe.specs.Readers.{Parses, IsKnownAs, IsRefusedOf}
+use Rattle.wincode_describe.specs.declared.described.Described.{Described}
+use Rattle.wincode_describe.specs.declared.error.DescribeError.{DescribeError}
+use Rattle.wincode_describe.proofs.WrittenSplits.{known_as, made_back, parses_back}
 use Rattle.wincode_describe.proofs.described.Described.parse.Goals as goal
 
+known : (o : Option Form) (r : Result Described DescribeError) → Parses [] o r → IfOk r (λ d. IsKnownAs o (seen d))
+known o (Ok d) h = known_as [] o d h
+known o (Err e) h = tt
+
+refused : (o : Option Form) (r : Result Described DescribeError) → Parses [] o r → IfErr r (IsRefusedOf o)
+refused o (Ok d) h = tt
+refused None (Err e) h = tt
+refused (Some f) (Err e) h = h
+
 pub returns : goal.returns
-returns c = λ form is_type same. made_back form c.whole_type.result (parses_back [] c.args.text.now 128 form c.whole_type.result c.whole_type.ensures is_type same)
+returns c = record {
+  ok = λ form is_type same. made_back form c.whole_type.result (parses_back [] c.args.text.now 128 form c.whole_type.result c.whole_type.ensures is_type same);
+  known = known _ c.whole_type.result c.whole_type.ensures;
+  refused = refused _ c.whole_type.result c.whole_type.ensures;
+}
