@@ -1,12 +1,12 @@
 -- What a call reports of bytes.
-use Rattle.std.specs.Prelude.{◌≡◌, ◌⊎◌, ℕ, zero, suc, ℤ, pos, neg_ℤ, ◌-◌, ◌<◌, ◌≤◌, List, length, Option, Some, None, Bool, true, false, IsUtf8}
+use Rattle.std.specs.Prelude.{◌≡◌, ◌⊎◌, ℕ, zero, suc, ℤ, pos, neg_ℤ, ◌-◌, ◌<◌, ◌≤◌, List, length, Option, Some, None, Bool, true, false, IsUtf8, MatchOption}
 use Rattle.wincode_io.specs.Readers.{ReaderState, memory, nothing}
 use Rattle.wincode_base.specs.declared.error.ReadError.{ReadError}
 use Rattle.wincode_describe.specs.Explained.{ExplainsRead}
 use Rattle.wincode_describe.specs.Forms.{Form, seen}
 use Rattle.wincode_describe.specs.Lines.{Tells}
 use Rattle.wincode_describe.specs.Parts.{Part, parts_bytes}
-use Rattle.wincode_describe.specs.Readers.{IsKnownAs, type_in}
+use Rattle.wincode_describe.specs.Readers.{IsKnownAs, type_in, type_of}
 use Rattle.wincode_describe.specs.Spelled.{IsType}
 use Rattle.wincode_describe.specs.Written.{written}
 use Rattle.wincode_describe.specs.declared.described.Described.{Described}
@@ -19,9 +19,13 @@ use Rattle.wincode_c.specs.declared.report.Report.{Report}
 use Rattle.wincode_c.specs.declared.typed.Untyped.{Untyped}
 use Rattle.wincode_c.specs.declared.typed.Untyped.TheVariants.{NoText, Wanted, TooDeep, OutOfMemory}
 
--- The text is that of the type: where it is written as types are, it is that one.
+-- where the text is written as types are, the type is that one
+abbrev pub IsWrittenAs : List ℕ → Described → Type 0
+IsWrittenAs text d = (form : Form) → IsType 128 form → text ≡ written form → seen d ≡ form
+
+-- the text is that of the type
 abbrev pub IsTextOf : List ℕ → Described → Type 0
-IsTextOf text d = (form : Form) → IsType 128 form → text ≡ written form → seen d ≡ form
+IsTextOf text d = IsWrittenAs text d × IsKnownAs (type_of text 128) (seen d)
 
 -- Nothing was refused, or this was: its number, and the numbers of its text.
 abbrev pub IsTold : Option ReadError → ℤ → ℕ → ℕ → Type 0
@@ -59,9 +63,10 @@ fault_place OutOfMemory = 0
 abbrev pub FaultReported : Untyped → Report → ℤ → Type 0
 FaultReported f r n = (n ≡ fault_number f) × (r.place ≡ fault_place f) × (r.length ≡ 0) × (r.parts ≡ 0) × (r.behind ≡ 0) × (r.first ≡ 0) × (r.second ≡ 0) × (r.depth ≡ 0)
 
--- A text that is written as types are has no fault, but that memory was refused.
+-- A text that describes a type has no fault, but that memory was refused.
 abbrev pub Untypes : List ℕ → Untyped → Type 0
-Untypes text f = IsUtf8 text → (form : Form) → IsType 128 form → text ≡ written form → f ≡ OutOfMemory
+Untypes text f = IsUtf8 text → ((form : Form) → IsType 128 form → text ≡ written form → f ≡ OutOfMemory)
+    × MatchOption (type_of text 128) Unit (λ form. f ≡ OutOfMemory)
 
 -- The text is that of a type, by which the bytes are reported; or it has a fault, which is.
 abbrev pub Answers : List ℕ → List ℕ → Report → ℤ → Type 0
@@ -99,7 +104,7 @@ AnswersPage text bytes from old new r p n = ((d : Described) × IsTextOf text d 
 
 -- The text is that of the type, where the structs and enums that a source declares have their names.
 abbrev pub IsTextBy : List ℕ → List ℕ → Described → Type 0
-IsTextBy source text d = IsTextOf text d × IsKnownAs (type_in source text 128) (seen d)
+IsTextBy source text d = IsWrittenAs text d × IsKnownAs (type_in source text 128) (seen d)
 
 -- The text of that type stands over the front of the room; or memory for it was refused, or there is a fault, and nothing is
 -- put there.
