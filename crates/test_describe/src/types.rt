@@ -105,7 +105,7 @@ fn are_parsed_as_they_are_written(rt: HostRuntime) -> Result<(), Fail> {
 }
 
 /// Each is refused so.
-const REFUSED: [(&str, &str); 17] = [
+const REFUSED: [(&str, &str); 18] = [
     ("", "a type is wanted at byte 0"),
     ("u7", "a type is wanted at byte 0"),
     ("Vec u8", "`<` is wanted at byte 4"),
@@ -123,6 +123,7 @@ const REFUSED: [(&str, &str); 17] = [
     ("Cow<u8>", "`str` or `[` is wanted at byte 4"),
     ("Range<u8, u8>", "`>` is wanted at byte 8"),
     ("struct { : u8 }", "a field is wanted at byte 9"),
+    ("struct { #[a] : u8 }", "a field is wanted at byte 14"),
     (
         "enum i8 { 0: u8 }",
         "`u8`, `u16`, `u32` or `u64` is wanted at byte 5",

@@ -1,14 +1,15 @@
 -- The token in front.
 use Rattle.std.proofs.Common.{◌≡◌, ◌∙◌, sym, ap, refl, ℕ, ◌+◌, ◌<◌, ◌≤◌, ◌^◌, suc, Bool, true, false, nat_lt, cond, ◌&&◌, List, [], ◌∷◌, length}
-use Rattle.std.proofs.Common.{get_or, drop, map, Some, None, Err}
+use Rattle.std.proofs.Common.{get_or, drop, map, Some, None, Err, arith}
 use Rattle.std.proofs.Math.Seq.{drop-cons}
-use Rattle.std.proofs.lemmas.Bool.{ltb-true}
+use Rattle.std.proofs.lemmas.Bool.{lt-ltb, ltb-true}
 use Rattle.std.proofs.lemmas.List.{drop_all, drop-drop, drop-map, length-map}
-use Rattle.std.proofs.lemmas.Str.Parse.{IsNumeralModel, numerals_by_value, tells_all_ascii_digits, parse_digits}
+use Rattle.std.proofs.lemmas.Str.Parse.{IsNumeralModel, numerals_by_value, tells_all_ascii_digits}
 use Rattle.std.specs.Str.{all_ascii_digits}
-use Rattle.std.specs.Str.Parse.{ParsesUnsigned, digits_value}
+use Rattle.std.specs.Str.Parse.{IsNumeral, ParsesUnsigned, digits_value, without_leading_plus}
+use Rattle.std.specs.Result.{OkIff}
 use Rattle.wincode_derive_text.specs.Splits.{piece}
-use Rattle.wincode_describe.specs.Phrases.{Piece, front_text, number_front, number_of}
+use Rattle.wincode_describe.specs.Phrases.{Piece, front_text, number_front, number_in}
 use Rattle.wincode_derive_text.specs.declared.tokens.Kind.{Kind}
 use Rattle.wincode_derive_text.specs.declared.tokens.Kind.TheVariants as kind
 use Rattle.wincode_derive_text.specs.declared.tokens.Token.{Token}
@@ -61,13 +62,23 @@ none_of true true false n h = refl
 none_of true false c n h = refl
 none_of false b c n h = refl
 
-no_number : {E : Type 0} → (w : List ℕ) (x : E) → ParsesUnsigned 64 10 w (Err x) → number_of w ≡ None
-no_number w x h = none_of (all_ascii_digits w) (nat_lt 0 (length w)) (nat_lt (digits_value 10 w) (2 ^ 64)) (digits_value 10 w) (λ p q r.
-    let refused = parse_digits own 64 w (Err x) h p in
-    refused (ltb-true 0 (length w) q, ltb-true (digits_value 10 w) (2 ^ 64) r))
+-- as what std parses of the digits
+no_number : {E : Type 0} → (ds : List ℕ) (x : E) → OkIff (Err x) (IsNumeral 10 ds × (digits_value 10 ds < 2 ^ 64)) (digits_value 10 ds) → number_in ds ≡ None
+no_number ds x h = none_of (all_ascii_digits ds) (nat_lt 0 (length ds)) (nat_lt (digits_value 10 ds) (2 ^ 64)) (digits_value 10 ds) (λ p q r.
+    h ((ltb-true 0 (length ds) q, own.to ds p), ltb-true (digits_value 10 ds) (2 ^ 64) r))
+
+a_number : (ds : List ℕ) (n : ℕ) → (IsNumeral 10 ds × (digits_value 10 ds < 2 ^ 64)) × (n ≡ digits_value 10 ds) → number_in ds ≡ Some n
+a_number ds n h = rw (own.from ds h.0.0.1, lt-ltb 0 (length ds) h.0.0.0, lt-ltb (digits_value 10 ds) (2 ^ 64) h.0.1) (ap Some (sym h.1))
 
 pub number_refused : {E : Type 0} → (ts : List Piece) (x : E) → ParsesUnsigned 64 10 (front_text kind.Word ts) (Err x) → number_front ts ≡ None
 number_refused [] x h = refl
 number_refused ((kind.Word, []) ∷ rest) x h = refl
-number_refused ((kind.Word, c ∷ cs) ∷ rest) x h = rw (no_number (c ∷ cs) x h) refl
+number_refused ((kind.Word, c ∷ cs) ∷ rest) x h = rw (no_number (without_leading_plus (c ∷ cs)) x h) refl
 number_refused (_ ∷ rest) x h = refl
+
+pub number_taken : (ts : List Piece) (n : ℕ) → (IsNumeral 10 (without_leading_plus (front_text kind.Word ts)) × (digits_value 10 (without_leading_plus (front_text kind.Word ts)) < 2 ^ 64))
+    × (n ≡ digits_value 10 (without_leading_plus (front_text kind.Word ts))) → number_front ts ≡ Some (n, drop 1 ts)
+number_taken [] n h = absurd (omega (arith, h.0.0.0))
+number_taken ((kind.Word, []) ∷ rest) n h = absurd (omega (arith, h.0.0.0))
+number_taken ((kind.Word, c ∷ cs) ∷ rest) n h = rw (a_number (without_leading_plus (c ∷ cs)) n h) refl
+number_taken (_ ∷ rest) n h = absurd (omega (arith, h.0.0.0))

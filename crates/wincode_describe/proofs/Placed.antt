@@ -1,20 +1,19 @@
 -- The last part with a place, and items where all parts have theirs.
 use Rattle.std.proofs.Common.{◌≡◌, ◌∙◌, sym, ap, subst, ℕ, ◌+◌, ◌-◌, ◌≤◌, zero, suc, true, if◌then◌else◌, List, [], ◌∷◌, length, map, Option, Some, arith}
-use Rattle.std.specs.Prelude.{slice_get, option_map, SomeIff}
+use Rattle.std.specs.Prelude.{slice_get, option_and_then, option_map, SomeIff}
 use Rattle.std.proofs.lemmas.List.{length-map}
 use Rattle.std.proofs.lemmas.Option.{slice_get-map}
 use Rattle.wincode_describe.specs.Parts.{Part, seen}
 use Rattle.wincode_describe.specs.Places.{Walk, is_full, number_of, last_number, item_at, items_walk}
-use Rattle.wincode_describe.specs.Phrases.{and_then}
 use Rattle.wincode_describe.specs.declared.shown.Shown.{Shown}
 
 -- the number of the last one with a place, where so many have one
 pub last_some : (ps : List Shown) {X : Type 0} (f : X → List ℕ) (qs : List X) (i : ℕ) (p : Option Shown) → length qs ≡ suc i → slice_get ps i ≡ p
-    → last_number (map seen ps) (map f qs) ≡ and_then (option_map seen p) number_of
+    → last_number (map seen ps) (map f qs) ≡ option_and_then number_of (option_map seen p)
 last_some ps f [] i p e is = absurd (omega (arith, e))
 last_some ps f (q ∷ qs) i p e is =
-    ap (λ k. and_then (slice_get (map seen ps) k) number_of) (length-map qs f ∙ omega (arith, e))
-    ∙ ap (λ o. and_then o number_of) (slice_get-map seen ps i ∙ ap (option_map seen) is)
+    ap (λ k. option_and_then number_of (slice_get (map seen ps) k)) (length-map qs f ∙ omega (arith, e))
+    ∙ ap (option_and_then number_of) (slice_get-map seen ps i ∙ ap (option_map seen) is)
 
 -- the index before so many
 pub one_before : (r : Option ℕ) (n i : ℕ) → SomeIff r (1 ≤ n) (n - 1) → r ≡ Some i → n ≡ suc i

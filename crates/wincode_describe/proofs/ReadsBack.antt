@@ -2,15 +2,15 @@
 use Rattle.std.proofs.Common.{◌≡◌, ◌∙◌, refl, ℕ, zero, suc, ◌<◌, ◌^◌, Bool, true, false, List, [], ◌∷◌, length, Some, None, codes, decimal, arith, cond, bytes_eq, Option}
 use Rattle.std.proofs.lemmas.Bool.{lt-ltb, le-ltb}
 use Rattle.std.proofs.lemmas.Fmt.{digits_decimal, digits_value-decimal, decimal_nonempty}
-use Rattle.std.proofs.lemmas.Str.Parse.{IsNumeralModel, numerals_by_value, tells_all_ascii_digits}
+use Rattle.std.proofs.lemmas.Str.Parse.{IsNumeralModel, not_in_digits, numerals_by_value, tells_all_ascii_digits, without_leading_plus_none}
 use Rattle.std.specs.Str.{all_ascii_digits}
-use Rattle.std.specs.Str.Parse.{digits_value}
+use Rattle.std.specs.Str.Parse.{digits_value, without_leading_plus}
 use Rattle.wincode_describe.specs.Forms.{Form, Number, NotZero, Standard, Flag, Letter, Nothing, Words, Bytes, ByteBlock, Maybe, Either, Held, Many, Several, Pairs}
 use Rattle.wincode_describe.specs.Forms.{Block, Group, Record, Both, Named, Choice, LastCase, OneCase}
 use Rattle.wincode_describe.specs.Sources.{heads}
 use Rattle.wincode_describe.specs.declared.tokens.Over.{Over}
 use Rattle.wincode_describe.specs.declared.tokens.Over.TheVariants as over
-use Rattle.wincode_describe.specs.Phrases.{Piece, on, number_of, number_front, word_front, behind_sign, behind_name}
+use Rattle.wincode_describe.specs.Phrases.{Piece, Gives, on, number_of, number_front, word_front, behind_sign, behind_name}
 use Rattle.wincode_describe.proofs.ReadSteps.{members_is, tuple_is}
 use Rattle.wincode_describe.specs.Readers.{Readers, readers, no_more, type_by, list_form, array_form, greatest_of}
 use Rattle.wincode_describe.specs.Spelled.{word, sign, spelled, Within, IsForm, IsType, AreFields, AreCases}
@@ -26,9 +26,13 @@ use Rattle.wincode_describe.specs.declared.described.TagSize.TheVariants as tag
 own : IsNumeralModel (λ ds. all_ascii_digits ds ≡ true) (digits_value 10)
 own = numerals_by_value _ tells_all_ascii_digits
 
+-- a number is written without a plus
+plain_decimal : (n : ℕ) → n < 2 ^ 64 → without_leading_plus (decimal n) ≡ decimal n
+plain_decimal n h = without_leading_plus_none (decimal n) (not_in_digits own (decimal n) 43 (digits_decimal own n h) (λ k. omega (arith, k.0)) 0 (decimal_nonempty n h))
+
 -- a number is read back
 number_back : (n : ℕ) → n < 2 ^ 64 → number_of (decimal n) ≡ Some n
-number_back n h = rw (digits_decimal own n h, lt-ltb 0 (length (decimal n)) (decimal_nonempty n h), digits_value-decimal own n h, lt-ltb n (2 ^ 64) h) refl
+number_back n h = rw (plain_decimal n h, digits_decimal own n h, lt-ltb 0 (length (decimal n)) (decimal_nonempty n h), digits_value-decimal own n h, lt-ltb n (2 ^ 64) h) refl
 
 word_back : (w : List ℕ) (rest : List Piece) → 0 < length w → word_front (word w ∷ rest) ≡ Some (w, rest)
 word_back [] rest h = absurd (omega arith)
@@ -38,7 +42,7 @@ number_in_front : (n : ℕ) (rest : List Piece) → n < 2 ^ 64 → number_front 
 number_in_front n rest h = rw (word_back (decimal n) rest (decimal_nonempty n h), number_back n h) refl
 
 integer_back : (i : Integer) (source : List Piece) (below : Readers) (rest : List Piece)
-    → (type_by source below (word (integer_name i) ∷ rest) ≡ Some (Number i, rest)) × (behind_name (codes "str") (word (integer_name i) ∷ rest) ≡ None)
+    → (type_by source below (word (integer_name i) ∷ rest) ≡ Gives (Number i, rest)) × (behind_name (codes "str") (word (integer_name i) ∷ rest) ≡ None)
 integer_back U8 source below rest = (refl, refl)
 integer_back U16 source below rest = (refl, refl)
 integer_back U32 source below rest = (refl, refl)
@@ -53,7 +57,7 @@ integer_back I128 source below rest = (refl, refl)
 integer_back Isize source below rest = (refl, refl)
 
 nonzero_back : (i : Integer) (source : List Piece) (below : Readers) (rest : List Piece)
-    → (type_by source below (word (nonzero_name i) ∷ rest) ≡ Some (NotZero i, rest)) × (behind_name (codes "str") (word (nonzero_name i) ∷ rest) ≡ None)
+    → (type_by source below (word (nonzero_name i) ∷ rest) ≡ Gives (NotZero i, rest)) × (behind_name (codes "str") (word (nonzero_name i) ∷ rest) ≡ None)
 nonzero_back U8 source below rest = (refl, refl)
 nonzero_back U16 source below rest = (refl, refl)
 nonzero_back U32 source below rest = (refl, refl)
@@ -68,7 +72,7 @@ nonzero_back I128 source below rest = (refl, refl)
 nonzero_back Isize source below rest = (refl, refl)
 
 std_back : (k : StdType) (source : List Piece) (below : Readers) (rest : List Piece)
-    → (type_by source below (word (std_name k) ∷ rest) ≡ Some (Standard k, rest)) × (behind_name (codes "str") (word (std_name k) ∷ rest) ≡ None)
+    → (type_by source below (word (std_name k) ∷ rest) ≡ Gives (Standard k, rest)) × (behind_name (codes "str") (word (std_name k) ∷ rest) ≡ None)
 std_back std.F32 source below rest = (refl, refl)
 std_back std.F64 source below rest = (refl, refl)
 std_back std.Duration source below rest = (refl, refl)
@@ -143,25 +147,25 @@ no_head s rest = no_pub (bytes_eq s (codes "pub")) (word s ∷ sign (codes ":") 
 
 -- what is spelled is read back within so many levels
 record Back (source : List Piece) (n : ℕ) : Type 0 where
-  types : (f : Form) (rest : List Piece) → IsForm f false n → (readers source n).types (spelled f rest) ≡ Some (f, rest)
+  types : (f : Form) (rest : List Piece) → IsForm f false n → (readers source n).types (spelled f rest) ≡ Gives (f, rest)
   tuple : (d e : Form) (rest : List Piece) → IsForm d false n → Within n (λ k. IsForm e true k)
-      → (readers source n).tuple (spelled d (sign (codes ",") ∷ spelled e (sign (codes ")") ∷ rest))) ≡ Some (Group (Both d e), rest)
-  members : (f : Form) (rest : List Piece) → IsForm f true n → (readers source n).members (spelled f (sign (codes ")") ∷ rest)) ≡ Some (f, rest)
-  fields : (f : Form) (rest : List Piece) → AreFields f n → (readers source n).fields (spelled f (sign (codes "}") ∷ rest)) ≡ Some (f, rest)
-  cases : (f : Form) (g : ℕ) (rest : List Piece) → AreCases f g n → (readers source n).cases g (spelled f (sign (codes "}") ∷ rest)) ≡ Some (f, rest)
+      → (readers source n).tuple (spelled d (sign (codes ",") ∷ spelled e (sign (codes ")") ∷ rest))) ≡ Gives (Group (Both d e), rest)
+  members : (f : Form) (rest : List Piece) → IsForm f true n → (readers source n).members (spelled f (sign (codes ")") ∷ rest)) ≡ Gives (f, rest)
+  fields : (f : Form) (rest : List Piece) → AreFields f n → (readers source n).fields (spelled f (sign (codes "}") ∷ rest)) ≡ Gives (f, rest)
+  cases : (f : Form) (g : ℕ) (rest : List Piece) → AreCases f g n → (readers source n).cases g (spelled f (sign (codes "}") ∷ rest)) ≡ Gives (f, rest)
 
-bytes_more : (source : List Piece) (s : LengthScheme) (n : ℕ) (rest : List Piece) → 0 < n → (readers source (suc n)).types (spelled (Bytes s) rest) ≡ Some (Bytes s, rest)
+bytes_more : (source : List Piece) (s : LengthScheme) (n : ℕ) (rest : List Piece) → 0 < n → (readers source (suc n)).types (spelled (Bytes s) rest) ≡ Gives (Bytes s, rest)
 unfolding readers
 bytes_more source s zero rest h = absurd (omega arith)
 bytes_more source Eight (suc n) rest h = refl
 bytes_more source Short (suc n) rest h = refl
 
-byte_block_more : (source : List Piece) (k n : ℕ) (rest : List Piece) → 0 < n → k < 2 ^ 64 → (readers source (suc n)).types (spelled (ByteBlock k) rest) ≡ Some (ByteBlock k, rest)
+byte_block_more : (source : List Piece) (k n : ℕ) (rest : List Piece) → 0 < n → k < 2 ^ 64 → (readers source (suc n)).types (spelled (ByteBlock k) rest) ≡ Gives (ByteBlock k, rest)
 unfolding readers
 byte_block_more source k zero rest h f = absurd (omega arith)
 byte_block_more source k (suc n) rest h f = rw (number_in_front k (sign (codes "]") ∷ rest) f) refl
 
-types_more : (source : List Piece) (n : ℕ) → Back source n → (f : Form) (rest : List Piece) → IsForm f false (suc n) → (readers source (suc n)).types (spelled f rest) ≡ Some (f, rest)
+types_more : (source : List Piece) (n : ℕ) → Back source n → (f : Form) (rest : List Piece) → IsForm f false (suc n) → (readers source (suc n)).types (spelled f rest) ≡ Gives (f, rest)
 unfolding readers
 types_more source n b (Number i) rest h = (integer_back i source (readers source n) rest).0
 types_more source n b (NotZero i) rest h = (nonzero_back i source (readers source n) rest).0
@@ -198,7 +202,7 @@ types_more source n b (Choice tag.U64 d) rest h = rw (b.cases d (greatest_of tag
 types_more source n b _ rest h = absurd h
 
 tuple_more : (source : List Piece) (n : ℕ) → Back source n → (d e : Form) (rest : List Piece) → IsForm d false (suc n) → IsForm e true n
-    → (readers source (suc n)).tuple (spelled d (sign (codes ",") ∷ spelled e (sign (codes ")") ∷ rest))) ≡ Some (Group (Both d e), rest)
+    → (readers source (suc n)).tuple (spelled d (sign (codes ",") ∷ spelled e (sign (codes ")") ∷ rest))) ≡ Gives (Group (Both d e), rest)
 tuple_more source n b d e rest h k = tuple_is source (suc n) (spelled d (sign (codes ",") ∷ spelled e (sign (codes ")") ∷ rest)))
     ∙ rw (
       begins_tuple d (sign (codes ",") ∷ spelled e (sign (codes ")") ∷ rest)),
@@ -207,11 +211,11 @@ tuple_more source n b d e rest h k = tuple_is source (suc n) (spelled d (sign (c
     ) refl
 
 last_member : (source : List Piece) (n : ℕ) → Back source n → (f : Form) (rest : List Piece) → IsForm f false (suc n) → (readers source (suc n)).members (spelled f (sign (codes ")") ∷ rest))
-    ≡ Some (f, rest)
+    ≡ Gives (f, rest)
 last_member source n b f rest h = members_is source (suc n) (spelled f (sign (codes ")") ∷ rest)) ∙ rw (types_more source n b f (sign (codes ")") ∷ rest) h) refl
 
 members_more : (source : List Piece) (n : ℕ) → Back source n → (f : Form) (rest : List Piece) → IsForm f true (suc n) → (readers source (suc n)).members (spelled f (sign (codes ")") ∷ rest))
-    ≡ Some (f, rest)
+    ≡ Gives (f, rest)
 members_more source n b (Both d e) rest h = members_is source (suc n) (spelled d (sign (codes ",") ∷ spelled e (sign (codes ")") ∷ rest)))
     ∙ rw (types_more source n b d (sign (codes ",") ∷ spelled e (sign (codes ")") ∷ rest)) h.0, begins_tuple e (sign (codes ")") ∷ rest), b.members e rest h.1) refl
 members_more source n b (Pairs (Both d e)) rest h = last_member source n b (Pairs (Both d e)) rest h
@@ -219,7 +223,7 @@ members_more source n b (Group (Both d e)) rest h = last_member source n b (Grou
 members_more source n b f rest h = last_member source n b f rest h
 
 fields_more : (source : List Piece) (n : ℕ) → Back source n → (f : Form) (rest : List Piece) → AreFields f (suc n) → (readers source (suc n)).fields (spelled f (sign (codes "}") ∷ rest))
-    ≡ Some (f, rest)
+    ≡ Gives (f, rest)
 unfolding readers
 fields_more source n b (Named s d) rest h = rw (
   no_head s (spelled d (sign (codes "}") ∷ rest)),
@@ -237,7 +241,7 @@ fields_more source n b (Both (Named s d) e) rest h = rw (
 fields_more source n b _ rest h = absurd h
 
 cases_more : (source : List Piece) (n : ℕ) → Back source n → (f : Form) (g : ℕ) (rest : List Piece) → AreCases f g (suc n) → (readers source (suc n)).cases g (spelled f (sign (codes "}") ∷ rest))
-    ≡ Some (f, rest)
+    ≡ Gives (f, rest)
 unfolding readers
 cases_more source n b (LastCase t d) g rest h = rw (
   number_in_front t (sign (codes ":") ∷ spelled d (sign (codes "}") ∷ rest)) h.1,
@@ -280,5 +284,5 @@ back source (suc n) = record {
   cases = cases_more source n (back source n);
 }
 
-pub type_back : (source : List Piece) (f : Form) (n : ℕ) (rest : List Piece) → IsType n f → (readers source n).types (spelled f rest) ≡ Some (f, rest)
+pub type_back : (source : List Piece) (f : Form) (n : ℕ) (rest : List Piece) → IsType n f → (readers source n).types (spelled f rest) ≡ Gives (f, rest)
 type_back source f n rest h = let b = back source n in b.types f rest h

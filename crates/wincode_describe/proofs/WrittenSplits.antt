@@ -16,7 +16,7 @@ use Rattle.wincode_derive_text.proofs.SplitLaws.{and_left, and_right, ascii_of_w
 use Rattle.wincode_describe.proofs.ReadsBack.{type_back}
 use Rattle.wincode_describe.specs.Forms.{Form, seen, Number, NotZero, Standard, Flag, Letter, Nothing, Words, Bytes, ByteBlock, Maybe, Either, Held, Many, Several}
 use Rattle.wincode_describe.specs.Forms.{Pairs, Block, Group, Record, Both, Named, Choice, LastCase, OneCase}
-use Rattle.wincode_describe.specs.Phrases.{Piece, and_then, pieces}
+use Rattle.wincode_describe.specs.Phrases.{Piece, Said, Unsaid, Refused, Gives, and_then, known, pieces}
 use Rattle.wincode_describe.specs.Readers.{Makes, Parses, IsKnownAs, ended, greatest_of, whole}
 use Rattle.wincode_describe.specs.Spelled.{word, sign, spelled, IsForm, IsType, AreFields, AreCases, IsName}
 use Rattle.wincode_describe.specs.Written.{written, integer_name, nonzero_name, std_name}
@@ -331,27 +331,29 @@ ascii_at (c ∷ cs) h = λ i. elim i as (λ i. slice_index (c ∷ cs) i < 128) [
 
 -- The text of a described type is parsed as that type, whatever a source declares.
 pub parses_back : (source : List Piece) (text : List ℕ) (n : ℕ) (f : Form) (r : Result Described DescribeError)
-    → Parses source (and_then (tokens_in (chars text)) (whole source n)) r → IsType n f → text ≡ written f → Parses source (Some f) r
+    → Parses source (and_then (known (tokens_in (chars text))) (whole source n)) r → IsType n f → text ≡ written f → Parses source (Gives f) r
 parses_back source text n f r parsed is_type same =
     let k = type_splits n f is_type in
     let plain : chars text ≡ written f = ap chars same ∙ chars-IsAscii (written f) (ascii_at (written f) (written_ascii f k)) in
     let split : tokens_in (chars text) ≡ Some (spelled f []) = ap tokens_in plain ∙ splits_as f 10 [] [] k refl refl in
-    let all : and_then (tokens_in (chars text)) (whole source n) ≡ Some f =
-    ap (λ o. and_then o (whole source n)) split ∙ ap (λ o. and_then o ended) (type_back source f n [] is_type) in
-    let P : Option Form → Type 0 = λ o. Parses source o r in
+    let all : and_then (known (tokens_in (chars text))) (whole source n) ≡ Gives f =
+    ap (λ o. and_then (known o) (whole source n)) split ∙ ap (λ o. and_then o ended) (type_back source f n [] is_type) in
+    let P : Said Form → Type 0 = λ o. Parses source o r in
     subst P all parsed
 
 -- so, without one
-pub made_back : (f : Form) (r : Result Described DescribeError) → Parses [] (Some f) r → Makes seen f r
+pub made_back : (f : Form) (r : Result Described DescribeError) → Parses [] (Gives f) r → Makes seen f r
 made_back f (Ok d) h = h
 made_back f (Err e) h = h
 
 -- and what is parsed by a source is what is known of it
-pub known_as : (source : List Piece) (o : Option Form) (d : Described) → Parses source o (Ok d) → IsKnownAs o (seen d)
-known_as source None d h = tt
-known_as source (Some f) d h = h
+pub known_as : (source : List Piece) (o : Said Form) (d : Described) → Parses source o (Ok d) → IsKnownAs o (seen d)
+known_as source Unsaid d h = tt
+known_as source Refused d h = h
+known_as source (Gives f) d h = h
 
 pub parsed_known : (o : Option (List Piece)) (tokens : Vec Token) (t : Option (List Piece)) (n : ℕ) (d : Described) → Splits o (Ok tokens)
-    → Parses (pieces tokens.items) (and_then t (whole (pieces tokens.items) n)) (Ok d) → IsKnownAs (and_then o (λ s. and_then t (whole s n))) (seen d)
+    → Parses (pieces tokens.items) (and_then (known t) (whole (pieces tokens.items) n)) (Ok d)
+    → IsKnownAs (and_then (known o) (λ s. and_then (known t) (whole s n))) (seen d)
 parsed_known None tokens t n d h parsed = tt
-parsed_known (Some s) tokens t n d h parsed = known_as s (and_then t (whole s n)) d (rw h at parsed)
+parsed_known (Some s) tokens t n d h parsed = known_as s (and_then (known t) (whole s n)) d (rw h at parsed)

@@ -1,8 +1,7 @@
 -- Where in its type each part of a value stands.
 use Rattle.std.specs.Prelude.{◌≡◌, map, OnOk, Result, String, ℕ, zero, suc, ◌-◌, ◌^◌, min, Bool, nat_eq, nat_lt, if◌then◌else◌, List, [], ◌∷◌, ◌++◌}
-use Rattle.std.specs.Prelude.{length, Option, Some, None, slice_get, codes, decimal, string_bytes}
+use Rattle.std.specs.Prelude.{length, Option, Some, None, option_and_then, slice_get, codes, decimal, string_bytes}
 use Rattle.wincode_describe.specs.Parts.{Part, Length, Tag}
-use Rattle.wincode_describe.specs.Phrases.{and_then}
 use Rattle.wincode_describe.specs.declared.described.Described.{Described}
 use Rattle.wincode_describe.specs.declared.described.Described.TheVariants as type
 use Rattle.wincode_describe.specs.declared.described.Cases.{Cases}
@@ -64,7 +63,7 @@ module _ (parts : List Part) where
   -- the number that the last part has of those with a place
   abbrev pub last_number : List (List ℕ) → Option ℕ
   last_number [] = None
-  last_number (p ∷ ps) = and_then (slice_get parts (length ps)) number_of
+  last_number (p ∷ ps) = option_and_then number_of (slice_get parts (length ps))
 
   -- a length or a tag, and then as it says
   abbrev pub behind_one : (ℕ → Walk) → Walk

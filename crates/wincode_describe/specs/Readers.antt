@@ -6,7 +6,7 @@ use Rattle.std.specs.Str.{chars}
 use Rattle.wincode_derive_text.specs.Splits.{tokens_in}
 use Rattle.wincode_describe.specs.Forms.{Form, seen, Number, NotZero, Standard, Flag, Letter, Nothing, Words, Bytes, ByteBlock, Maybe, Either, Held, Many, Several}
 use Rattle.wincode_describe.specs.Forms.{Pairs, Block, Group, Record, Both, Named, Choice, LastCase, OneCase}
-use Rattle.wincode_describe.specs.Phrases.{Piece, and_then, on, behind_sign, behind_name, word_front, front_text, number_front, IsRefusal}
+use Rattle.wincode_describe.specs.Phrases.{Piece, Said, Unsaid, Refused, Gives, and_then, needed, known, on, behind_sign, behind_name, word_front, front_text, number_front, IsRefusal}
 use Rattle.wincode_describe.specs.Sources.{heads, is_there, next_number, declaration_of}
 use Rattle.wincode_derive_text.specs.declared.tokens.Kind.TheVariants as kind
 use Rattle.wincode_describe.specs.declared.tokens.Over.TheVariants as over
@@ -30,15 +30,15 @@ use Rattle.wincode_describe.specs.declared.parsing.Opening.TheVariants as openin
 
 -- reads a form of what is left, and leaves the rest
 abbrev pub Reader : Type 0
-Reader = List Piece → Option (Form × List Piece)
+Reader = List Piece → Said (Form × List Piece)
 
 -- a sign in front, and the rest
-abbrev pub sign_front : List ℕ → List Piece → Option (Unit {0} × List Piece)
-sign_front s ts = option_map (λ rest. (tt, rest)) (behind_sign s ts)
+abbrev pub sign_front : List ℕ → List Piece → Said (Unit {0} × List Piece)
+sign_front s ts = needed (option_map (λ rest. (tt, rest)) (behind_sign s ts))
 
 -- what stands behind a lifetime and its comma, if a lifetime stands in front
-abbrev pub lifetime_front : List Piece → Option (Unit {0} × List Piece)
-lifetime_front ts = if is_there (front_text kind.Lifetime ts) then sign_front (codes ",") (drop 1 ts) else Some (tt, ts)
+abbrev pub lifetime_front : List Piece → Said (Unit {0} × List Piece)
+lifetime_front ts = if is_there (front_text kind.Lifetime ts) then sign_front (codes ",") (drop 1 ts) else Gives (tt, ts)
 
 -- the form that a word is that names one of std's types
 abbrev pub std_plain_of : List ℕ → Option Form
@@ -195,28 +195,28 @@ Makes view f (Ok d) = view d ≡ f
 Makes view f (Err e) = e ≡ OutOfMemory
 
 -- A list in brackets goes on behind a comma, unless it is closed there.
-abbrev pub goes_on : List ℕ → List Piece → Option (Bool × List Piece)
+abbrev pub goes_on : List ℕ → List Piece → Said (Bool × List Piece)
 goes_on closing ts = on (behind_sign (codes ",") ts)
-    (λ rest. Some (on (behind_sign closing rest) (λ end. (false, end)) (true, rest)))
-    (option_map (λ end. (false, end)) (behind_sign closing ts))
+    (λ rest. Gives (on (behind_sign closing rest) (λ end. (false, end)) (true, rest)))
+    (needed (option_map (λ end. (false, end)) (behind_sign closing ts)))
 
 -- this form, behind which its angle bracket is closed
 abbrev pub closed : Form → Reader
-closed d ts = and_then (sign_front (codes ">") ts) (λ e. Some (d, e.1))
+closed d ts = and_then (sign_front (codes ">") ts) (λ e. Gives (d, e.1))
 
 -- a list of such items, whose scheme of length stands in front
 abbrev pub schemed : Form → Reader
-schemed d ts = and_then (word_front ts) (λ w. and_then (scheme_of w.0) (λ k. closed (list_form k d) w.1))
+schemed d ts = and_then (needed (word_front ts)) (λ w. and_then (needed (scheme_of w.0)) (λ k. closed (list_form k d) w.1))
 
 -- what holds a `str`, behind that word
 abbrev pub text_by : Holder → Reader
-text_by h ts = and_then (text_form h) (λ d. closed d ts)
+text_by h ts = and_then (needed (text_form h)) (λ d. closed d ts)
 
 module _ (types : Reader) where
   -- an item, a semicolon, how many there are, and the closing bracket
   abbrev pub array_by : Reader
   array_by ts = and_then (types ts) (λ d. and_then (sign_front (codes ";") d.1)
-      (λ s. and_then (number_front s.1) (λ n. and_then (sign_front (codes "]") n.1) (λ e. Some (array_form n.0 d.0, e.1)))))
+      (λ s. and_then (needed (number_front s.1)) (λ n. and_then (sign_front (codes "]") n.1) (λ e. Gives (array_form n.0 d.0, e.1)))))
 
   -- one type, behind which its angle bracket is closed
   abbrev pub held_in : (Form → Form) → Reader
@@ -246,56 +246,56 @@ module _ (types : Reader) where
 
   -- `::Vec`, its item and its scheme of length
   abbrev pub container_by : Reader
-  container_by ts = and_then (sign_front (codes "::") ts) (λ s. and_then (word_front s.1)
-      (λ w. if bytes_eq w.0 (codes "Vec") then schemed_by w.1 else None))
+  container_by ts = and_then (sign_front (codes "::") ts) (λ s. and_then (needed (word_front s.1))
+      (λ w. if bytes_eq w.0 (codes "Vec") then schemed_by w.1 else Refused))
 
   -- `Vec` and its item, behind the word `short`: a list behind a short length
   abbrev pub short_by : Reader
-  short_by ts = and_then (word_front ts) (λ w. if bytes_eq w.0 (codes "Vec") then item_by (list_form Short) w.1 else None)
+  short_by ts = and_then (needed (word_front ts)) (λ w. if bytes_eq w.0 (codes "Vec") then item_by (list_form Short) w.1 else Refused)
 
   -- two types in angle brackets
   abbrev pub two_by : (Form → Form → Form) → Reader
   two_by f ts = and_then (sign_front (codes "<") ts) (λ s. and_then (types s.1)
-      (λ d. and_then (sign_front (codes ",") d.1) (λ t. and_then (types t.1) (λ e. and_then (sign_front (codes ">") e.1) (λ u. Some (f d.0 e.0, u.1))))))
+      (λ d. and_then (sign_front (codes ",") d.1) (λ t. and_then (types t.1) (λ e. and_then (sign_front (codes ">") e.1) (λ u. Gives (f d.0 e.0, u.1))))))
 
   -- two members or more, behind their bracket
   abbrev pub several_by : Reader → Reader
-  several_by members ts = and_then (types ts) (λ d. and_then (sign_front (codes ",") d.1) (λ s. and_then (members s.1) (λ e. Some (Group (Both d.0 e.0), e.1))))
+  several_by members ts = and_then (types ts) (λ d. and_then (sign_front (codes ",") d.1) (λ s. and_then (members s.1) (λ e. Gives (Group (Both d.0 e.0), e.1))))
 
   -- behind the opening bracket of a tuple: none, or two members or more
   abbrev pub tuple_by : Reader → Reader
-  tuple_by members ts = on (behind_sign (codes ")") ts) (λ rest. Some (Nothing, rest)) (several_by members ts)
+  tuple_by members ts = on (behind_sign (codes ")") ts) (λ rest. Gives (Nothing, rest)) (several_by members ts)
 
   -- one member or more, up to the closing bracket
   abbrev pub members_by : Reader → Reader
   members_by members ts = and_then (types ts) (λ d. and_then (goes_on (codes ")") d.1)
-      (λ g. if g.0 then and_then (members g.1) (λ e. Some (Both d.0 e.0, e.1)) else Some (d.0, g.1)))
+      (λ g. if g.0 then and_then (members g.1) (λ e. Gives (Both d.0 e.0, e.1)) else Gives (d.0, g.1)))
 
   -- one field or more, each by its name, up to the closing brace
   abbrev pub fields_by : Reader → Reader
-  fields_by fields ts = and_then (heads over.Between ts) (λ hs. and_then (word_front hs) (λ w. and_then (sign_front (codes ":") w.1)
+  fields_by fields ts = and_then (known (heads over.Between ts)) (λ hs. and_then (needed (word_front hs)) (λ w. and_then (sign_front (codes ":") w.1)
       (λ s. and_then (types s.1) (λ d. and_then (goes_on (codes "}") d.1)
-      (λ g. if g.0 then and_then (fields g.1) (λ e. Some (Both (Named w.0 d.0) e.0, e.1)) else Some (Named w.0 d.0, g.1))))))
+      (λ g. if g.0 then and_then (fields g.1) (λ e. Gives (Both (Named w.0 d.0) e.0, e.1)) else Gives (Named w.0 d.0, g.1))))))
 
   -- one field or more without names, the first of which has this place, up to the closing bracket
   abbrev pub numbered_by : ℕ → (ℕ → Reader) → Reader
-  numbered_by place numbered ts = and_then (heads over.Between ts) (λ hs. and_then (types hs) (λ d. and_then (goes_on (codes ")") d.1)
-      (λ g. if g.0 then and_then (next_number place) (λ n. and_then (numbered n g.1) (λ e. Some (Both (Named (decimal place) d.0) e.0, e.1)))
-      else Some (Named (decimal place) d.0, g.1))))
+  numbered_by place numbered ts = and_then (known (heads over.Between ts)) (λ hs. and_then (types hs) (λ d. and_then (goes_on (codes ")") d.1)
+      (λ g. if g.0 then and_then (needed (next_number place)) (λ n. and_then (numbered n g.1) (λ e. Gives (Both (Named (decimal place) d.0) e.0, e.1)))
+      else Gives (Named (decimal place) d.0, g.1))))
 
   -- One case or more of an enum that is declared, by their names, up to the closing brace: a case's tag is its place, and
   -- what it holds stands behind its name.
   abbrev pub variants_by : ℕ → (ℕ → Reader) → Reader
-  variants_by place variants ts = and_then (heads over.Between ts) (λ hs. and_then (word_front hs) (λ w. and_then (types w.1)
+  variants_by place variants ts = and_then (known (heads over.Between ts)) (λ hs. and_then (needed (word_front hs)) (λ w. and_then (types w.1)
       (λ d. and_then (goes_on (codes "}") d.1)
-      (λ g. if g.0 then and_then (next_number place) (λ n. and_then (variants n g.1) (λ e. Some (OneCase place d.0 e.0, e.1)))
-      else Some (LastCase place d.0, g.1)))))
+      (λ g. if g.0 then and_then (needed (next_number place)) (λ n. and_then (variants n g.1) (λ e. Gives (OneCase place d.0 e.0, e.1)))
+      else Gives (LastCase place d.0, g.1)))))
 
   -- one case or more, each by a tag that no other has, up to the closing brace
   abbrev pub cases_by : ℕ → Reader → Reader
-  cases_by greatest cases ts = and_then (number_front ts) (λ n. if nat_lt greatest n.0 then None else and_then (sign_front (codes ":") n.1)
+  cases_by greatest cases ts = and_then (needed (number_front ts)) (λ n. if nat_lt greatest n.0 then Refused else and_then (sign_front (codes ":") n.1)
       (λ s. and_then (types s.1) (λ d. and_then (goes_on (codes "}") d.1)
-      (λ g. if g.0 then and_then (cases g.1) (λ e. if has_tag e.0 n.0 then None else Some (OneCase n.0 d.0 e.0, e.1)) else Some (LastCase n.0 d.0, g.1)))))
+      (λ g. if g.0 then and_then (cases g.1) (λ e. if has_tag e.0 n.0 then Refused else Gives (OneCase n.0 d.0 e.0, e.1)) else Gives (LastCase n.0 d.0, g.1)))))
 
 -- the readers of types and of their parts, each for so many levels, and those of types for fewer
 pub record Readers : Type 0 where
@@ -312,49 +312,49 @@ pub record Readers : Type 0 where
 
 -- the fields of a struct, in braces
 abbrev pub struct_by : Reader → Reader
-struct_by fields ts = and_then (sign_front (codes "{") ts) (λ s. and_then (fields s.1) (λ d. Some (Record d.0, d.1)))
+struct_by fields ts = and_then (sign_front (codes "{") ts) (λ s. and_then (fields s.1) (λ d. Gives (Record d.0, d.1)))
 
 -- the word of an enum's tag, and its cases, in braces
 abbrev pub enum_by : (ℕ → Reader) → Reader
-enum_by cases ts = and_then (word_front ts) (λ w. and_then (tag_of w.0)
-    (λ k. and_then (sign_front (codes "{") w.1) (λ s. and_then (cases (greatest_of k) s.1) (λ d. Some (Choice k d.0, d.1)))))
+enum_by cases ts = and_then (needed (word_front ts)) (λ w. and_then (needed (tag_of w.0))
+    (λ k. and_then (sign_front (codes "{") w.1) (λ s. and_then (cases (greatest_of k) s.1) (λ d. Gives (Choice k d.0, d.1)))))
 
 -- fields with names, or none, up to the closing brace
 abbrev pub braced_by : Readers → Reader
-braced_by below ts = on (behind_sign (codes "}") ts) (λ rest. Some (Nothing, rest)) (and_then (below.fields ts) (λ d. Some (Record d.0, d.1)))
+braced_by below ts = on (behind_sign (codes "}") ts) (λ rest. Gives (Nothing, rest)) (and_then (below.fields ts) (λ d. Gives (Record d.0, d.1)))
 
 -- fields without names, or none, up to the closing bracket
 abbrev pub rounded_by : Readers → Reader
-rounded_by below ts = on (behind_sign (codes ")") ts) (λ rest. Some (Nothing, rest)) (and_then (below.numbered 0 ts) (λ d. Some (Record d.0, d.1)))
+rounded_by below ts = on (behind_sign (codes ")") ts) (λ rest. Gives (Nothing, rest)) (and_then (below.numbered 0 ts) (λ d. Gives (Record d.0, d.1)))
 
 -- so, as what may also not be there
-abbrev pub there : Form × List Piece → Option (Option Form × List Piece)
-there d = Some (Some d.0, d.1)
+abbrev pub there : Form × List Piece → Said (Option Form × List Piece)
+there d = Gives (Some d.0, d.1)
 
 -- fields in brackets, if there are brackets
-abbrev pub shape_by : Readers → List Piece → Option (Option Form × List Piece)
+abbrev pub shape_by : Readers → List Piece → Said (Option Form × List Piece)
 shape_by below ts = on (behind_sign (codes "{") ts) (λ rest. and_then (braced_by below rest) there)
-    (on (behind_sign (codes "(") ts) (λ rest. and_then (rounded_by below rest) there) (Some (None, ts)))
+    (on (behind_sign (codes "(") ts) (λ rest. and_then (rounded_by below rest) there) (Gives (None, ts)))
 
 -- what a case holds: its fields, or nothing
 abbrev pub held_by : Readers → Reader
-held_by below ts = and_then (shape_by below ts) (λ s. Some (on s.0 (λ d. d) Nothing, s.1))
+held_by below ts = and_then (shape_by below ts) (λ s. Gives (on s.0 (λ d. d) Nothing, s.1))
 
 -- what stands behind a struct's name: its fields, or a semicolon
 abbrev pub declared_struct : Readers → Reader
 declared_struct below ts = and_then (shape_by below ts)
-    (λ s. on s.0 (λ d. Some (d, s.1)) (and_then (sign_front (codes ";") s.1) (λ e. Some (Nothing, e.1))))
+    (λ s. on s.0 (λ d. Gives (d, s.1)) (and_then (sign_front (codes ";") s.1) (λ e. Gives (Nothing, e.1))))
 
 -- what stands behind an enum's name: its cases, in braces
 abbrev pub declared_enum : Readers → Reader
-declared_enum below ts = and_then (sign_front (codes "{") ts) (λ s. and_then (below.variants 0 s.1) (λ d. Some (Choice tag.U32 d.0, d.1)))
+declared_enum below ts = and_then (sign_front (codes "{") ts) (λ s. and_then (below.variants 0 s.1) (λ d. Gives (Choice tag.U32 d.0, d.1)))
 
 -- the type that is declared there: whether it is a struct, and what stands behind its name
-abbrev pub found_as : Readers → Bool × List Piece → Option Form
-found_as below k = and_then (if k.0 then declared_struct below k.1 else declared_enum below k.1) (λ d. Some d.0)
+abbrev pub found_as : Readers → Bool × List Piece → Said Form
+found_as below k = and_then (if k.0 then declared_struct below k.1 else declared_enum below k.1) (λ d. Gives d.0)
 
 -- the struct or enum that a source declares by this name
-abbrev pub declared_as : List Piece → Readers → List ℕ → Option Form
+abbrev pub declared_as : List Piece → Readers → List ℕ → Said Form
 declared_as source below name = and_then (declaration_of name 0 source) (found_as below)
 
 -- A range, in angle brackets the type of its bounds: that has half of the levels, since it stands there twice.
@@ -371,16 +371,16 @@ behind_word source below (opening.One h) w ts = one_by below.types h ts
 behind_word source below opening.Container w ts = container_by below.types ts
 behind_word source below opening.Range w ts = range_by below ts
 behind_word source below opening.Cow w ts = cow_by below.types ts
-behind_word source below (opening.Known k) w ts = Some (known_form k, ts)
-behind_word source below opening.Name w ts = and_then (declared_as source below w) (λ d. Some (d, ts))
+behind_word source below (opening.Known k) w ts = Gives (known_form k, ts)
+behind_word source below opening.Name w ts = and_then (declared_as source below w) (λ d. Gives (d, ts))
 
 -- a type that begins with a word, which stands in front of the rest
-abbrev pub word_by : List Piece → Readers → List ℕ × List Piece → Option (Form × List Piece)
-word_by source below w = on (plain_of w.0) (λ d. Some (d, w.1)) (behind_word source below (opening_of w.0) w.0 w.1)
+abbrev pub word_by : List Piece → Readers → List ℕ × List Piece → Said (Form × List Piece)
+word_by source below w = on (plain_of w.0) (λ d. Gives (d, w.1)) (behind_word source below (opening_of w.0) w.0 w.1)
 
 -- an array, or a type that begins with a word
 abbrev pub array_or_word : List Piece → Readers → Reader
-array_or_word source below ts = on (behind_sign (codes "[") ts) (array_by below.types) (and_then (word_front ts) (word_by source below))
+array_or_word source below ts = on (behind_sign (codes "[") ts) (array_by below.types) (and_then (needed (word_front ts)) (word_by source below))
 
 -- a type: a tuple, an array, or one that begins with a word
 abbrev pub type_by : List Piece → Readers → Reader
@@ -403,7 +403,7 @@ one_more source below = record {
 
 -- within no level
 abbrev pub unread : Reader
-unread ts = None
+unread ts = Refused
 
 -- where no level is left, nothing is read but `()`
 abbrev pub no_more : Readers
@@ -426,40 +426,43 @@ readers source zero = no_more
 readers source (suc n) = one_more source (readers source n)
 
 -- nothing is left behind a form
-abbrev pub ended : Form × List Piece → Option Form
-ended (f, []) = Some f
-ended (f, p ∷ rest) = None
+abbrev pub ended : Form × List Piece → Said Form
+ended (f, []) = Gives f
+ended (f, p ∷ rest) = Refused
 
 -- the form that all of a text is, of at most so many levels
-abbrev pub whole : List Piece → ℕ → List Piece → Option Form
+abbrev pub whole : List Piece → ℕ → List Piece → Said Form
 whole source levels ts = and_then ((readers source levels).types ts) ended
 
--- what is parsed, by the source, is that form, if it is known, or it was refused
-abbrev pub Parses : List Piece → Option Form → Result Described DescribeError → Type 0
-Parses source None result = Unit
-Parses source (Some f) (Ok d) = seen d ≡ f
-Parses source (Some f) (Err e) = IsRefusal source e
+-- What is parsed, by the source, is what is said; or it was refused.
+abbrev pub Parses : List Piece → Said Form → Result Described DescribeError → Type 0
+Parses source Unsaid result = Unit
+Parses source Refused (Ok d) = ⊥
+Parses source Refused (Err e) = Unit
+Parses source (Gives f) (Ok d) = seen d ≡ f
+Parses source (Gives f) (Err e) = IsRefusal source e
 
 -- The type that a text describes, where names are those of what these words and signs declare; nothing is said where the
 -- text's aren't known.
-abbrev pub type_among : List Piece → List ℕ → ℕ → Option Form
-type_among source text levels = and_then (tokens_in (chars text)) (whole source levels)
+abbrev pub type_among : List Piece → List ℕ → ℕ → Said Form
+type_among source text levels = and_then (known (tokens_in (chars text))) (whole source levels)
 
 -- so, where no name is declared
-abbrev pub type_of : List ℕ → ℕ → Option Form
+abbrev pub type_of : List ℕ → ℕ → Said Form
 type_of text levels = type_among [] text levels
 
 -- The type that a text describes, where the structs and enums of a source have their names; nothing is said where the
 -- words and signs of one of them aren't known.
-abbrev pub type_in : List ℕ → List ℕ → ℕ → Option Form
-type_in source text levels = and_then (tokens_in (chars source)) (λ s. type_among s text levels)
+abbrev pub type_in : List ℕ → List ℕ → ℕ → Said Form
+type_in source text levels = and_then (known (tokens_in (chars source))) (λ s. type_among s text levels)
 
--- the type is that one, if it is known
-abbrev pub IsKnownAs : Option Form → Form → Type 0
-IsKnownAs None f = Unit
-IsKnownAs (Some g) f = f ≡ g
+-- The type is that which is said, and it isn't refused.
+abbrev pub IsKnownAs : Said Form → Form → Type 0
+IsKnownAs Unsaid f = Unit
+IsKnownAs Refused f = ⊥
+IsKnownAs (Gives g) f = f ≡ g
 
--- nothing but memory is refused of a type that is known
-abbrev pub IsRefusedOf : Option Form → DescribeError → Type 0
-IsRefusedOf None e = Unit
-IsRefusedOf (Some f) e = e ≡ OutOfMemory
+-- nothing but memory is refused of a type
+abbrev pub IsRefusedOf : Said Form → DescribeError → Type 0
+IsRefusedOf (Gives f) e = e ≡ OutOfMemory
+IsRefusedOf _ e = Unit

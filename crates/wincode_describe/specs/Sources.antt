@@ -1,8 +1,8 @@
 -- Where a source declares a type, and what stands in front of its parts.
 use Rattle.std.specs.Prelude.{◌≡◌, ◌^◌, ◌+◌, ◌-◌, ℕ, zero, suc, if◌then◌else◌, ◌&&◌, ◌||◌, Bool, true, false, nat_lt, length, List, [], ◌∷◌, drop, bytes_eq}
-use Rattle.std.specs.Prelude.{codes, Option, Some, None, option_map}
+use Rattle.std.specs.Prelude.{codes, Option, Some, None, option_and_then, option_map}
 use Rattle.wincode_derive_text.specs.declared.tokens.Kind.TheVariants as kind
-use Rattle.wincode_describe.specs.Phrases.{Piece, and_then, on, left, front_text, word_front}
+use Rattle.wincode_describe.specs.Phrases.{Piece, Said, Unsaid, Refused, Gives, and_then, needed, on, left, front_text, word_front}
 use Rattle.wincode_describe.specs.declared.declared.Found.{Found}
 use Rattle.wincode_describe.specs.declared.tokens.Over.{Over}
 use Rattle.wincode_describe.specs.declared.tokens.Over.TheVariants as over
@@ -52,15 +52,10 @@ abbrev pub is_noted : Over → List Piece → Bool
 is_noted over.Between ts = is_there (front_text kind.Note ts)
 is_noted _ ts = false
 
--- a head ends only outside of its attributes
-abbrev pub ended_head : Over → List Piece → Option (List Piece)
-ended_head over.Between ts = Some ts
-ended_head _ ts = None
-
 -- What stands behind a field's or a case's head; nothing is said where a comment line says something of it.
 abbrev pub heads : Over → List Piece → Option (List Piece)
-heads o [] = ended_head o []
-heads o (p ∷ rest) = if is_noted o (p ∷ rest) then None else on (behind_head o (p ∷ rest)) (λ next. heads next rest) (ended_head o (p ∷ rest))
+heads o [] = Some []
+heads o (p ∷ rest) = if is_noted o (p ∷ rest) then None else on (behind_head o (p ∷ rest)) (λ next. heads next rest) (Some (p ∷ rest))
 
 -- `struct`, or else `enum`
 abbrev pub is_struct_word : List ℕ → Option Bool
@@ -68,8 +63,8 @@ is_struct_word w = if bytes_eq w (codes "struct") then Some true else if bytes_e
 
 -- a declaration of this name begins, outside of all brackets: whether it is a struct, and what stands behind its name
 abbrev pub begun_by : List ℕ → ℕ → List Piece → Option (Bool × List Piece)
-begun_by name zero ts = and_then (word_front ts) (λ k. and_then (is_struct_word k.0)
-    (λ b. and_then (word_front k.1) (λ n. if bytes_eq n.0 name then Some (b, n.1) else None)))
+begun_by name zero ts = option_and_then (λ k. option_and_then (λ b. option_and_then
+    (λ n. if bytes_eq n.0 name then Some (b, n.1) else None) (word_front k.1)) (is_struct_word k.0)) (word_front ts)
 begun_by name (suc n) ts = None
 
 -- a comment line that says something stands in front, outside of all brackets
@@ -83,17 +78,19 @@ depth_behind depth s = if opens s then next_number depth else Some (if closes s 
 
 -- The first declaration of this name that stands in no brackets: whether it is a struct, and what stands behind its name.
 -- Nothing is said of what stands behind a comment line that says something.
-abbrev pub declaration_of : List ℕ → ℕ → List Piece → Option (Bool × List Piece)
-declaration_of name depth [] = None
-declaration_of name depth (p ∷ rest) = on (begun_by name depth (p ∷ rest)) (λ found. Some found)
-    (if is_noted_at depth (p ∷ rest) then None
-    else and_then (depth_behind depth (front_text kind.Sign (p ∷ rest))) (λ d. declaration_of name d rest))
+abbrev pub declaration_of : List ℕ → ℕ → List Piece → Said (Bool × List Piece)
+declaration_of name depth [] = Refused
+declaration_of name depth (p ∷ rest) = on (begun_by name depth (p ∷ rest)) (λ found. Gives found)
+    (if is_noted_at depth (p ∷ rest) then Unsaid
+    else and_then (needed (depth_behind depth (front_text kind.Sign (p ∷ rest)))) (λ d. declaration_of name d rest))
 
--- That declaration is found, and no comment line that says something stands in front of it, if one is known.
-abbrev pub IsFound : Option (Bool × List Piece) → Option Found → Type 0
-IsFound None result = Unit
-IsFound (Some k) None = ⊥
-IsFound (Some k) (Some f) = (f.is_struct ≡ k.0) × (left f.tokens ≡ k.1) × (f.is_noted ≡ false)
+-- That declaration is found, and no comment line that says something stands in front of it; or there is none.
+abbrev pub IsFound : Said (Bool × List Piece) → Option Found → Type 0
+IsFound Unsaid result = Unit
+IsFound Refused None = Unit
+IsFound Refused (Some f) = ⊥
+IsFound (Gives k) None = ⊥
+IsFound (Gives k) (Some f) = (f.is_struct ≡ k.0) × (left f.tokens ≡ k.1) × (f.is_noted ≡ false)
 
 -- A head is passed, and nothing was said in it, if what stands behind it is known.
 abbrev pub PassesHead : {A : Type 0} → Option (List Piece) → Option A → List Piece → Type 0

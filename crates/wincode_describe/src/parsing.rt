@@ -474,7 +474,7 @@ fn type_at(
     if tokens.takes("[") {
         return array_at(alloc, source, tokens, below);
     }
-    let word = tokens.word(alloc)?;
+    let word = tokens.word(alloc, "a type")?;
     if let Some(described) = plain(word.as_str()) {
         return Ok(described);
     }
@@ -567,7 +567,7 @@ fn short_at(
         (left tokens.new) }
 {
     let at = tokens.place();
-    let word = tokens.word(alloc)?;
+    let word = tokens.word(alloc, "`Vec`")?;
     if word.as_str() != "Vec" {
         return Err(wanted("`Vec`", at));
     }
@@ -646,15 +646,11 @@ fn fields_at(
     ensures { Reads (pieces source.now) seen ((readers (pieces source.now) levels).fields (left tokens.old))
         result (left tokens.new) }
 {
-    let at = tokens.place();
     let Some(below) = levels.checked_sub(1) else {
-        return Err(DescribeError::TooDeep { at });
+        return Err(DescribeError::TooDeep { at: tokens.place() });
     };
     let note = tokens.takes_head();
-    let name = tokens.word(alloc)?;
-    if name.is_empty() {
-        return Err(wanted("a field", at));
-    }
+    let name = tokens.word(alloc, "a field")?;
     tokens.expect(":", "`:`")?;
     let content = content_at(alloc, source, tokens, note, below)?;
     let field = field(alloc, name, content)?;
@@ -677,7 +673,7 @@ fn enum_at(
         (left tokens.new) }
 {
     let at = tokens.place();
-    let word = tokens.word(alloc)?;
+    let word = tokens.word(alloc, "`u8`, `u16`, `u32` or `u64`")?;
     let Some(size) = tag_size(word.as_str()) else {
         return Err(wanted("`u8`, `u16`, `u32` or `u64`", at));
     };
@@ -731,7 +727,7 @@ fn container_at(
 {
     tokens.expect("::", "`::`")?;
     let at = tokens.place();
-    let word = tokens.word(alloc)?;
+    let word = tokens.word(alloc, "`Vec`")?;
     if word.as_str() != "Vec" {
         return Err(wanted("`Vec`", at));
     }
@@ -746,7 +742,7 @@ fn schemed_list(alloc: Global, tokens: &mut Tokens, item: Described) -> Describe
     ensures { Reads [] seen (schemed (seen item) (left tokens.old)) result (left tokens.new) }
 {
     let at = tokens.place();
-    let word = tokens.word(alloc)?;
+    let word = tokens.word(alloc, "`ShortU16Len` or `BincodeLen`")?;
     let Some(scheme) = length_scheme(word.as_str()) else {
         return Err(wanted("`ShortU16Len` or `BincodeLen`", at));
     };
@@ -965,10 +961,7 @@ fn variants_at(
         return Err(DescribeError::TooDeep { at: tokens.place() });
     };
     let note = tokens.takes_head();
-    let name = tokens.word(alloc)?;
-    if name.is_empty() {
-        return Err(wanted("a case", tokens.place()));
-    }
+    tokens.word(alloc, "a case")?;
     let content = held_at(alloc, source, tokens, below)?;
     let tag = tag_at(note, place);
     if !goes_on(tokens, "}", "`,` or `}`")? {

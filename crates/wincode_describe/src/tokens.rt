@@ -1,9 +1,9 @@
 //! The tokens of a type's text, or of a source, one after another.
-ghost use Rattle.std.specs.Prelude.{◌≡◌, ◌<◌, ◌==◌, if◌then◌else◌, [], length, drop, true, MatchResult, option_map, string_bytes};
+ghost use Rattle.std.specs.Prelude.{◌≡◌, ◌<◌, ◌==◌, if◌then◌else◌, [], length, drop, true, option_map, string_bytes};
 ghost use Rattle.std.specs.Bool.{OnFalse};
 ghost use Rattle.std.specs.Str.{chars};
 ghost use Rattle.wincode_derive_text.specs.Splits.{tokens_in};
-ghost use Rattle.wincode_describe.specs.Phrases.{HasTokens, Reads, behind_name, behind_sign, front_text, front_word, left, number_front, pieces, word_front};
+ghost use Rattle.wincode_describe.specs.Phrases.{HasTokens, Reads, behind_name, behind_sign, front_text, left, needed, number_front, pieces, word_front};
 ghost use Rattle.wincode_describe.specs.Readers.{lifetime_front, sign_front};
 ghost use Rattle.wincode_describe.specs.Sources.{
   PassesHead,
@@ -18,7 +18,6 @@ ghost use Rattle.wincode_describe.specs.Sources.{
   opens,
 };
 ghost use Rattle.wincode_derive_text.specs.declared.tokens.Kind.TheVariants.{Sign as KindSign};
-ghost use Rattle.wincode_describe.specs.declared.error.DescribeError.TheVariants.{OutOfMemory};
 ghost use Rattle.wincode_describe.specs.declared.tokens.Over.TheVariants.{Between};
 
 use crate::error::{DescribeError, DescribeResult, wanted};
@@ -325,20 +324,21 @@ impl<'a> Tokens<'a> {
         depth == 0 && !self.text_of(Kind::Note).is_empty()
     }
 
-    /// Takes the word that is the next token; it is empty where no word is.
-    pub(crate) fn word(&mut self, alloc: Global) -> DescribeResult<String>
-        ensures { MatchResult result (λ word. front_word (string_bytes word) (left self.new) (left self.old)) (λ error. error ≡ OutOfMemory) }
+    /// Takes the word that is the next token.
+    pub(crate) fn word(&mut self, alloc: Global, what: &'static str) -> DescribeResult<String>
+        ensures { Reads [] string_bytes (needed (word_front (left self.old))) result (left self.new) }
     {
-        let word = String::from_str(alloc, self.text_of(Kind::Word))?;
-        if !word.is_empty() {
-            self.skip();
-        }
+        let Some((word, behind)) = self.first_word() else {
+            return Err(wanted(what, self.place()));
+        };
+        let word = String::from_str(alloc, word)?;
+        *self = behind;
         Ok(word)
     }
 
     /// Takes the number that is the next token.
     pub(crate) fn number(&mut self, what: &'static str) -> DescribeResult<usize>
-        ensures { Reads [] (λ n. n) (number_front (left self.old)) result (left self.new) }
+        ensures { Reads [] (λ n. n) (needed (number_front (left self.old))) result (left self.new) }
     {
         match self.text_of(Kind::Word).parse::<usize>() {
             Ok(number) => {

@@ -1,16 +1,16 @@
 -- Each call reads what its reader reads.
-use Rattle.std.proofs.Common.{◌≡◌, ◌∙◌, sym, ap, refl, suc, bytes_eq, true, false, option_map, List, [], Some, None, arith, rules, codes}
+use Rattle.std.proofs.Common.{◌≡◌, ◌∙◌, sym, ap, refl, suc, bytes_eq, true, false, option_map, List, [], None, arith, rules, codes}
 use Rattle.std.proofs.lemmas.Bool.{lt-ltb, le-ltb}
 use Rattle.std.proofs.lemmas.Result.{err_from_is_err_and}
 use Rattle.std.specs.String.{string_bytes}
 use Rattle.wincode_describe.specs.Forms.{Record, Words, seen, seen_cases}
-use Rattle.wincode_describe.specs.Phrases.{Piece, and_then, on, behind_sign, left, pieces}
+use Rattle.wincode_describe.specs.Phrases.{Piece, Gives, and_then, needed, on, behind_sign, left, pieces, word_front}
 use Rattle.wincode_describe.specs.Sources.{declaration_of}
-use Rattle.wincode_describe.specs.Readers.{held_form, held_in, closed, slice_by, text_by, readers, rounded_by, there, array_or_word, several_by, unread, tag_of, plain_of, opening_of}
+use Rattle.wincode_describe.specs.Readers.{held_form, held_in, closed, slice_by, text_by, readers, rounded_by, there, array_or_word, word_by, several_by, unread, tag_of, plain_of, opening_of}
 use Rattle.wincode_describe.specs.declared.parsing.Opening.TheVariants as opening
-use Rattle.wincode_describe.proofs.ReadSteps.{next_ok, next_err, next_fault, next_word, made, sign_taken, sign_left, one_level, no_level, below_is, members_is}
-use Rattle.wincode_describe.proofs.ReadSteps.{tuple_is, below_members, below_members_is, word_plain, word_opening, no_word, chosen_is, chosen_is_none}
-use Rattle.wincode_describe.proofs.ReadSteps.{anywhere, name_left, range_read, worded, test_true, test_false, parsed_no_tokens}
+use Rattle.wincode_describe.proofs.ReadSteps.{next_ok, next_err, next_fault, made, sign_taken, sign_left, one_level, no_level, below_is, members_is}
+use Rattle.wincode_describe.proofs.ReadSteps.{tuple_is, below_members, below_members_is, word_plain, word_opening, chosen_is, chosen_is_none}
+use Rattle.wincode_describe.proofs.ReadSteps.{anywhere, range_read, worded, test_true, test_false, parsed_no_tokens}
 use Rattle.wincode_describe.proofs.ReadSteps.{parsed_err, parsed_ok, parsed_more, headed, named_ok, found_of, named_found, named_refused}
 use Rattle.wincode_describe.proofs.parsing.+parsing.Goals as goal
 
@@ -73,7 +73,7 @@ pub type_at-returns-then-takes-2 : goal.type_at-returns-then-takes-2
 type_at-returns-then-takes-2 t c =
     let s : List Piece = pieces c.args.source.now in
     let l : c.args.levels ≡ suc c.in-Some.below = below_is _ _ c.in-Some.ensures.0 c.in-Some.ensures.1 in
-    rw (one_level _ _ _ l) (sign_left s seen (codes "(") (left c.args.tokens.now) c.takes.result (left c.takes.new.self) _
+    rw (one_level _ _ _ l) (sign_left s seen _ (left c.args.tokens.now) c.takes.result (left c.takes.new.self) _
     (array_or_word s (readers s c.in-Some.below)) _ _ c.takes.ensures.taken c.takes.ensures.kept c.if-takes.false
     (sign_taken s seen _ c.takes-2.result _ _ _ _ _ c.takes-2.ensures.taken c.if-takes-2.true c.array_at.ensures))
 
@@ -100,7 +100,7 @@ one_at-returns-in_err-part t c =
     let s : List Piece = pieces c.args.source.now in
     let p = err_from_is_err_and c.from_residual-in_err-part.result c.from_residual-in_err-part.ensures.1 in
     rw (p.1, p.2) (next_ok [] s (λ u. u) seen _ c.in_ok-expect.field-0 _ _ _ _ c.in_ok-expect.ensures
-    (name_left s seen (codes "str") (left c.expect.new.self) c.takes_word.result (left c.takes_word.new.self) (text_by c.args.holder)
+    (sign_left s seen _ (left c.expect.new.self) c.takes_word.result (left c.takes_word.new.self) (text_by c.args.holder)
     (held_in (readers s c.args.levels).types (held_form c.args.holder)) _ _ c.takes_word.ensures.taken c.takes_word.ensures.kept c.if-takes_word.false
     (next_err s seen seen _ _ _ _ _ c.in_err-part.ensures)))
 
@@ -109,7 +109,7 @@ one_at-returns-in_err-expect-2 t c =
     let s : List Piece = pieces c.args.source.now in
     let p = err_from_is_err_and c.from_residual-in_err-expect-2.result c.from_residual-in_err-expect-2.ensures.1 in
     rw (p.1, p.2) (next_ok [] s (λ u. u) seen _ c.in_ok-expect.field-0 _ _ _ _ c.in_ok-expect.ensures
-    (name_left s seen (codes "str") (left c.expect.new.self) c.takes_word.result (left c.takes_word.new.self) (text_by c.args.holder)
+    (sign_left s seen _ (left c.expect.new.self) c.takes_word.result (left c.takes_word.new.self) (text_by c.args.holder)
     (held_in (readers s c.args.levels).types (held_form c.args.holder)) _ _ c.takes_word.ensures.taken c.takes_word.ensures.kept c.if-takes_word.false
     (next_ok s s seen seen _ c.in_ok-part.part _ _ _ _ c.in_ok-part.ensures (next_fault s (λ u. u) seen _ _ _ _ _ c.in_err-expect-2.ensures))))
 
@@ -123,7 +123,7 @@ pub one_at-returns : goal.one_at-returns
 one_at-returns t c =
     let s : List Piece = pieces c.args.source.now in
     next_ok [] s (λ u. u) seen _ c.in_ok-expect.field-0 _ _ _ _ c.in_ok-expect.ensures
-    (name_left s seen (codes "str") (left c.expect.new.self) c.takes_word.result (left c.takes_word.new.self) (text_by c.args.holder)
+    (sign_left s seen _ (left c.expect.new.self) c.takes_word.result (left c.takes_word.new.self) (text_by c.args.holder)
     (held_in (readers s c.args.levels).types (held_form c.args.holder)) _ _ c.takes_word.ensures.taken c.takes_word.ensures.kept c.if-takes_word.false
     (next_ok s s seen seen _ c.in_ok-part.part _ _ _ _ c.in_ok-part.ensures
     (next_ok [] s (λ u. u) seen _ c.in_ok-expect-2.field-0 _ _ _ _ c.in_ok-expect-2.ensures (made s seen _ _ _ c.held.ensures))))
@@ -166,7 +166,7 @@ short_at-returns-in_err-expect-2 t c =
     let s : List Piece = pieces c.args.source.now in
     let e : bytes_eq (string_bytes c.in_ok-word.word) (codes "Vec") ≡ true = search rules in
     let p = err_from_is_err_and c.from_residual-in_err-expect-2.result c.from_residual-in_err-expect-2.ensures.1 in
-    rw (p.1, p.2) (next_word s seen (string_bytes c.in_ok-word.word) _ _ _ _ _ c.in_ok-word.ensures
+    rw (p.1, p.2) (next_ok [] s string_bytes seen _ c.in_ok-word.word _ _ _ _ c.in_ok-word.ensures
     (test_true s seen _ _ _ _ _ e (next_ok [] s (λ u. u) seen _ c.in_ok-expect.field-0 _ _ _ _ c.in_ok-expect.ensures
     (next_ok s s seen seen _ c.in_ok-item.item _ _ _ _ c.in_ok-item.ensures (next_fault s (λ u. u) seen _ _ _ _ _ c.in_err-expect-2.ensures)))))
 
@@ -179,7 +179,7 @@ pub tuple_at-returns-in_err-first : goal.tuple_at-returns-in_err-first
 tuple_at-returns-in_err-first t c =
     let s : List Piece = pieces c.args.source.now in
     let p = err_from_is_err_and c.from_residual.result c.from_residual.ensures.1 in
-    rw (tuple_is s c.args.levels (left c.args.tokens.now), p.1, p.2) (sign_left s seen (codes ")") (left c.args.tokens.now) c.takes.result (left c.takes.new.self)
+    rw (tuple_is s c.args.levels (left c.args.tokens.now), p.1, p.2) (sign_left s seen _ (left c.args.tokens.now) c.takes.result (left c.takes.new.self)
     _ (several_by (readers s c.args.levels).types (below_members s c.args.levels)) _ _ c.takes.ensures.taken c.takes.ensures.kept c.if-takes.false
     (next_err s seen seen _ _ _ _ _ c.in_err-first.ensures))
 
@@ -187,14 +187,14 @@ pub tuple_at-returns-in_err-expect : goal.tuple_at-returns-in_err-expect
 tuple_at-returns-in_err-expect t c =
     let s : List Piece = pieces c.args.source.now in
     let p = err_from_is_err_and c.from_residual-in_err-expect.result c.from_residual-in_err-expect.ensures.1 in
-    rw (tuple_is s c.args.levels (left c.args.tokens.now), p.1, p.2) (sign_left s seen (codes ")") (left c.args.tokens.now) c.takes.result (left c.takes.new.self)
+    rw (tuple_is s c.args.levels (left c.args.tokens.now), p.1, p.2) (sign_left s seen _ (left c.args.tokens.now) c.takes.result (left c.takes.new.self)
     _ (several_by (readers s c.args.levels).types (below_members s c.args.levels)) _ _ c.takes.ensures.taken c.takes.ensures.kept c.if-takes.false
     (next_ok s s seen seen _ c.in_ok-first.first _ _ _ _ c.in_ok-first.ensures (next_fault s (λ u. u) seen _ _ _ _ _ c.in_err-expect.ensures)))
 
 pub tuple_at-returns-in_default : goal.tuple_at-returns-in_default
 tuple_at-returns-in_default t c =
     let s : List Piece = pieces c.args.source.now in
-    rw (no_level _ c.args.levels (omega arith)) (sign_left s seen (codes ")") (left c.args.tokens.now) c.takes.result (left c.takes.new.self) _
+    rw (no_level _ c.args.levels (omega arith)) (sign_left s seen _ (left c.args.tokens.now) c.takes.result (left c.takes.new.self) _
     (several_by unread unread) _ _ c.takes.ensures.taken c.takes.ensures.kept c.if-takes.false tt)
 
 pub tuple_at-returns-in_err-others : goal.tuple_at-returns-in_err-others
@@ -202,7 +202,7 @@ tuple_at-returns-in_err-others t c =
     let s : List Piece = pieces c.args.source.now in
     let l : c.args.levels ≡ suc c.in-Some.below = below_is _ _ c.in-Some.ensures.0 c.in-Some.ensures.1 in
     let p = err_from_is_err_and c.from_residual-in_err-others.result c.from_residual-in_err-others.ensures.1 in
-    rw (tuple_is s c.args.levels (left c.args.tokens.now), p.1, p.2) (sign_left s seen (codes ")") (left c.args.tokens.now) c.takes.result (left c.takes.new.self)
+    rw (tuple_is s c.args.levels (left c.args.tokens.now), p.1, p.2) (sign_left s seen _ (left c.args.tokens.now) c.takes.result (left c.takes.new.self)
     _ (several_by (readers s c.args.levels).types (below_members s c.args.levels)) _ _ c.takes.ensures.taken c.takes.ensures.kept c.if-takes.false
     (next_ok s s seen seen _ c.in_ok-first.first _ _ _ _ c.in_ok-first.ensures
     (next_ok [] s (λ u. u) seen _ c.in_ok-expect.field-0 _ _ _ _ c.in_ok-expect.ensures
@@ -212,7 +212,7 @@ pub tuple_at-returns : goal.tuple_at-returns
 tuple_at-returns t c =
     let s : List Piece = pieces c.args.source.now in
     let l : c.args.levels ≡ suc c.in-Some.below = below_is _ _ c.in-Some.ensures.0 c.in-Some.ensures.1 in
-    rw (tuple_is s c.args.levels (left c.args.tokens.now)) (sign_left s seen (codes ")") (left c.args.tokens.now) c.takes.result (left c.takes.new.self) _
+    rw (tuple_is s c.args.levels (left c.args.tokens.now)) (sign_left s seen _ (left c.args.tokens.now) c.takes.result (left c.takes.new.self) _
     (several_by (readers s c.args.levels).types (below_members s c.args.levels)) _ _ c.takes.ensures.taken c.takes.ensures.kept c.if-takes.false
     (next_ok s s seen seen _ c.in_ok-first.first _ _ _ _ c.in_ok-first.ensures
     (next_ok [] s (λ u. u) seen _ c.in_ok-expect.field-0 _ _ _ _ c.in_ok-expect.ensures
@@ -223,20 +223,13 @@ fields_at-returns-in_default t c =
     let s : List Piece = pieces c.args.source.now in
     rw (no_level _ c.args.levels (omega arith)) tt
 
-pub fields_at-returns-then-is_empty : goal.fields_at-returns-then-is_empty
-fields_at-returns-then-is_empty t c =
-    let s : List Piece = pieces c.args.source.now in
-    let l : c.args.levels ≡ suc c.in-Some.below = below_is _ _ c.in-Some.ensures.0 c.in-Some.ensures.1 in
-    rw (one_level _ _ _ l) (headed s seen _ c.takes_head-note.result _ _ _ _ c.takes_head-note.ensures (λ none.
-    (no_word s seen (string_bytes c.in_ok-name.name) _ _ _ _ _ (search rules) c.in_ok-name.ensures)))
-
 pub fields_at-returns-in_err-expect : goal.fields_at-returns-in_err-expect
 fields_at-returns-in_err-expect t c =
     let s : List Piece = pieces c.args.source.now in
     let l : c.args.levels ≡ suc c.in-Some.below = below_is _ _ c.in-Some.ensures.0 c.in-Some.ensures.1 in
     let p = err_from_is_err_and c.from_residual-in_err-expect.result c.from_residual-in_err-expect.ensures.1 in
     rw (one_level _ _ _ l, p.1, p.2) (headed s seen _ c.takes_head-note.result _ _ _ _ c.takes_head-note.ensures (λ none.
-    (next_word s seen (string_bytes c.in_ok-name.name) _ _ _ _ _ c.in_ok-name.ensures
+    (next_ok [] s string_bytes seen _ c.in_ok-name.name _ _ _ _ c.in_ok-name.ensures
     (next_fault s (λ u. u) seen _ _ _ _ _ c.in_err-expect.ensures))))
 
 pub fields_at-returns-in_err-content : goal.fields_at-returns-in_err-content
@@ -245,7 +238,7 @@ fields_at-returns-in_err-content t c =
     let l : c.args.levels ≡ suc c.in-Some.below = below_is _ _ c.in-Some.ensures.0 c.in-Some.ensures.1 in
     let p = err_from_is_err_and c.from_residual-in_err-content.result c.from_residual-in_err-content.ensures.1 in
     rw (one_level _ _ _ l, p.1, p.2) (headed s seen _ c.takes_head-note.result _ _ _ _ c.takes_head-note.ensures (λ none.
-    (next_word s seen (string_bytes c.in_ok-name.name) _ _ _ _ _ c.in_ok-name.ensures
+    (next_ok [] s string_bytes seen _ c.in_ok-name.name _ _ _ _ c.in_ok-name.ensures
     (next_ok [] s (λ u. u) seen _ c.in_ok-expect.field-0 _ _ _ _ c.in_ok-expect.ensures (next_err s seen seen _ _ _ _ _ (c.in_err-content.ensures none))))))
 
 pub fields_at-returns-in_err-goes_on : goal.fields_at-returns-in_err-goes_on
@@ -254,7 +247,7 @@ fields_at-returns-in_err-goes_on t c =
     let l : c.args.levels ≡ suc c.in-Some.below = below_is _ _ c.in-Some.ensures.0 c.in-Some.ensures.1 in
     let p = err_from_is_err_and c.from_residual-in_err-goes_on.result c.from_residual-in_err-goes_on.ensures.1 in
     rw (one_level _ _ _ l, p.1, p.2) (headed s seen _ c.takes_head-note.result _ _ _ _ c.takes_head-note.ensures (λ none.
-    (next_word s seen (string_bytes c.in_ok-name.name) _ _ _ _ _ c.in_ok-name.ensures
+    (next_ok [] s string_bytes seen _ c.in_ok-name.name _ _ _ _ c.in_ok-name.ensures
     (next_ok [] s (λ u. u) seen _ c.in_ok-expect.field-0 _ _ _ _ c.in_ok-expect.ensures
     (next_ok s s seen seen _ c.in_ok-content.content _ _ _ _ (c.in_ok-content.ensures none) (next_fault s (λ b. b) seen _ _ _ _ _ c.in_err-goes_on.ensures))))))
 
@@ -264,7 +257,7 @@ fields_at-returns-then-not-branch t c =
     let l : c.args.levels ≡ suc c.in-Some.below = below_is _ _ c.in-Some.ensures.0 c.in-Some.ensures.1 in
     let e : c.in_ok-goes_on.field-0 ≡ false = search rules in
     rw (one_level _ _ _ l) (headed s seen _ c.takes_head-note.result _ _ _ _ c.takes_head-note.ensures (λ none.
-    (next_word s seen (string_bytes c.in_ok-name.name) _ _ _ _ _ c.in_ok-name.ensures
+    (next_ok [] s string_bytes seen _ c.in_ok-name.name _ _ _ _ c.in_ok-name.ensures
     (next_ok [] s (λ u. u) seen _ c.in_ok-expect.field-0 _ _ _ _ c.in_ok-expect.ensures
     (next_ok s s seen seen _ c.in_ok-content.content _ _ _ _ (c.in_ok-content.ensures none)
     (next_ok [] s (λ b. b) seen _ c.in_ok-goes_on.field-0 _ _ _ _ c.in_ok-goes_on.ensures (test_false s seen _ _ _ _ _ e (c.in_ok-field.ensures, refl))))))))
@@ -276,7 +269,7 @@ fields_at-returns-in_err-others t c =
     let e : c.in_ok-goes_on.field-0 ≡ true = search rules in
     let p = err_from_is_err_and c.from_residual-in_err-others.result c.from_residual-in_err-others.ensures.1 in
     rw (one_level _ _ _ l, p.1, p.2) (headed s seen _ c.takes_head-note.result _ _ _ _ c.takes_head-note.ensures (λ none.
-    (next_word s seen (string_bytes c.in_ok-name.name) _ _ _ _ _ c.in_ok-name.ensures
+    (next_ok [] s string_bytes seen _ c.in_ok-name.name _ _ _ _ c.in_ok-name.ensures
     (next_ok [] s (λ u. u) seen _ c.in_ok-expect.field-0 _ _ _ _ c.in_ok-expect.ensures
     (next_ok s s seen seen _ c.in_ok-content.content _ _ _ _ (c.in_ok-content.ensures none)
     (next_ok [] s (λ b. b) seen _ c.in_ok-goes_on.field-0 _ _ _ _ c.in_ok-goes_on.ensures
@@ -288,7 +281,7 @@ fields_at-returns t c =
     let l : c.args.levels ≡ suc c.in-Some.below = below_is _ _ c.in-Some.ensures.0 c.in-Some.ensures.1 in
     let e : c.in_ok-goes_on.field-0 ≡ true = search rules in
     rw (one_level _ _ _ l) (headed s seen _ c.takes_head-note.result _ _ _ _ c.takes_head-note.ensures (λ none.
-    (next_word s seen (string_bytes c.in_ok-name.name) _ _ _ _ _ c.in_ok-name.ensures
+    (next_ok [] s string_bytes seen _ c.in_ok-name.name _ _ _ _ c.in_ok-name.ensures
     (next_ok [] s (λ u. u) seen _ c.in_ok-expect.field-0 _ _ _ _ c.in_ok-expect.ensures
     (next_ok s s seen seen _ c.in_ok-content.content _ _ _ _ (c.in_ok-content.ensures none)
     (next_ok [] s (λ b. b) seen _ c.in_ok-goes_on.field-0 _ _ _ _ c.in_ok-goes_on.ensures
@@ -395,14 +388,14 @@ cases_at-returns t c =
 pub enum_at-returns-in_default : goal.enum_at-returns-in_default
 enum_at-returns-in_default t c =
     let s : List Piece = pieces c.args.source.now in
-    (next_word s seen (string_bytes c.in_ok-word.word) _ _ _ _ _ c.in_ok-word.ensures
+    (next_ok [] s string_bytes seen _ c.in_ok-word.word _ _ _ _ c.in_ok-word.ensures
     (chosen_is_none s seen _ _ _ _ (ap tag_of (sym c.as_str.ensures.value) ∙ sym c.tag_size.ensures ∙ c.in_default.is)))
 
 pub enum_at-returns-in_err-expect : goal.enum_at-returns-in_err-expect
 enum_at-returns-in_err-expect t c =
     let s : List Piece = pieces c.args.source.now in
     let p = err_from_is_err_and c.from_residual-in_err-expect.result c.from_residual-in_err-expect.ensures.1 in
-    rw (p.1, p.2) (next_word s seen (string_bytes c.in_ok-word.word) _ _ _ _ _ c.in_ok-word.ensures
+    rw (p.1, p.2) (next_ok [] s string_bytes seen _ c.in_ok-word.word _ _ _ _ c.in_ok-word.ensures
     (chosen_is s seen _ c.in-Some.size _ _ _ (ap tag_of (sym c.as_str.ensures.value) ∙ sym c.tag_size.ensures ∙ c.in-Some.is)
     (next_fault s (λ u. u) seen _ _ _ _ _ c.in_err-expect.ensures)))
 
@@ -411,7 +404,7 @@ type_at-returns-in-Some-plain t c =
     let s : List Piece = pieces c.args.source.now in
     let l : c.args.levels ≡ suc c.in-Some.below = below_is _ _ c.in-Some.ensures.0 c.in-Some.ensures.1 in
     rw (one_level _ _ _ l) (worded s (readers s c.in-Some.below) (left c.args.tokens.now) (left c.takes.new.self) (left c.takes-2.new.self) c.takes.result
-    c.takes-2.result (string_bytes c.in_ok-word.word) (left c.word.new.self) _ _ c.takes.ensures.taken c.takes.ensures.kept c.if-takes.false
+    c.takes-2.result string_bytes c.in_ok-word.word (left c.word.new.self) _ _ c.takes.ensures.taken c.takes.ensures.kept c.if-takes.false
     c.takes-2.ensures.taken c.takes-2.ensures.kept c.if-takes-2.false c.in_ok-word.ensures
     (word_plain s (readers s c.in-Some.below) (string_bytes c.in_ok-word.word) (left c.word.new.self) c.in-Some-plain.described
     (ap plain_of (sym c.as_str.ensures.value) ∙ sym c.plain.ensures ∙ ap (option_map seen) c.in-Some-plain.is)))
@@ -423,7 +416,7 @@ type_at-returns-in-Struct t c =
     let p = ap plain_of (sym c.as_str.ensures.value) ∙ sym c.plain.ensures ∙ ap (option_map seen) c.in_default-plain.is in
     let q = ap opening_of (sym c.as_str-2.ensures.value) ∙ sym c.opened_by.ensures ∙ c.in-Struct.is in
     rw (one_level _ _ _ l) (worded s (readers s c.in-Some.below) (left c.args.tokens.now) (left c.takes.new.self) (left c.takes-2.new.self) c.takes.result
-    c.takes-2.result (string_bytes c.in_ok-word.word) (left c.word.new.self) _ _ c.takes.ensures.taken c.takes.ensures.kept c.if-takes.false
+    c.takes-2.result string_bytes c.in_ok-word.word (left c.word.new.self) _ _ c.takes.ensures.taken c.takes.ensures.kept c.if-takes.false
     c.takes-2.ensures.taken c.takes-2.ensures.kept c.if-takes-2.false c.in_ok-word.ensures
     (word_opening s (readers s c.in-Some.below) (string_bytes c.in_ok-word.word) (left c.word.new.self) (opening.Struct) _ _ p q c.struct_at.ensures))
 
@@ -434,7 +427,7 @@ type_at-returns-in-Enum t c =
     let p = ap plain_of (sym c.as_str.ensures.value) ∙ sym c.plain.ensures ∙ ap (option_map seen) c.in_default-plain.is in
     let q = ap opening_of (sym c.as_str-2.ensures.value) ∙ sym c.opened_by.ensures ∙ c.in-Enum.is in
     rw (one_level _ _ _ l) (worded s (readers s c.in-Some.below) (left c.args.tokens.now) (left c.takes.new.self) (left c.takes-2.new.self) c.takes.result
-    c.takes-2.result (string_bytes c.in_ok-word.word) (left c.word.new.self) _ _ c.takes.ensures.taken c.takes.ensures.kept c.if-takes.false
+    c.takes-2.result string_bytes c.in_ok-word.word (left c.word.new.self) _ _ c.takes.ensures.taken c.takes.ensures.kept c.if-takes.false
     c.takes-2.ensures.taken c.takes-2.ensures.kept c.if-takes-2.false c.in_ok-word.ensures
     (word_opening s (readers s c.in-Some.below) (string_bytes c.in_ok-word.word) (left c.word.new.self) (opening.Enum) _ _ p q c.enum_at.ensures))
 
@@ -445,7 +438,7 @@ type_at-returns-in-ShortList t c =
     let p = ap plain_of (sym c.as_str.ensures.value) ∙ sym c.plain.ensures ∙ ap (option_map seen) c.in_default-plain.is in
     let q = ap opening_of (sym c.as_str-2.ensures.value) ∙ sym c.opened_by.ensures ∙ c.in-ShortList.is in
     rw (one_level _ _ _ l) (worded s (readers s c.in-Some.below) (left c.args.tokens.now) (left c.takes.new.self) (left c.takes-2.new.self) c.takes.result
-    c.takes-2.result (string_bytes c.in_ok-word.word) (left c.word.new.self) _ _ c.takes.ensures.taken c.takes.ensures.kept c.if-takes.false
+    c.takes-2.result string_bytes c.in_ok-word.word (left c.word.new.self) _ _ c.takes.ensures.taken c.takes.ensures.kept c.if-takes.false
     c.takes-2.ensures.taken c.takes-2.ensures.kept c.if-takes-2.false c.in_ok-word.ensures
     (word_opening s (readers s c.in-Some.below) (string_bytes c.in_ok-word.word) (left c.word.new.self) (opening.ShortList) _ _ p q c.short_at.ensures))
 
@@ -456,7 +449,7 @@ type_at-returns-in-Two t c =
     let p = ap plain_of (sym c.as_str.ensures.value) ∙ sym c.plain.ensures ∙ ap (option_map seen) c.in_default-plain.is in
     let q = ap opening_of (sym c.as_str-2.ensures.value) ∙ sym c.opened_by.ensures ∙ c.in-Two.is in
     rw (one_level _ _ _ l) (worded s (readers s c.in-Some.below) (left c.args.tokens.now) (left c.takes.new.self) (left c.takes-2.new.self) c.takes.result
-    c.takes-2.result (string_bytes c.in_ok-word.word) (left c.word.new.self) _ _ c.takes.ensures.taken c.takes.ensures.kept c.if-takes.false
+    c.takes-2.result string_bytes c.in_ok-word.word (left c.word.new.self) _ _ c.takes.ensures.taken c.takes.ensures.kept c.if-takes.false
     c.takes-2.ensures.taken c.takes-2.ensures.kept c.if-takes-2.false c.in_ok-word.ensures
     (word_opening s (readers s c.in-Some.below) (string_bytes c.in_ok-word.word) (left c.word.new.self) (opening.Two c.in-Two.pair) _ _ p q c.two_at.ensures))
 
@@ -467,7 +460,7 @@ type_at-returns-in-One t c =
     let p = ap plain_of (sym c.as_str.ensures.value) ∙ sym c.plain.ensures ∙ ap (option_map seen) c.in_default-plain.is in
     let q = ap opening_of (sym c.as_str-2.ensures.value) ∙ sym c.opened_by.ensures ∙ c.in-One.is in
     rw (one_level _ _ _ l) (worded s (readers s c.in-Some.below) (left c.args.tokens.now) (left c.takes.new.self) (left c.takes-2.new.self) c.takes.result
-    c.takes-2.result (string_bytes c.in_ok-word.word) (left c.word.new.self) _ _ c.takes.ensures.taken c.takes.ensures.kept c.if-takes.false
+    c.takes-2.result string_bytes c.in_ok-word.word (left c.word.new.self) _ _ c.takes.ensures.taken c.takes.ensures.kept c.if-takes.false
     c.takes-2.ensures.taken c.takes-2.ensures.kept c.if-takes-2.false c.in_ok-word.ensures
     (word_opening s (readers s c.in-Some.below) (string_bytes c.in_ok-word.word) (left c.word.new.self) (opening.One c.in-One.holder) _ _ p q c.one_at.ensures))
 
@@ -478,7 +471,7 @@ type_at-returns-in-Container t c =
     let p = ap plain_of (sym c.as_str.ensures.value) ∙ sym c.plain.ensures ∙ ap (option_map seen) c.in_default-plain.is in
     let q = ap opening_of (sym c.as_str-2.ensures.value) ∙ sym c.opened_by.ensures ∙ c.in-Container.is in
     rw (one_level _ _ _ l) (worded s (readers s c.in-Some.below) (left c.args.tokens.now) (left c.takes.new.self) (left c.takes-2.new.self) c.takes.result
-    c.takes-2.result (string_bytes c.in_ok-word.word) (left c.word.new.self) _ _ c.takes.ensures.taken c.takes.ensures.kept c.if-takes.false
+    c.takes-2.result string_bytes c.in_ok-word.word (left c.word.new.self) _ _ c.takes.ensures.taken c.takes.ensures.kept c.if-takes.false
     c.takes-2.ensures.taken c.takes-2.ensures.kept c.if-takes-2.false c.in_ok-word.ensures
     (word_opening s (readers s c.in-Some.below) (string_bytes c.in_ok-word.word) (left c.word.new.self) (opening.Container) _ _ p q c.container_at.ensures))
 
@@ -489,7 +482,7 @@ type_at-returns-in-Range t c =
     let p = ap plain_of (sym c.as_str.ensures.value) ∙ sym c.plain.ensures ∙ ap (option_map seen) c.in_default-plain.is in
     let q = ap opening_of (sym c.as_str-2.ensures.value) ∙ sym c.opened_by.ensures ∙ c.in-Range.is in
     rw (one_level _ _ _ l) (worded s (readers s c.in-Some.below) (left c.args.tokens.now) (left c.takes.new.self) (left c.takes-2.new.self) c.takes.result
-    c.takes-2.result (string_bytes c.in_ok-word.word) (left c.word.new.self) _ _ c.takes.ensures.taken c.takes.ensures.kept c.if-takes.false
+    c.takes-2.result string_bytes c.in_ok-word.word (left c.word.new.self) _ _ c.takes.ensures.taken c.takes.ensures.kept c.if-takes.false
     c.takes-2.ensures.taken c.takes-2.ensures.kept c.if-takes-2.false c.in_ok-word.ensures
     (word_opening s (readers s c.in-Some.below) (string_bytes c.in_ok-word.word) (left c.word.new.self) (opening.Range) _ _ p q
     (range_read s c.in-Some.below (left c.word.new.self) c.range_at.result (left c.range_at.new.tokens) c.range_at.ensures)))
@@ -501,7 +494,7 @@ type_at-returns-in-Cow t c =
     let p = ap plain_of (sym c.as_str.ensures.value) ∙ sym c.plain.ensures ∙ ap (option_map seen) c.in_default-plain.is in
     let q = ap opening_of (sym c.as_str-2.ensures.value) ∙ sym c.opened_by.ensures ∙ c.in-Cow.is in
     rw (one_level _ _ _ l) (worded s (readers s c.in-Some.below) (left c.args.tokens.now) (left c.takes.new.self) (left c.takes-2.new.self) c.takes.result
-    c.takes-2.result (string_bytes c.in_ok-word.word) (left c.word.new.self) _ _ c.takes.ensures.taken c.takes.ensures.kept c.if-takes.false
+    c.takes-2.result string_bytes c.in_ok-word.word (left c.word.new.self) _ _ c.takes.ensures.taken c.takes.ensures.kept c.if-takes.false
     c.takes-2.ensures.taken c.takes-2.ensures.kept c.if-takes-2.false c.in_ok-word.ensures
     (word_opening s (readers s c.in-Some.below) (string_bytes c.in_ok-word.word) (left c.word.new.self) (opening.Cow) _ _ p q c.cow_at.ensures))
 
@@ -512,7 +505,7 @@ type_at-returns-in-Known t c =
     let p = ap plain_of (sym c.as_str.ensures.value) ∙ sym c.plain.ensures ∙ ap (option_map seen) c.in_default-plain.is in
     let q = ap opening_of (sym c.as_str-2.ensures.value) ∙ sym c.opened_by.ensures ∙ c.in-Known.is in
     rw (one_level _ _ _ l) (worded s (readers s c.in-Some.below) (left c.args.tokens.now) (left c.takes.new.self) (left c.takes-2.new.self) c.takes.result
-    c.takes-2.result (string_bytes c.in_ok-word.word) (left c.word.new.self) _ _ c.takes.ensures.taken c.takes.ensures.kept c.if-takes.false
+    c.takes-2.result string_bytes c.in_ok-word.word (left c.word.new.self) _ _ c.takes.ensures.taken c.takes.ensures.kept c.if-takes.false
     c.takes-2.ensures.taken c.takes-2.ensures.kept c.if-takes-2.false c.in_ok-word.ensures
     (word_opening s (readers s c.in-Some.below) (string_bytes c.in_ok-word.word) (left c.word.new.self) (opening.Known c.in-Known.known) _ _ p q (made s seen _ _ _ c.known_type.ensures)))
 
@@ -523,7 +516,7 @@ type_at-returns t c =
     let p = ap plain_of (sym c.as_str.ensures.value) ∙ sym c.plain.ensures ∙ ap (option_map seen) c.in_default-plain.is in
     let q = ap opening_of (sym c.as_str-2.ensures.value) ∙ sym c.opened_by.ensures ∙ c.in-Name.is in
     rw (one_level _ _ _ l) (worded s (readers s c.in-Some.below) (left c.args.tokens.now) (left c.takes.new.self) (left c.takes-2.new.self) c.takes.result
-    c.takes-2.result (string_bytes c.in_ok-word.word) (left c.word.new.self) _ _ c.takes.ensures.taken c.takes.ensures.kept c.if-takes.false
+    c.takes-2.result string_bytes c.in_ok-word.word (left c.word.new.self) _ _ c.takes.ensures.taken c.takes.ensures.kept c.if-takes.false
     c.takes-2.ensures.taken c.takes-2.ensures.kept c.if-takes-2.false c.in_ok-word.ensures
     (word_opening s (readers s c.in-Some.below) (string_bytes c.in_ok-word.word) (left c.word.new.self) (opening.Name) _ _ p q
     (named_ok _ _ _ _ (rw c.as_str-in-Name.ensures.value at c.named_type.ensures))))
@@ -636,16 +629,16 @@ pub braced_at-returns-in_err-fields : goal.braced_at-returns-in_err-fields
 braced_at-returns-in_err-fields t c =
     let s : List Piece = pieces c.args.source.now in
     let p = err_from_is_err_and c.from_residual.result c.from_residual.ensures.1 in
-    rw (p.1, p.2) (sign_left s seen (codes "}") (left c.args.tokens.now) c.takes.result (left c.takes.new.self) _
-    (λ ts. and_then ((readers s c.args.levels).fields ts) (λ d. Some (Record d.0, d.1))) _ _
+    rw (p.1, p.2) (sign_left s seen _ (left c.args.tokens.now) c.takes.result (left c.takes.new.self) _
+    (λ ts. and_then ((readers s c.args.levels).fields ts) (λ d. Gives (Record d.0, d.1))) _ _
     c.takes.ensures.taken c.takes.ensures.kept c.if-takes.false
     (next_err s seen seen _ _ _ _ _ c.in_err-fields.ensures))
 
 pub braced_at-returns : goal.braced_at-returns
 braced_at-returns t c =
     let s : List Piece = pieces c.args.source.now in
-    sign_left s seen (codes "}") (left c.args.tokens.now) c.takes.result (left c.takes.new.self) _
-    (λ ts. and_then ((readers s c.args.levels).fields ts) (λ d. Some (Record d.0, d.1))) _ _
+    sign_left s seen _ (left c.args.tokens.now) c.takes.result (left c.takes.new.self) _
+    (λ ts. and_then ((readers s c.args.levels).fields ts) (λ d. Gives (Record d.0, d.1))) _ _
     c.takes.ensures.taken c.takes.ensures.kept c.if-takes.false
     (next_ok s s seen seen _ c.in_ok-fields.fields _ _ _ _ c.in_ok-fields.ensures (made s seen _ _ _ c.structure.ensures))
 
@@ -658,16 +651,16 @@ pub rounded_at-returns-in_err-fields : goal.rounded_at-returns-in_err-fields
 rounded_at-returns-in_err-fields t c =
     let s : List Piece = pieces c.args.source.now in
     let p = err_from_is_err_and c.from_residual.result c.from_residual.ensures.1 in
-    rw (p.1, p.2) (sign_left s seen (codes ")") (left c.args.tokens.now) c.takes.result (left c.takes.new.self) _
-    (λ ts. and_then ((readers s c.args.levels).numbered 0 ts) (λ d. Some (Record d.0, d.1))) _ _
+    rw (p.1, p.2) (sign_left s seen _ (left c.args.tokens.now) c.takes.result (left c.takes.new.self) _
+    (λ ts. and_then ((readers s c.args.levels).numbered 0 ts) (λ d. Gives (Record d.0, d.1))) _ _
     c.takes.ensures.taken c.takes.ensures.kept c.if-takes.false
     (next_err s seen seen _ _ _ _ _ c.in_err-fields.ensures))
 
 pub rounded_at-returns : goal.rounded_at-returns
 rounded_at-returns t c =
     let s : List Piece = pieces c.args.source.now in
-    sign_left s seen (codes ")") (left c.args.tokens.now) c.takes.result (left c.takes.new.self) _
-    (λ ts. and_then ((readers s c.args.levels).numbered 0 ts) (λ d. Some (Record d.0, d.1))) _ _
+    sign_left s seen _ (left c.args.tokens.now) c.takes.result (left c.takes.new.self) _
+    (λ ts. and_then ((readers s c.args.levels).numbered 0 ts) (λ d. Gives (Record d.0, d.1))) _ _
     c.takes.ensures.taken c.takes.ensures.kept c.if-takes.false
     (next_ok s s seen seen _ c.in_ok-fields.fields _ _ _ _ c.in_ok-fields.ensures (made s seen _ _ _ c.structure.ensures))
 
@@ -688,24 +681,24 @@ pub shape_at-returns-in_err-fields-2 : goal.shape_at-returns-in_err-fields-2
 shape_at-returns-in_err-fields-2 t c =
     let s : List Piece = pieces c.args.source.now in
     let p = err_from_is_err_and c.from_residual-in_err-fields-2.result c.from_residual-in_err-fields-2.ensures.1 in
-    rw (p.1, p.2) (sign_left s (option_map seen) (codes "{") (left c.args.tokens.now) c.takes.result (left c.takes.new.self) _
-    (λ ts. on (behind_sign (codes "(") ts) (λ rest. and_then (rounded_by (readers s c.args.levels) rest) there) (Some (None, ts))) _ _ c.takes.ensures.taken c.takes.ensures.kept c.if-takes.false
+    rw (p.1, p.2) (sign_left s (option_map seen) _ (left c.args.tokens.now) c.takes.result (left c.takes.new.self) _
+    (λ ts. on (behind_sign (codes "(") ts) (λ rest. and_then (rounded_by (readers s c.args.levels) rest) there) (Gives (None, ts))) _ _ c.takes.ensures.taken c.takes.ensures.kept c.if-takes.false
     (sign_taken s (option_map seen) _ c.takes-2.result _ _ _ _ _ c.takes-2.ensures.taken c.if-takes-2.true (next_err s seen (option_map seen) _ _ _ _ _ c.in_err-fields-2.ensures)))
 
 pub shape_at-returns-then-takes-2 : goal.shape_at-returns-then-takes-2
 shape_at-returns-then-takes-2 t c =
     let s : List Piece = pieces c.args.source.now in
-    sign_left s (option_map seen) (codes "{") (left c.args.tokens.now) c.takes.result (left c.takes.new.self) _
-    (λ ts. on (behind_sign (codes "(") ts) (λ rest. and_then (rounded_by (readers s c.args.levels) rest) there) (Some (None, ts))) _ _ c.takes.ensures.taken c.takes.ensures.kept c.if-takes.false
+    sign_left s (option_map seen) _ (left c.args.tokens.now) c.takes.result (left c.takes.new.self) _
+    (λ ts. on (behind_sign (codes "(") ts) (λ rest. and_then (rounded_by (readers s c.args.levels) rest) there) (Gives (None, ts))) _ _ c.takes.ensures.taken c.takes.ensures.kept c.if-takes.false
     (sign_taken s (option_map seen) _ c.takes-2.result _ _ _ _ _ c.takes-2.ensures.taken c.if-takes-2.true
     (next_ok s s seen (option_map seen) _ c.in_ok-fields-2.fields _ _ _ _ c.in_ok-fields-2.ensures (refl, refl)))
 
 pub shape_at-returns : goal.shape_at-returns
 shape_at-returns t c =
     let s : List Piece = pieces c.args.source.now in
-    sign_left s (option_map seen) (codes "{") (left c.args.tokens.now) c.takes.result (left c.takes.new.self) _
-    (λ ts. on (behind_sign (codes "(") ts) (λ rest. and_then (rounded_by (readers s c.args.levels) rest) there) (Some (None, ts))) _ _ c.takes.ensures.taken c.takes.ensures.kept c.if-takes.false
-    (sign_left s (option_map seen) (codes "(") (left c.takes.new.self) c.takes-2.result (left c.takes-2.new.self) _ (λ ts. Some (None, ts)) _ _
+    sign_left s (option_map seen) _ (left c.args.tokens.now) c.takes.result (left c.takes.new.self) _
+    (λ ts. on (behind_sign (codes "(") ts) (λ rest. and_then (rounded_by (readers s c.args.levels) rest) there) (Gives (None, ts))) _ _ c.takes.ensures.taken c.takes.ensures.kept c.if-takes.false
+    (sign_left s (option_map seen) _ (left c.takes.new.self) c.takes-2.result (left c.takes-2.new.self) _ (λ ts. Gives (None, ts)) _ _
     c.takes-2.ensures.taken c.takes-2.ensures.kept c.if-takes-2.false (refl, refl))
 
 pub held_at-returns-in_default : goal.held_at-returns-in_default
@@ -737,20 +730,13 @@ variants_at-returns-in_default t c =
     let s : List Piece = pieces c.args.source.now in
     rw (no_level _ c.args.levels (omega arith)) tt
 
-pub variants_at-returns-then-is_empty : goal.variants_at-returns-then-is_empty
-variants_at-returns-then-is_empty t c =
-    let s : List Piece = pieces c.args.source.now in
-    let l : c.args.levels ≡ suc c.in-Some.below = below_is _ _ c.in-Some.ensures.0 c.in-Some.ensures.1 in
-    rw (one_level _ _ _ l) (headed s seen_cases _ c.takes_head-note.result _ _ _ _ c.takes_head-note.ensures (λ none.
-    no_word s seen_cases (string_bytes c.in_ok-name.name) _ _ _ _ _ (search rules) c.in_ok-name.ensures))
-
 pub variants_at-returns-in_err-content : goal.variants_at-returns-in_err-content
 variants_at-returns-in_err-content t c =
     let s : List Piece = pieces c.args.source.now in
     let l : c.args.levels ≡ suc c.in-Some.below = below_is _ _ c.in-Some.ensures.0 c.in-Some.ensures.1 in
     let p = err_from_is_err_and c.from_residual-in_err-content.result c.from_residual-in_err-content.ensures.1 in
     rw (one_level _ _ _ l, p.1, p.2) (headed s seen_cases _ c.takes_head-note.result _ _ _ _ c.takes_head-note.ensures (λ none.
-    next_word s seen_cases (string_bytes c.in_ok-name.name) _ _ _ _ _ c.in_ok-name.ensures
+    next_ok [] s string_bytes seen_cases _ c.in_ok-word.field-0 _ _ _ _ c.in_ok-word.ensures
     (next_err s seen seen_cases _ _ _ _ _ c.in_err-content.ensures)))
 
 pub variants_at-returns-in_err-goes_on : goal.variants_at-returns-in_err-goes_on
@@ -759,7 +745,7 @@ variants_at-returns-in_err-goes_on t c =
     let l : c.args.levels ≡ suc c.in-Some.below = below_is _ _ c.in-Some.ensures.0 c.in-Some.ensures.1 in
     let p = err_from_is_err_and c.from_residual-in_err-goes_on.result c.from_residual-in_err-goes_on.ensures.1 in
     rw (one_level _ _ _ l, p.1, p.2) (headed s seen_cases _ c.takes_head-note.result _ _ _ _ c.takes_head-note.ensures (λ none.
-    next_word s seen_cases (string_bytes c.in_ok-name.name) _ _ _ _ _ c.in_ok-name.ensures
+    next_ok [] s string_bytes seen_cases _ c.in_ok-word.field-0 _ _ _ _ c.in_ok-word.ensures
     (next_ok s s seen seen_cases _ c.in_ok-content.content _ _ _ _ c.in_ok-content.ensures
     (next_fault s (λ b. b) seen_cases _ _ _ _ _ c.in_err-goes_on.ensures))))
 
@@ -769,7 +755,7 @@ variants_at-returns-then-not-branch t c =
     let l : c.args.levels ≡ suc c.in-Some.below = below_is _ _ c.in-Some.ensures.0 c.in-Some.ensures.1 in
     let e : c.in_ok-goes_on.field-0 ≡ false = search rules in
     rw (one_level _ _ _ l) (headed s seen_cases _ c.takes_head-note.result _ _ _ _ c.takes_head-note.ensures (λ none.
-    next_word s seen_cases (string_bytes c.in_ok-name.name) _ _ _ _ _ c.in_ok-name.ensures
+    next_ok [] s string_bytes seen_cases _ c.in_ok-word.field-0 _ _ _ _ c.in_ok-word.ensures
     (next_ok s s seen seen_cases _ c.in_ok-content.content _ _ _ _ c.in_ok-content.ensures
     (next_ok [] s (λ b. b) seen_cases _ c.in_ok-goes_on.field-0 _ _ _ _ c.in_ok-goes_on.ensures
     (test_false s seen_cases _ _ _ _ _ e (made s seen_cases _ _ _ (rw (c.tag_at-tag.ensures none) at c.last_case.ensures)))))))
@@ -780,7 +766,7 @@ variants_at-returns-in_default-next_place t c =
     let l : c.args.levels ≡ suc c.in-Some.below = below_is _ _ c.in-Some.ensures.0 c.in-Some.ensures.1 in
     let e : c.in_ok-goes_on.field-0 ≡ true = search rules in
     rw (one_level _ _ _ l) (headed s seen_cases _ c.takes_head-note.result _ _ _ _ c.takes_head-note.ensures (λ none.
-    next_word s seen_cases (string_bytes c.in_ok-name.name) _ _ _ _ _ c.in_ok-name.ensures
+    next_ok [] s string_bytes seen_cases _ c.in_ok-word.field-0 _ _ _ _ c.in_ok-word.ensures
     (next_ok s s seen seen_cases _ c.in_ok-content.content _ _ _ _ c.in_ok-content.ensures
     (next_ok [] s (λ b. b) seen_cases _ c.in_ok-goes_on.field-0 _ _ _ _ c.in_ok-goes_on.ensures
     (test_true s seen_cases _ _ _ _ _ e (chosen_is_none s seen_cases _ _ _ _ (sym c.next_place.ensures ∙ c.in_default-next_place.is)))))))
@@ -792,7 +778,7 @@ variants_at-returns-in_err-others t c =
     let e : c.in_ok-goes_on.field-0 ≡ true = search rules in
     let p = err_from_is_err_and c.from_residual-in_err-others.result c.from_residual-in_err-others.ensures.1 in
     rw (one_level _ _ _ l, p.1, p.2) (headed s seen_cases _ c.takes_head-note.result _ _ _ _ c.takes_head-note.ensures (λ none.
-    next_word s seen_cases (string_bytes c.in_ok-name.name) _ _ _ _ _ c.in_ok-name.ensures
+    next_ok [] s string_bytes seen_cases _ c.in_ok-word.field-0 _ _ _ _ c.in_ok-word.ensures
     (next_ok s s seen seen_cases _ c.in_ok-content.content _ _ _ _ c.in_ok-content.ensures
     (next_ok [] s (λ b. b) seen_cases _ c.in_ok-goes_on.field-0 _ _ _ _ c.in_ok-goes_on.ensures
     (test_true s seen_cases _ _ _ _ _ e (chosen_is s seen_cases _ c.in-Some-next_place.next _ _ _ (sym c.next_place.ensures ∙ c.in-Some-next_place.is)
@@ -804,7 +790,7 @@ variants_at-returns t c =
     let l : c.args.levels ≡ suc c.in-Some.below = below_is _ _ c.in-Some.ensures.0 c.in-Some.ensures.1 in
     let e : c.in_ok-goes_on.field-0 ≡ true = search rules in
     rw (one_level _ _ _ l) (headed s seen_cases _ c.takes_head-note.result _ _ _ _ c.takes_head-note.ensures (λ none.
-    next_word s seen_cases (string_bytes c.in_ok-name.name) _ _ _ _ _ c.in_ok-name.ensures
+    next_ok [] s string_bytes seen_cases _ c.in_ok-word.field-0 _ _ _ _ c.in_ok-word.ensures
     (next_ok s s seen seen_cases _ c.in_ok-content.content _ _ _ _ c.in_ok-content.ensures
     (next_ok [] s (λ b. b) seen_cases _ c.in_ok-goes_on.field-0 _ _ _ _ c.in_ok-goes_on.ensures
     (test_true s seen_cases _ _ _ _ _ e (chosen_is s seen_cases _ c.in-Some-next_place.next _ _ _ (sym c.next_place.ensures ∙ c.in-Some-next_place.is)
@@ -893,7 +879,7 @@ container_at-returns-in_err-expect-2 t c =
     let e : bytes_eq (string_bytes c.in_ok-word.word) (codes "Vec") ≡ true = search rules in
     let p = err_from_is_err_and c.from_residual-in_err-expect-2.result c.from_residual-in_err-expect-2.ensures.1 in
     rw (p.1, p.2) (next_ok [] s (λ u. u) seen _ c.in_ok-expect.field-0 _ _ _ _ c.in_ok-expect.ensures
-    (next_word s seen (string_bytes c.in_ok-word.word) _ _ _ _ _ c.in_ok-word.ensures
+    (next_ok [] s string_bytes seen _ c.in_ok-word.word _ _ _ _ c.in_ok-word.ensures
     (test_true s seen _ _ _ _ _ e (next_fault s (λ u. u) seen _ _ _ _ _ c.in_err-expect-2.ensures))))
 
 pub container_at-returns-in_err-item : goal.container_at-returns-in_err-item
@@ -902,7 +888,7 @@ container_at-returns-in_err-item t c =
     let e : bytes_eq (string_bytes c.in_ok-word.word) (codes "Vec") ≡ true = search rules in
     let p = err_from_is_err_and c.from_residual-in_err-item.result c.from_residual-in_err-item.ensures.1 in
     rw (p.1, p.2) (next_ok [] s (λ u. u) seen _ c.in_ok-expect.field-0 _ _ _ _ c.in_ok-expect.ensures
-    (next_word s seen (string_bytes c.in_ok-word.word) _ _ _ _ _ c.in_ok-word.ensures
+    (next_ok [] s string_bytes seen _ c.in_ok-word.word _ _ _ _ c.in_ok-word.ensures
     (test_true s seen _ _ _ _ _ e (next_ok [] s (λ u. u) seen _ c.in_ok-expect-2.field-0 _ _ _ _ c.in_ok-expect-2.ensures
     (next_err s seen seen _ _ _ _ _ c.in_err-item.ensures)))))
 
@@ -912,7 +898,7 @@ container_at-returns-in_err-expect-3 t c =
     let e : bytes_eq (string_bytes c.in_ok-word.word) (codes "Vec") ≡ true = search rules in
     let p = err_from_is_err_and c.from_residual-in_err-expect-3.result c.from_residual-in_err-expect-3.ensures.1 in
     rw (p.1, p.2) (next_ok [] s (λ u. u) seen _ c.in_ok-expect.field-0 _ _ _ _ c.in_ok-expect.ensures
-    (next_word s seen (string_bytes c.in_ok-word.word) _ _ _ _ _ c.in_ok-word.ensures
+    (next_ok [] s string_bytes seen _ c.in_ok-word.word _ _ _ _ c.in_ok-word.ensures
     (test_true s seen _ _ _ _ _ e (next_ok [] s (λ u. u) seen _ c.in_ok-expect-2.field-0 _ _ _ _ c.in_ok-expect-2.ensures
     (next_ok s s seen seen _ c.in_ok-item.item _ _ _ _ c.in_ok-item.ensures (next_fault s (λ u. u) seen _ _ _ _ _ c.in_err-expect-3.ensures))))))
 
@@ -921,7 +907,7 @@ container_at-returns t c =
     let s : List Piece = pieces c.args.source.now in
     let e : bytes_eq (string_bytes c.in_ok-word.word) (codes "Vec") ≡ true = search rules in
     next_ok [] s (λ u. u) seen _ c.in_ok-expect.field-0 _ _ _ _ c.in_ok-expect.ensures
-    (next_word s seen (string_bytes c.in_ok-word.word) _ _ _ _ _ c.in_ok-word.ensures
+    (next_ok [] s string_bytes seen _ c.in_ok-word.word _ _ _ _ c.in_ok-word.ensures
     (test_true s seen _ _ _ _ _ e (next_ok [] s (λ u. u) seen _ c.in_ok-expect-2.field-0 _ _ _ _ c.in_ok-expect-2.ensures
     (next_ok s s seen seen _ c.in_ok-item.item _ _ _ _ c.in_ok-item.ensures
     (next_ok [] s (λ u. u) seen _ c.in_ok-expect-3.field-0 _ _ _ _ c.in_ok-expect-3.ensures (anywhere s seen _ _ _ c.schemed_list.ensures))))))
@@ -970,7 +956,7 @@ cow_at-returns-in_err-expect-4 t c =
     let p = err_from_is_err_and c.from_residual-in_err-expect-4.result c.from_residual-in_err-expect-4.ensures.1 in
     rw (p.1, p.2) (next_ok [] s (λ u. u) seen _ c.in_ok-expect.field-0 _ _ _ _ c.in_ok-expect.ensures
     (next_ok [] s (λ u. u) seen _ c.in_ok-pass_lifetime.field-0 _ _ _ _ c.in_ok-pass_lifetime.ensures
-    (name_left s seen (codes "str") (left c.pass_lifetime.new.self) c.takes_word.result (left c.takes_word.new.self) (closed Words)
+    (sign_left s seen _ (left c.pass_lifetime.new.self) c.takes_word.result (left c.takes_word.new.self) (closed Words)
     (slice_by (readers s c.args.levels).types) _ _ c.takes_word.ensures.taken c.takes_word.ensures.kept c.if-takes_word.false
     (next_ok [] s (λ u. u) seen _ c.in_ok-expect-3.field-0 _ _ _ _ c.in_ok-expect-3.ensures
     (next_ok s s seen seen _ c.in_ok-item.item _ _ _ _ c.in_ok-item.ensures
@@ -982,7 +968,7 @@ cow_at-returns-in_err-expect-5 t c =
     let p = err_from_is_err_and c.from_residual-in_err-expect-5.result c.from_residual-in_err-expect-5.ensures.1 in
     rw (p.1, p.2) (next_ok [] s (λ u. u) seen _ c.in_ok-expect.field-0 _ _ _ _ c.in_ok-expect.ensures
     (next_ok [] s (λ u. u) seen _ c.in_ok-pass_lifetime.field-0 _ _ _ _ c.in_ok-pass_lifetime.ensures
-    (name_left s seen (codes "str") (left c.pass_lifetime.new.self) c.takes_word.result (left c.takes_word.new.self) (closed Words)
+    (sign_left s seen _ (left c.pass_lifetime.new.self) c.takes_word.result (left c.takes_word.new.self) (closed Words)
     (slice_by (readers s c.args.levels).types) _ _ c.takes_word.ensures.taken c.takes_word.ensures.kept c.if-takes_word.false
     (next_ok [] s (λ u. u) seen _ c.in_ok-expect-3.field-0 _ _ _ _ c.in_ok-expect-3.ensures
     (next_ok s s seen seen _ c.in_ok-item.item _ _ _ _ c.in_ok-item.ensures
@@ -994,7 +980,7 @@ cow_at-returns t c =
     let s : List Piece = pieces c.args.source.now in
     next_ok [] s (λ u. u) seen _ c.in_ok-expect.field-0 _ _ _ _ c.in_ok-expect.ensures
     (next_ok [] s (λ u. u) seen _ c.in_ok-pass_lifetime.field-0 _ _ _ _ c.in_ok-pass_lifetime.ensures
-    (name_left s seen (codes "str") (left c.pass_lifetime.new.self) c.takes_word.result (left c.takes_word.new.self) (closed Words)
+    (sign_left s seen _ (left c.pass_lifetime.new.self) c.takes_word.result (left c.takes_word.new.self) (closed Words)
     (slice_by (readers s c.args.levels).types) _ _ c.takes_word.ensures.taken c.takes_word.ensures.kept c.if-takes_word.false
     (next_ok [] s (λ u. u) seen _ c.in_ok-expect-3.field-0 _ _ _ _ c.in_ok-expect-3.ensures
     (next_ok s s seen seen _ c.in_ok-item.item _ _ _ _ c.in_ok-item.ensures
@@ -1006,3 +992,47 @@ one_at-returns-in_err-expect t c =
     let s : List Piece = pieces c.args.source.now in
     let p = err_from_is_err_and c.from_residual.result c.from_residual.ensures.1 in
     rw (p.1, p.2) (next_fault s (λ u. u) seen _ _ _ _ _ c.in_err-expect.ensures)
+
+-- where no word stands
+
+pub type_at-returns-in_err-word : goal.type_at-returns-in_err-word
+type_at-returns-in_err-word t c =
+    let s : List Piece = pieces c.args.source.now in
+    let l : c.args.levels ≡ suc c.in-Some.below = below_is _ _ c.in-Some.ensures.0 c.in-Some.ensures.1 in
+    let p = err_from_is_err_and c.from_residual.result c.from_residual.ensures.1 in
+    rw (one_level _ _ _ l, p.1, p.2) (sign_left s seen _ (left c.args.tokens.now) c.takes.result (left c.takes.new.self) _
+    (array_or_word s (readers s c.in-Some.below)) _ _ c.takes.ensures.taken c.takes.ensures.kept c.if-takes.false
+    (sign_left s seen _ (left c.takes.new.self) c.takes-2.result (left c.takes-2.new.self) _
+    (λ ts. and_then (needed (word_front ts)) (word_by s (readers s c.in-Some.below))) _ _
+    c.takes-2.ensures.taken c.takes-2.ensures.kept c.if-takes-2.false (next_fault s string_bytes seen _ _ _ _ _ c.in_err-word.ensures)))
+
+pub fields_at-returns-in_err-name : goal.fields_at-returns-in_err-name
+fields_at-returns-in_err-name t c =
+    let s : List Piece = pieces c.args.source.now in
+    let l : c.args.levels ≡ suc c.in-Some.below = below_is _ _ c.in-Some.ensures.0 c.in-Some.ensures.1 in
+    let p = err_from_is_err_and c.from_residual.result c.from_residual.ensures.1 in
+    rw (one_level _ _ _ l, p.1, p.2) (headed s seen _ c.takes_head-note.result _ _ _ _ c.takes_head-note.ensures (λ none.
+    next_fault s string_bytes seen _ _ _ _ _ c.in_err-name.ensures))
+
+pub variants_at-returns-in_err-word : goal.variants_at-returns-in_err-word
+variants_at-returns-in_err-word t c =
+    let s : List Piece = pieces c.args.source.now in
+    let l : c.args.levels ≡ suc c.in-Some.below = below_is _ _ c.in-Some.ensures.0 c.in-Some.ensures.1 in
+    let p = err_from_is_err_and c.from_residual.result c.from_residual.ensures.1 in
+    rw (one_level _ _ _ l, p.1, p.2) (headed s seen_cases _ c.takes_head-note.result _ _ _ _ c.takes_head-note.ensures (λ none.
+    next_fault s string_bytes seen_cases _ _ _ _ _ c.in_err-word.ensures))
+
+pub container_at-returns-in_err-word : goal.container_at-returns-in_err-word
+container_at-returns-in_err-word t c =
+    let s : List Piece = pieces c.args.source.now in
+    let p = err_from_is_err_and c.from_residual-in_err-word.result c.from_residual-in_err-word.ensures.1 in
+    rw (p.1, p.2) (next_ok [] s (λ u. u) seen _ c.in_ok-expect.field-0 _ _ _ _ c.in_ok-expect.ensures
+    (next_fault s string_bytes seen _ _ _ _ _ c.in_err-word.ensures))
+
+pub short_at-returns-in_err-expect : goal.short_at-returns-in_err-expect
+short_at-returns-in_err-expect t c =
+    let s : List Piece = pieces c.args.source.now in
+    let e : bytes_eq (string_bytes c.in_ok-word.word) (codes "Vec") ≡ true = search rules in
+    let p = err_from_is_err_and c.from_residual-in_err-expect.result c.from_residual-in_err-expect.ensures.1 in
+    rw (p.1, p.2) (next_ok [] s string_bytes seen _ c.in_ok-word.word _ _ _ _ c.in_ok-word.ensures
+    (test_true s seen _ _ _ _ _ e (next_fault s (λ u. u) seen _ _ _ _ _ c.in_err-expect.ensures)))
