@@ -1,5 +1,5 @@
 -- The laws of what counts parts.
-use Rattle.std.proofs.Common.{◌≡◌, ◌∙◌, sym, ap, ℕ, ◌+◌, List, [], ◌++◌, length, arith, length-append}
+use Rattle.std.proofs.Common.{◌≡◌, ℕ, ◌+◌, List, [], ◌++◌, length, arith, length-append}
 use Rattle.wincode_describe.specs.SinkLaws.{parts_size}
 use Rattle.wincode_describe.specs.SinkLaws as bytes
 use Rattle.wincode_describe.specs.declared.shown.Shown.{Shown}

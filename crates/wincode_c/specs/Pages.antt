@@ -1,5 +1,5 @@
 -- Lines of a text, as many as fit into so much room.
-use Rattle.std.specs.Prelude.{◌≡◌, ◌⊎◌, ℕ, zero, suc, ◌+◌, ◌<◌, ◌≤◌, List, [], ◌∷◌, ◌++◌, length, take, drop, cond, nat_eq}
+use Rattle.std.specs.Prelude.{◌≡◌, ◌⊎◌, ℕ, zero, suc, ◌+◌, ◌<◌, ◌≤◌, List, [], ◌∷◌, length, take, drop, cond, nat_eq}
 
 -- How many bytes the first line has, its line break with it; all of them where there is none.
 abbrev pub line_length : List ℕ → ℕ

@@ -1,11 +1,13 @@
 -- What a call reports of bytes.
-use Rattle.std.specs.Prelude.{◌≡◌, ◌⊎◌, ℕ, zero, suc, ℤ, pos, neg_ℤ, ◌-◌, ◌<◌, ◌≤◌, List, length, Option, Some, None, Bool, true, false, IsUtf8, MatchOption}
+use Rattle.std.specs.Prelude.{◌≡◌, ◌⊎◌, ℕ, zero, ℤ, pos, neg_ℤ, ◌-◌, ◌<◌, ◌≤◌, List, length, Option, Some, None, Bool, true, false, IsUtf8}
+use Rattle.std.specs.Str.Lossy.{utf8_valid_len}
 use Rattle.wincode_io.specs.Readers.{ReaderState, memory, nothing}
 use Rattle.wincode_base.specs.declared.error.ReadError.{ReadError}
 use Rattle.wincode_describe.specs.Explained.{ExplainsRead}
 use Rattle.wincode_describe.specs.Forms.{Form, seen}
 use Rattle.wincode_describe.specs.Lines.{Tells}
 use Rattle.wincode_describe.specs.Parts.{Part, parts_bytes}
+use Rattle.wincode_describe.specs.Phrases.{Said, Gives}
 use Rattle.wincode_describe.specs.Readers.{IsKnownAs, type_in, type_of}
 use Rattle.wincode_describe.specs.Spelled.{IsType}
 use Rattle.wincode_describe.specs.Written.{written}
@@ -63,10 +65,20 @@ fault_place OutOfMemory = 0
 abbrev pub FaultReported : Untyped → Report → ℤ → Type 0
 FaultReported f r n = (n ≡ fault_number f) × (r.place ≡ fault_place f) × (r.length ≡ 0) × (r.parts ≡ 0) × (r.behind ≡ 0) × (r.first ≡ 0) × (r.second ≡ 0) × (r.depth ≡ 0)
 
+-- the fault of a text of which this is said: of a type's text memory was refused
+abbrev pub IsFaultOf : Said Form → Untyped → Type 0
+IsFaultOf (Gives form) f = f ≡ OutOfMemory
+IsFaultOf _ f = Unit
+
+-- The fault of a text that isn't UTF-8 has the byte from which on it isn't; any other fault is one of a text that is.
+abbrev pub IsOfText : List ℕ → Untyped → Type 0
+IsOfText text (NoText at) = (IsUtf8 text → ⊥) × (at ≡ utf8_valid_len text)
+IsOfText text f = IsUtf8 text
+
 -- A text that describes a type has no fault, but that memory was refused.
 abbrev pub Untypes : List ℕ → Untyped → Type 0
-Untypes text f = IsUtf8 text → ((form : Form) → IsType 128 form → text ≡ written form → f ≡ OutOfMemory)
-    × MatchOption (type_of text 128) Unit (λ form. f ≡ OutOfMemory)
+Untypes text f = IsOfText text f × (IsUtf8 text → ((form : Form) → IsType 128 form → text ≡ written form → f ≡ OutOfMemory)
+    × IsFaultOf (type_of text 128) f)
 
 -- The text is that of a type, by which the bytes are reported; or it has a fault, which is.
 abbrev pub Answers : List ℕ → List ℕ → Report → ℤ → Type 0

@@ -1,8 +1,8 @@
 //! The type that a text describes.
-ghost use Rattle.std.specs.Prelude.{◌≡◌, IfOk, IfErr, IsUtf8};
+ghost use Rattle.std.specs.Prelude.{◌≡◌, ℕ, List, IfOk, IfErr, IsUtf8};
 ghost use Rattle.wincode_describe.specs.declared.error.DescribeError.TheVariants.{OutOfMemory as NoMemory};
 ghost use Rattle.wincode_c.specs.declared.typed.Untyped.TheVariants.{OutOfMemory};
-ghost use Rattle.wincode_c.specs.Reports.{IsTextBy, IsTextOf, Untypes, FaultReported, fault_number, fault_place};
+ghost use Rattle.wincode_c.specs.Reports.{IsOfText, IsTextBy, IsTextOf, Untypes, FaultReported, fault_number, fault_place};
 
 use crate::report::Report;
 use std::alloc::Global;
@@ -77,8 +77,8 @@ pub(crate) fn declared_by(alloc: Global, source: &[u8], text: &[u8]) -> Result<D
 
 /// The bytes as a text.
 fn words_of(text: &[u8]) -> Result<&str, Untyped>
-    ensures ok { IfOk result (λ words. words.now ≡ text.now) }
-    ensures err { IfErr result (λ f. IsUtf8 text.now → ⊥) }
+    ensures ok { IfOk result (λ words. (words.now ≡ text.now) × IsUtf8 text.now) }
+    ensures err { IfErr result (λ f. (IsUtf8 text.now → ⊥) × IsOfText text.now f) }
 {
     match str::from_utf8(text) {
         Ok(words) => Ok(words),
@@ -88,7 +88,8 @@ fn words_of(text: &[u8]) -> Result<&str, Untyped>
 
 /// Why the text describes no type.
 fn fault_of(error: &DescribeError) -> Untyped
-    ensures { error.now ≡ NoMemory → result ≡ OutOfMemory }
+    ensures memory { error.now ≡ NoMemory → result ≡ OutOfMemory }
+    ensures text { (text : List ℕ) → IsUtf8 text → IsOfText text result }
 {
     match error {
         DescribeError::Wanted { at, .. } => Untyped::Wanted(*at),

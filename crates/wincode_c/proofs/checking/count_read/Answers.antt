@@ -1,4 +1,4 @@
-use Rattle.std.proofs.Common.{map, arith, ◌∙◌, sym}
+use Rattle.std.proofs.Common.{map, arith}
 use Rattle.std.proofs.lemmas.List.{length-map}
 use Rattle.wincode_describe.specs.Parts.{seen}
 use Rattle.wincode_describe.proofs.Shows.{read_explains}

@@ -1,4 +1,4 @@
-use Rattle.std.proofs.Common.{◌-◌, ◌≡◌, ◌≤◌}
+use Rattle.std.proofs.Common.{◌-◌, ◌≡◌}
 use Rattle.wincode_c.specs.Pages.{behind_lines}
 use Rattle.wincode_c.proofs.pages.behind_lines.Given as goal
 

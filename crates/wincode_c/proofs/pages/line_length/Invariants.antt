@@ -1,4 +1,4 @@
-use Rattle.std.proofs.Common.{◌≡◌, ◌≤◌, length, ◌+◌, drop}
+use Rattle.std.proofs.Common.{◌≡◌, ◌+◌, drop}
 use Rattle.wincode_c.specs.Pages.{line_length}
 use Rattle.wincode_c.proofs.pages.line_length.Given as goal
 
