@@ -1,6 +1,7 @@
 //! How many items deep the part is that was refused: of how many lists, sets, maps and arrays it stands in an item.
 ghost use Rattle.std.specs.Prelude.{◌≤◌, ◌+◌};
 ghost use Rattle.wincode_c.specs.Depths.{nested, nested_cases};
+ghost use Rattle.wincode_c.specs.Fronts.{TookFront, none_given, both_given};
 
 use crate::checking::{Counted, count_read};
 use std::alloc::Global;
@@ -19,9 +20,9 @@ struct Front {
 
 /// Whatever part comes second is refused.
 impl PartSink for Front {
-    ghost took = { λ s xs t. Unit {0} };
+    ghost took = { TookFront };
 
-    ghost sink_laws = { record { none = λ s. tt; joins = λ s t u xs ys a b. tt } };
+    ghost sink_laws = { record { none = none_given; joins = both_given } };
 
     fn add(&mut self, part: Shown) -> ReadResult<()> {
         if self.is_there {
