@@ -50,9 +50,11 @@ pub fn opened(rt: &HostRuntime, path: &str) -> Result<File, Fault> {
     )
 }
 
-/// Cuts off what stands behind the last whole entry, and stands there; how many bytes that were.
+/// Cuts off the bytes after the last whole entry, wherever the file's position is, and seeks to the new end. Returns how
+/// many bytes were cut off.
 pub fn take_up(alloc: Global, file: &mut File) -> Result<u64, Fault> {
     let size = file.metadata()?.len();
+    file.seek(SeekFrom::Start(0))?;
     let whole = whole_length::<Entry, _>(alloc, StdSource::new(&*file))? as u64;
     file.set_len(whole)?;
     file.seek(SeekFrom::Start(whole))?;

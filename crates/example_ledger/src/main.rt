@@ -1,14 +1,16 @@
 //! A ledger in a file: `example_ledger FILE [ACCOUNT AMOUNT]..` takes the file up where its last whole entry ends, appends
 //! an entry for each account and amount, and prints the sum of all. Without arguments it shows how: it makes a ledger, cuts
-//! it off within its last entry as a crash would, goes on with it, and removes it.
+//! it off within its last entry as a crash would, takes it up three times through one open file, and removes it.
 //!
-//! What was appended is in the file when the program ends; where it is killed before, the file has a beginning of it.
+//! What was appended is in the file when the program ends; where it is killed before, the file has a beginning of it. Where
+//! an append is refused, the file keeps the whole entries of it.
 #![tactic(auto)]
 
 mod ledger;
 
 use ledger::{Entry, Fault, append, cut, opened, sum, take_up};
 use std::alloc::Global;
+use std::fs::File;
 use std::process::ExitCode;
 use std::rt::Env;
 use std::{env, fs};
@@ -16,15 +18,23 @@ use std::{env, fs};
 /// The ledger that is made without arguments.
 const PATH: &str = "ledger.bin";
 
-/// Takes the ledger up, appends the entries, and says what it then has.
-fn go_on(rt: &HostRuntime, path: &str, entries: &[Entry]) -> Result<(), Fault> {
+/// Takes the ledger up and appends the entries to this file. Where they are refused, as by a full disk, it takes the same
+/// file up again, so that whole entries alone are left.
+fn add(rt: &HostRuntime, file: &mut File, entries: &[Entry]) -> Result<(), Fault> {
     let alloc = rt.alloc();
-    let mut file = opened(rt, path)?;
-    let dropped = take_up(alloc, &mut file)?;
-    append(alloc, &mut file, entries)?;
-    let (count, total) = sum(alloc, &mut file)?;
+    let dropped = take_up(alloc, file)?;
+    if let Err(refused) = append(alloc, file, entries) {
+        take_up(alloc, file)?;
+        return Err(refused.into());
+    }
+    let (count, total) = sum(alloc, file)?;
     println!(rt; "{dropped} bytes dropped, {count} entries, sum {total}")?;
     Ok(())
+}
+
+/// Adds the entries to the ledger at this path.
+fn go_on(rt: &HostRuntime, path: &str, entries: &[Entry]) -> Result<(), Fault> {
+    add(rt, &mut opened(rt, path)?, entries)
 }
 
 /// The entries of accounts and amounts in turn.
@@ -42,7 +52,7 @@ fn entries_of(alloc: Global, words: &[String]) -> Result<Vec<Entry>, Fault> {
     Ok(entries)
 }
 
-/// Makes a ledger, cuts it off within its last entry, and goes on with it.
+/// Makes a ledger, cuts it off within its last entry, and goes on with it, all through one open file.
 fn show(rt: &HostRuntime) -> Result<(), Fault> {
     let alloc = rt.alloc();
     let first = [("Ada", 10), ("Bob", 20), ("Cleo", 30)];
@@ -52,8 +62,10 @@ fn show(rt: &HostRuntime) -> Result<(), Fault> {
     }
     go_on(rt, PATH, entries.as_slice())?;
     cut(&opened(rt, PATH)?, 5)?;
-    go_on(rt, PATH, &[])?;
-    go_on(rt, PATH, &[(String::from_str(alloc, "Dan")?, -4)])?;
+    let mut file = opened(rt, PATH)?;
+    add(rt, &mut file, &[])?;
+    add(rt, &mut file, &[(String::from_str(alloc, "Dan")?, -4)])?;
+    add(rt, &mut file, &[])?;
     fs::remove_file(rt, PATH)?;
     Ok(())
 }
