@@ -6,7 +6,7 @@ use std::test::Fail;
 use testkit_schemas::asked::AskedReader;
 use testkit_schemas::rows::{digits_of, read_as};
 use wincode::io::{Lifetime, SliceWriter};
-use wincode::{RoundTrip, SchemaGet, SchemaRead, SchemaWrite};
+use wincode::{RoundTrip, SchemaGet, SchemaRead, SchemaWrite, WriteResult};
 
 /// The value in front of the bytes.
 pub fn value_of<'a, T: RoundTrip<Lifetime<'a>>>(
@@ -45,11 +45,15 @@ where
     T::Src: Drop,
 {
     let value = value_of::<T>(alloc, bytes)?;
-    let mut room = Vec::new(alloc);
-    room.resize(size, 9u8)?;
+    let mut room = vec![in alloc; 9u8; size]?;
     let mut writer = SliceWriter::new(room.as_mut_slice());
     let answer = T::write(&mut writer, &value);
-    let text = digits_of(alloc, writer.written())?;
+    wrote(alloc, answer, writer.written())
+}
+
+/// How writing ended, and what was written.
+fn wrote(alloc: Global, answer: WriteResult<()>, written: &[u8]) -> Result<String, Fail> {
+    let text = digits_of(alloc, written)?;
     Ok(match answer {
         Ok(()) => format!(in alloc; "ok {text}")?,
         Err(error) => format!(in alloc; "err {error:?} {text}")?,

@@ -5,7 +5,14 @@ use std::test::Fail;
 use testkit_schemas::rows::digits_of;
 use testkit_schemas::single::Single;
 use wincode::io::Lifetime;
-use wincode::{RoundTrip, SchemaGet, SchemaRead, SchemaWrite};
+use wincode::{ReadResult, RoundTrip, SchemaGet, SchemaRead, SchemaWrite};
+
+/// The text of a list that is written by `write_items`.
+fn text_of_items<T: SchemaWrite>(alloc: Global, list: &[T::Src]) -> Result<String, Fail> {
+    let mut out = Vec::new(alloc);
+    T::write_items(&mut out, list)?;
+    digits_of(alloc, out.as_slice())
+}
 
 /// A list of the first value of the bytes, to which so many are added, and what then is left.
 pub fn many_items<'a, T: RoundTrip<Lifetime<'a>>>(
@@ -21,10 +28,12 @@ where
     let mut list = Vec::new(alloc);
     list.push(first)?;
     let answer = T::read_items(alloc, &mut reader, n, &mut list);
-    let left = reader.len();
-    let mut out = Vec::new(alloc);
-    T::write_items(&mut out, list.as_slice())?;
-    let text = digits_of(alloc, out.as_slice())?;
+    let text = text_of_items::<T>(alloc, list.as_slice())?;
+    told(alloc, answer, reader.len(), text.as_str())
+}
+
+/// How reading items ended, how many bytes are left, and the text of the list.
+fn told(alloc: Global, answer: ReadResult<()>, left: usize, text: &str) -> Result<String, Fail> {
     Ok(match answer {
         Ok(()) => format!(in alloc; "ok {left} {text}")?,
         Err(error) => format!(in alloc; "err {error:?} {left} {text}")?,
@@ -44,11 +53,18 @@ pub fn spread_list(alloc: Global, n: usize, size: &[u8]) -> Result<Vec<u8>, Fail
     Ok(text)
 }
 
-/// The text of a list by a schema.
-fn text_of<S: SchemaWrite>(alloc: Global, value: &S::Src) -> Result<Vec<u8>, Fail> {
-    let mut text = Vec::new(alloc);
-    S::write(&mut text, value)?;
-    Ok(text)
+/// Whether what is read by the one schema is written by the other as the text that it was read from.
+fn is_rewritten<'a, R: RoundTrip<Lifetime<'a>>, W: SchemaWrite<Src = R::Src>>(
+    alloc: Global,
+    text: &'a [u8],
+) -> Result<bool, Fail>
+where
+    R::Src: Drop,
+{
+    let value = value_of::<R>(alloc, text)?;
+    let mut again = Vec::new(alloc);
+    W::write(&mut again, &value)?;
+    Ok(again.as_slice() == text)
 }
 
 /// Whether a list is read at once and item by item, and what was read the one way is written the other way as
@@ -60,11 +76,9 @@ pub fn all_at_once<'a, T: RoundTrip<Lifetime<'a>>>(
 where
     T::Src: Drop,
 {
-    let at_once = value_of::<Vec<T>>(alloc, text)?;
-    let singly = value_of::<Vec<Single<T>>>(alloc, text)?;
-    let one_by_one = text_of::<Vec<Single<T>>>(alloc, &at_once)?;
-    let together = text_of::<Vec<T>>(alloc, &singly)?;
-    if one_by_one.as_slice() == text && together.as_slice() == text {
+    let one_by_one = is_rewritten::<Vec<T>, Vec<Single<T>>>(alloc, text)?;
+    let together = is_rewritten::<Vec<Single<T>>, Vec<T>>(alloc, text)?;
+    if one_by_one && together {
         Ok(format!(in alloc; "ok {}", text.len())?)
     } else {
         Ok(format!(in alloc; "unlike")?)

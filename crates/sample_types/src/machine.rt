@@ -1,4 +1,5 @@
-//! What a machine does: forty cases, one of which owns memory.
+//! What a machine does: thirteen cases, one of which owns memory. The schema's parts have six cases each: two are full, and
+//! the last has one.
 mod schemas;
 
 /// What a machine does next.
@@ -11,38 +12,11 @@ pub enum Step {
     Store(u32),
     Push(u64),
     Pop,
-    Dup,
-    Swap,
     Add,
-    Sub,
-    Mul,
-    Div,
-    Rem,
-    Neg,
-    And,
-    Or,
-    Xor,
-    Not,
-    Shl,
-    Shr,
-    Eq,
-    Lt,
-    Gt,
     Jump(u32),
-    JumpIf(u32),
     Call(u32),
     Return,
-    Enter,
-    Leave,
     Read,
     Write,
-    Open,
-    Close,
-    Seek,
-    Wait,
-    Wake,
     Log(String),
-    Trap,
-    Reset,
-    Exit,
 }

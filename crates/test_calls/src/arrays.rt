@@ -10,13 +10,12 @@ use wincode_collect::{ItemSource, array_of};
 
 #[test]
 fn refused_arrays(rt: HostRuntime) -> Result<(), Fail> {
-    let alloc = rt.alloc();
     let mut dst = Some([true, true, true]);
     let mut reader = [0u8, 5, 1, 9].as_slice();
-    let bad = <[bool; 3] as SchemaRead<Lifetime>>::read(alloc, &mut reader, &mut dst);
-    assert!(rt; matches!(&bad, Err(ReadError::InvalidBoolEncoding(5))));
-    assert_eq!(rt; reader, [9u8].as_slice());
-    assert!(rt; dst == Some([true, true, true]));
+    let bad = <[bool; 3] as SchemaRead<Lifetime>>::read(rt.alloc(), &mut reader, &mut dst);
+    let is_refused = matches!(&bad, Err(ReadError::InvalidBoolEncoding(5)));
+    let due = (true, [9u8].as_slice(), Some([true, true, true]));
+    assert!(rt; (is_refused, reader, dst) == due);
     Ok(())
 }
 
@@ -39,6 +38,18 @@ impl ItemSource<Rc<u64>, AllocError> for Shares {
     }
 }
 
+/// How often the number is shared while an array of it is held, and the last item.
+fn held(shared: &Rc<u64>, source: &mut Shares) -> Result<(usize, u64), AllocError> {
+    let held: [Rc<u64>; 3] = array_of(source)?;
+    Ok((Rc::strong_count(shared), *held[2]))
+}
+
+/// Whether a second array is refused.
+fn is_refused(source: &mut Shares) -> bool {
+    let refused: Result<[Rc<u64>; 3], AllocError> = array_of(source);
+    refused.is_err()
+}
+
 #[test]
 fn a_refusal_drops_what_was_read(rt: HostRuntime) -> Result<(), Fail> {
     let shared = Rc::new(rt.alloc(), 5u64)?;
@@ -46,16 +57,12 @@ fn a_refusal_drops_what_was_read(rt: HostRuntime) -> Result<(), Fail> {
         shared: shared.clone()?,
         left: 5,
     };
-    let held: [Rc<u64>; 3] = array_of(&mut source)?;
-    assert_eq!(rt; Rc::strong_count(&shared), 5);
-    assert_eq!(rt; *held[2], 5);
-    drop(held);
-    assert_eq!(rt; Rc::strong_count(&shared), 2);
-    let refused: Result<[Rc<u64>; 3], AllocError> = array_of(&mut source);
-    assert!(rt; refused.is_err());
-    assert_eq!(rt; source.left, 0);
-    assert_eq!(rt; Rc::strong_count(&shared), 2);
+    let (count, last) = held(&shared, &mut source)?;
+    let dropped = Rc::strong_count(&shared);
+    let refused = is_refused(&mut source);
+    let after = (refused, source.left, Rc::strong_count(&shared));
+    assert!(rt; ((count, last, dropped), after) == ((5, 5, 2), (true, 0, 2)));
     let none: [Rc<u64>; 0] = array_of(&mut source)?;
-    assert_eq!(rt; none.len(), 0);
+    assert!(rt; none.len() == 0);
     Ok(())
 }

@@ -7,23 +7,31 @@ use crate::values::{NESTED, nested};
 use std::alloc::Global;
 use std::collections::{BTreeMap, BinaryHeap, HashMap, LinkedList, VecDeque};
 use std::test::Fail;
-use wincode::io::{self, WriteResult, Writer, ZeroCopy};
-use wincode::{SchemaWrite, WriteError, deserialize, serialize_into};
+use wincode::io::{self, Input, WriteResult, Writer, ZeroCopy};
+use wincode::{ReadResult, SchemaRead, SchemaWrite, WriteError, deserialize, serialize_into};
+
+/// Whether the bytes are read as this value.
+fn is_read<I: Input, T: SchemaRead<I::Lends, Dst = T> + Drop + PartialEq>(
+    alloc: Global,
+    bytes: I,
+    due: &T,
+) -> ReadResult<bool> {
+    let value = deserialize::<I, T>(alloc, bytes)?;
+    Ok(value == *due)
+}
 
 /// A slice, a vector, an array and a slice for writing.
 #[test]
 fn inputs_of_each_kind(rt: HostRuntime) -> Result<(), Fail> {
     let alloc = rt.alloc();
     let bytes = [1u8, 0, 0, 0, 0, 0, 0, 0, 3, 2, 9];
-    let slice: Vec<u16> = deserialize(alloc, bytes.as_slice())?;
-    assert_eq!(rt; slice.as_slice(), [515].as_slice());
+    let due = vec![in alloc; 515u16]?;
     let mut owned = Vec::from_slice(alloc, bytes.as_slice())?;
-    let vector: Vec<u16> = deserialize(alloc, &owned)?;
-    assert!(rt; vector == slice);
-    let array: Vec<u16> = deserialize(alloc, &bytes)?;
-    assert!(rt; array == slice);
-    let lent: Vec<u16> = deserialize(alloc, owned.as_mut_slice())?;
-    assert!(rt; lent == slice);
+    let slice = is_read(alloc, bytes.as_slice(), &due)?;
+    let vector = is_read(alloc, &owned, &due)?;
+    let array = is_read(alloc, &bytes, &due)?;
+    let lent = is_read(alloc, owned.as_mut_slice(), &due)?;
+    assert!(rt; [slice, vector, array, lent] == [true; 4]);
     Ok(())
 }
 
@@ -91,11 +99,14 @@ fn a_piece_of_writing_ends_once(rt: HostRuntime) -> Result<(), Fail> {
             refuses,
         };
         let answer = serialize_into(&mut writer, &lists);
-        assert_eq!(rt; writer.ended, 1);
-        assert_eq!(rt; writer.bytes.as_slice(), NESTED.as_slice());
         let is_refused = matches!(&answer, Err(WriteError::Io(io::WriteError::OutOfMemory)));
-        assert!(rt; answer.is_ok() != refuses);
-        assert_eq!(rt; is_refused, refuses);
+        let found = (
+            writer.ended,
+            writer.bytes.as_slice(),
+            answer.is_ok(),
+            is_refused,
+        );
+        assert!(rt; found == (1, NESTED.as_slice(), !refuses, refuses));
     }
     Ok(())
 }
@@ -124,25 +135,45 @@ fn parts_end_no_piece_of_writing(rt: HostRuntime) -> Result<(), Fail> {
     Ok(())
 }
 
-/// A map of queues, a hashed map of lists, a heap, and a list of lists.
-#[test]
-fn collections_end_no_piece_of_writing(rt: HostRuntime) -> Result<(), Fail> {
-    let alloc = rt.alloc();
+/// So of a map of queues.
+fn map_ends_once(alloc: Global) -> Result<bool, Fail> {
     let mut map = BTreeMap::new(alloc);
-    let mut hashed = HashMap::new(alloc);
-    let mut heap = BinaryHeap::new(alloc);
     for item in [1u8, 2] {
         let mut queue = VecDeque::new(alloc);
         queue.push_back(item)?;
         map.insert(item, queue)?;
+    }
+    ends_once(alloc, &map)
+}
+
+/// So of a hashed map of lists.
+fn hashed_map_ends_once(alloc: Global) -> Result<bool, Fail> {
+    let mut hashed = HashMap::new(alloc);
+    for item in [1u8, 2] {
         let mut list = LinkedList::new(alloc);
         list.push_back(Some(item))?;
         hashed.insert(item, list)?;
+    }
+    ends_once(alloc, &hashed)
+}
+
+/// So of a heap.
+fn heap_ends_once(alloc: Global) -> Result<bool, Fail> {
+    let mut heap = BinaryHeap::new(alloc);
+    for item in [1u8, 2] {
         heap.push(item)?;
     }
-    assert!(rt; ends_once(alloc, &map)?);
-    assert!(rt; ends_once(alloc, &hashed)?);
-    assert!(rt; ends_once(alloc, &heap)?);
-    assert!(rt; ends_once(alloc, &nested(alloc)?)?);
+    ends_once(alloc, &heap)
+}
+
+/// A map of queues, a hashed map of lists, a heap, and a list of lists.
+#[test]
+fn collections_end_no_piece_of_writing(rt: HostRuntime) -> Result<(), Fail> {
+    let alloc = rt.alloc();
+    let map = map_ends_once(alloc)?;
+    let hashed = hashed_map_ends_once(alloc)?;
+    let heap = heap_ends_once(alloc)?;
+    let lists = ends_once(alloc, &nested(alloc)?)?;
+    assert!(rt; [map, hashed, heap, lists] == [true; 4]);
     Ok(())
 }

@@ -8,19 +8,25 @@ use wincode::{SchemaGet, SchemaWrite, TypeMeta, serialize};
 fn numbers_written(rt: HostRuntime) -> Result<(), Fail> {
     let alloc = rt.alloc();
     let low = serialize(alloc, &-2i16)?;
-    assert_eq!(rt; low.as_slice(), [254u8, 255].as_slice());
     let wide = serialize(alloc, &(1u128 << 64))?;
-    assert_eq!(rt;
-        wide.as_slice(),
-        [0u8, 0, 0, 0, 0, 0, 0, 0, 1, 0, 0, 0, 0, 0, 0, 0].as_slice()
-    );
     let minus = serialize(alloc, &-1isize)?;
-    assert_eq!(rt; minus.as_slice(), [255u8; 8].as_slice());
-    let most = <usize as SchemaGet<Lifetime>>::get(alloc, &mut minus.as_slice())?;
-    assert_eq!(rt; most, usize::MAX);
+    let due = (
+        [254u8, 255].as_slice(),
+        [0u8, 0, 0, 0, 0, 0, 0, 0, 1, 0, 0, 0, 0, 0, 0, 0].as_slice(),
+        [255u8; 8].as_slice(),
+    );
+    assert!(rt; (low.as_slice(), wide.as_slice(), minus.as_slice()) == due);
+    Ok(())
+}
+
+#[test]
+fn numbers_read(rt: HostRuntime) -> Result<(), Fail> {
+    let alloc = rt.alloc();
+    let mut minus = [255u8; 8].as_slice();
+    let most = <usize as SchemaGet<Lifetime>>::get(alloc, &mut minus)?;
     let mut three = [1u8, 2, 3].as_slice();
-    assert_eq!(rt; <u16 as SchemaGet<Lifetime>>::get(alloc, &mut three)?, 513);
-    assert_eq!(rt; three, [3u8].as_slice());
+    let number = <u16 as SchemaGet<Lifetime>>::get(alloc, &mut three)?;
+    assert!(rt; (most, number, three) == (usize::MAX, 513, [3u8].as_slice()));
     Ok(())
 }
 
@@ -32,18 +38,16 @@ fn lent_text_written(alloc: Global) -> Result<Vec<u8>, Fail> {
 
 #[test]
 fn borrowed_parts(rt: HostRuntime) -> Result<(), Fail> {
-    let alloc = rt.alloc();
-    let text = lent_text_written(alloc)?;
-    assert_eq!(rt;
-        text.as_slice(),
-        [2u8, 0, 0, 0, 0, 0, 0, 0, 195, 169].as_slice()
-    );
-    let number = TypeMeta::Static {
+    let text = lent_text_written(rt.alloc())?;
+    let number = <&u32 as SchemaWrite>::type_meta();
+    let lent = <&String as SchemaWrite>::type_meta();
+    let size = <&u32 as SchemaWrite>::size_of(&&7)?;
+    let due = TypeMeta::Static {
         size: 4,
         zero_copy: false,
     };
-    assert!(rt; <&u32 as SchemaWrite>::type_meta() == number);
-    assert!(rt; <&String as SchemaWrite>::type_meta() == TypeMeta::Dynamic);
-    assert_eq!(rt; <&u32 as SchemaWrite>::size_of(&&7)?, 4);
+    let bytes = [2u8, 0, 0, 0, 0, 0, 0, 0, 195, 169].as_slice();
+    let found = (text.as_slice(), number, lent, size);
+    assert!(rt; found == (bytes, due, TypeMeta::Dynamic, 4));
     Ok(())
 }

@@ -37,15 +37,24 @@ fn written_texts(alloc: Global) -> WriteResult<Vec<u8>> {
     Ok(out)
 }
 
+/// Two texts of a letter.
+const BYTES: [u8; 19] = [1, 0, 0, 0, 0, 0, 0, 0, 97, 2, 0, 0, 0, 0, 0, 0, 0, 195, 169];
+
 #[test]
 fn several_borrowed_parts(rt: HostRuntime) -> Result<(), Fail> {
     let alloc = rt.alloc();
-    let bytes = [
-        1u8, 0, 0, 0, 0, 0, 0, 0, 97, 2, 0, 0, 0, 0, 0, 0, 0, 195, 169,
-    ];
-    assert!(rt; lent_texts(alloc, bytes.as_slice())? == ("a", "é"));
-    assert!(rt; texts_by_a_step(alloc, bytes.as_slice())? == ("a", "é"));
-    assert_eq!(rt; written_reference(alloc)?.as_slice(), [7u8].as_slice());
-    assert_eq!(rt; written_texts(alloc)?.as_slice(), bytes.as_slice());
+    let (first, second) = lent_texts(alloc, BYTES.as_slice())?;
+    let (third, fourth) = texts_by_a_step(alloc, BYTES.as_slice())?;
+    assert!(rt; [first, second, third, fourth] == ["a", "é", "a", "é"]);
+    Ok(())
+}
+
+#[test]
+fn several_borrowed_parts_written(rt: HostRuntime) -> Result<(), Fail> {
+    let alloc = rt.alloc();
+    let reference = written_reference(alloc)?;
+    let texts = written_texts(alloc)?;
+    let found = [reference.as_slice(), texts.as_slice()];
+    assert!(rt; found == [[7u8].as_slice(), BYTES.as_slice()]);
     Ok(())
 }

@@ -14,19 +14,35 @@ fn values_as_methods_of_their_schema(rt: HostRuntime) -> Result<(), Fail> {
     let alloc = rt.alloc();
     let bytes = vec![in alloc; 7u8, 8, 9]?;
     let text = <Short as Serialize>::serialize(alloc, &bytes)?;
-    assert_eq!(rt; text.as_slice(), [3u8, 7, 8, 9].as_slice());
-    assert_eq!(rt; <Short as Serialize>::serialized_size(&bytes)?, 4);
+    let size = <Short as Serialize>::serialized_size(&bytes)?;
     let mut out = vec![in alloc; 1u8]?;
     <Short as Serialize>::serialize_into(&mut out, &bytes)?;
-    assert_eq!(rt; out.as_slice(), [1u8, 3, 7, 8, 9].as_slice());
-    let back = <Short as Deserialize<Lifetime>>::deserialize(alloc, text.as_slice())?;
-    assert!(rt; back == bytes);
+    let due = ([3u8, 7, 8, 9].as_slice(), 4, [1u8, 3, 7, 8, 9].as_slice());
+    assert!(rt; (text.as_slice(), size, out.as_slice()) == due);
+    Ok(())
+}
+
+#[test]
+fn values_read_by_their_schema(rt: HostRuntime) -> Result<(), Fail> {
+    let text = [3u8, 7, 8, 9].as_slice();
+    let back = <Short as Deserialize<Lifetime>>::deserialize(rt.alloc(), text)?;
+    assert!(rt; back.as_slice() == [7u8, 8, 9].as_slice());
+    Ok(())
+}
+
+/// A refused one leaves the destination.
+#[test]
+fn values_read_into_a_destination(rt: HostRuntime) -> Result<(), Fail> {
+    let alloc = rt.alloc();
     let mut dst = None;
-    <Short as Deserialize<Lifetime>>::deserialize_into(alloc, text.as_slice(), &mut dst)?;
-    assert!(rt; dst == Some(bytes));
-    let cut = &text[..2];
-    assert!(rt; <Short as Deserialize<Lifetime>>::deserialize_into(alloc, cut, &mut dst).is_err());
-    assert!(rt; dst == Some(back));
+    for (text, is_read) in [
+        ([3u8, 7, 8, 9].as_slice(), true),
+        ([3u8, 7].as_slice(), false),
+    ] {
+        let answer = <Short as Deserialize<Lifetime>>::deserialize_into(alloc, text, &mut dst);
+        let is_there = matches!(&dst, Some(list) if list.as_slice() == [7u8, 8, 9].as_slice());
+        assert!(rt; (answer.is_ok(), is_there) == (is_read, true));
+    }
     Ok(())
 }
 
@@ -43,21 +59,24 @@ fn take_two<L: Lending, R: Reader<L>, T: SchemaReadOwned<L>>(
 
 #[test]
 fn values_from_a_reader(rt: HostRuntime) -> Result<(), Fail> {
-    let alloc = rt.alloc();
     let mut reader = [1u8, 0, 0, 0, 0, 0, 0, 0, 3, 2, 5].as_slice();
-    let list: Vec<u16> = deserialize_from(alloc, &mut reader)?;
-    assert_eq!(rt; list.as_slice(), [515].as_slice());
-    assert_eq!(rt; reader, [5u8].as_slice());
+    let list: Vec<u16> = deserialize_from(rt.alloc(), &mut reader)?;
+    let found = (list.as_slice(), reader);
+    assert!(rt; found == ([515].as_slice(), [5u8].as_slice()));
+    Ok(())
+}
+
+#[test]
+fn two_values_from_a_cursor(rt: HostRuntime) -> Result<(), Fail> {
+    let alloc = rt.alloc();
     let mut cursor = Cursor::new([1u8, 0, 2, 0, 3].as_slice());
-    let pair = take_two::<Lifetime, Cursor<&[u8]>, u16>(alloc, &mut cursor)?;
-    assert!(rt; pair == (1, Some(2)));
-    assert_eq!(rt; cursor.position(), 4);
+    let (first, second) = take_two::<Lifetime, Cursor<&[u8]>, u16>(alloc, &mut cursor)?;
+    let position = cursor.position();
     let refused = take_two::<Lifetime, Cursor<&[u8]>, u16>(alloc, &mut cursor);
-    assert!(rt;
-        matches!(
-            &refused,
-            Err(ReadError::Io(io::ReadError::ReadSizeLimit(2)))
-        )
+    let is_refused = matches!(
+        &refused,
+        Err(ReadError::Io(io::ReadError::ReadSizeLimit(2)))
     );
+    assert!(rt; (first, second, position, is_refused) == (1, Some(2), 4, true));
     Ok(())
 }

@@ -20,11 +20,9 @@ fn parts_written(rt: HostRuntime) -> Result<(), Fail> {
 fn a_lent_part(rt: HostRuntime) -> Result<(), Fail> {
     let alloc = rt.alloc();
     let text = serialize(alloc, &Some("ab"))?;
-    assert_eq!(rt;
-        text.as_slice(),
-        [1u8, 2, 0, 0, 0, 0, 0, 0, 0, 97, 98].as_slice()
-    );
+    let due = [1u8, 2, 0, 0, 0, 0, 0, 0, 0, 97, 98].as_slice();
     let mut bytes = text.as_slice();
-    assert!(rt; <Option<&str> as SchemaGet<Lifetime>>::get(alloc, &mut bytes)? == Some("ab"));
+    let part = <Option<&str> as SchemaGet<Lifetime>>::get(alloc, &mut bytes)?;
+    assert!(rt; (text.as_slice(), part) == (due, Some("ab")));
     Ok(())
 }

@@ -79,14 +79,12 @@ use std::test::Fail;
 #[test]
 fn paths(rt: HostRuntime) -> Result<(), Fail> {
     let text = top::serialize(rt.alloc(), &7u16)?;
-    assert_eq!(rt; text.as_slice(), [7u8, 0].as_slice());
     let number: modules::ShortU16 = short_lengths::ShortU16(7);
-    assert_eq!(rt; number.0, 7);
     let size = <short_lengths::ShortU16Len as modules::SeqLen>::write_bytes_needed(7)?;
-    assert_eq!(rt; size, 1);
     let bad = errors::invalid_bool_encoding(2);
-    assert!(rt; matches!(&bad, top::ReadError::InvalidBoolEncoding(2)));
-    assert_eq!(rt; inputs::size_of_form::<u32>(), 4);
-    assert_eq!(rt; top::VERSION, "0.1.0");
+    let is_bad = matches!(&bad, top::ReadError::InvalidBoolEncoding(2));
+    let form = inputs::size_of_form::<u32>();
+    let found = (text.as_slice(), number.0, size, is_bad, form, top::VERSION);
+    assert!(rt; found == ([7u8, 0].as_slice(), 7, 1, true, 4, "0.1.0"));
     Ok(())
 }

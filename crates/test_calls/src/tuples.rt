@@ -27,9 +27,8 @@ fn a_member_that_refuses(rt: HostRuntime) -> Result<(), Fail> {
         &mut bytes,
         &mut dst,
     );
-    assert!(rt; matches!(&refused, Err(ReadError::Custom("refusing"))));
-    assert!(rt; dst == Some((7, 8, ())));
-    assert_eq!(rt; bytes, [3u8].as_slice());
+    let is_refused = matches!(&refused, Err(ReadError::Custom("refusing")));
+    assert!(rt; (is_refused, dst, bytes) == (true, Some((7, 8, ())), [3u8].as_slice()));
     Ok(())
 }
 

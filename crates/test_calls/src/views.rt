@@ -21,9 +21,8 @@ fn views_give_what_was_lent(rt: HostRuntime) -> Result<(), Fail> {
     if view.len() != 2 {
         return Err(Fail::from("two forms"));
     }
-    assert_eq!(rt; (view.get(0), view.get(1)), (1, 772));
     let one: Ref<'_, u16> = deserialize(alloc, &bytes[10..])?;
-    assert_eq!(rt; one.get(), 772);
+    assert!(rt; (view.get(0), view.get(1), one.get()) == (1, 772, 772));
     Ok(())
 }
 
@@ -31,52 +30,52 @@ fn views_give_what_was_lent(rt: HostRuntime) -> Result<(), Fail> {
 fn bytes_that_are_lent(rt: HostRuntime) -> Result<(), Fail> {
     let alloc = rt.alloc();
     let lent: &[u8] = deserialize(alloc, &[3u8, 0, 0, 0, 0, 0, 0, 0, 7, 8, 9, 1])?;
-    assert_eq!(rt; lent, [7u8, 8, 9].as_slice());
     let lists: Vec<&[u8]> = deserialize(
         alloc,
         &[1u8, 0, 0, 0, 0, 0, 0, 0, 1, 0, 0, 0, 0, 0, 0, 0, 7],
     )?;
-    assert!(rt; lists.len() == 1 && lists[0] == [7u8].as_slice());
+    let is_one = lists.len() == 1 && lists[0] == [7u8].as_slice();
+    assert!(rt; (lent, is_one) == ([7u8, 8, 9].as_slice(), true));
     Ok(())
 }
 
-/// What a refusal through a cursor is, and where the cursor then stands.
-fn unlent<'s, T: SchemaRead<Lifetime<'s>>>(alloc: Global, bytes: &'s [u8]) -> Result<String, Fail> {
+/// Where a cursor stands behind a read that is refused as what can't be lent: none where it ends otherwise.
+fn unlent<'s, T: SchemaRead<Lifetime<'s>>>(alloc: Global, bytes: &'s [u8]) -> Option<usize> {
     let mut cursor = Cursor::new(bytes);
     match T::get(alloc, &mut cursor) {
-        Ok(_) => Err(Fail::from("lent")),
-        Err(error) => Ok(format!(in alloc; "{error:?} {}", cursor.position())?),
+        Err(ReadError::Io(io::ReadError::UnsupportedZeroCopy)) => Some(cursor.position()),
+        _ => None,
     }
 }
 
+/// The length of a list of one form of two bytes, or of one byte, and behind it two bytes.
+const ONE: [u8; 10] = [1, 0, 0, 0, 0, 0, 0, 0, 1, 0];
+
 #[test]
-fn borrows_that_are_not_lent(rt: HostRuntime) -> Result<(), Fail> {
+fn borrows_that_are_not_lent(rt: HostRuntime) {
     let alloc = rt.alloc();
-    let bytes = [1u8, 0, 0, 0, 0, 0, 0, 0, 1, 0];
-    let behind = "Io(UnsupportedZeroCopy) 8";
-    assert_eq!(rt;
-        unlent::<SliceRef<'_, u16>>(alloc, &bytes)?.as_str(),
-        behind
+    let behind = [
+        unlent::<SliceRef<'_, u16>>(alloc, &ONE),
+        unlent::<SliceRefMut<'_, u16>>(alloc, &ONE),
+        unlent::<&[u8]>(alloc, &ONE),
+        unlent::<&mut [u8]>(alloc, &ONE),
+    ];
+    let before = [
+        unlent::<Ref<'_, u16>>(alloc, &ONE),
+        unlent::<RefMut<'_, u16>>(alloc, &ONE),
+    ];
+    assert!(rt; (behind, before) == ([Some(8); 4], [Some(0); 2]));
+}
+
+#[test]
+fn a_slice_lends_nothing_to_change(rt: HostRuntime) {
+    let mut reader = ONE.as_slice();
+    let shared = <&mut [u8] as SchemaGet<Lifetime>>::get(rt.alloc(), &mut reader);
+    let is_refused = matches!(
+        &shared,
+        Err(ReadError::Io(io::ReadError::UnsupportedZeroCopy))
     );
-    assert_eq!(rt;
-        unlent::<SliceRefMut<'_, u16>>(alloc, &bytes)?.as_str(),
-        behind
-    );
-    assert_eq!(rt; unlent::<&[u8]>(alloc, &bytes)?.as_str(), behind);
-    assert_eq!(rt; unlent::<&mut [u8]>(alloc, &bytes)?.as_str(), behind);
-    let before = "Io(UnsupportedZeroCopy) 0";
-    assert_eq!(rt; unlent::<Ref<'_, u16>>(alloc, &bytes)?.as_str(), before);
-    assert_eq!(rt; unlent::<RefMut<'_, u16>>(alloc, &bytes)?.as_str(), before);
-    let mut reader = bytes.as_slice();
-    let shared = <&mut [u8] as SchemaGet<Lifetime>>::get(alloc, &mut reader);
-    assert!(rt;
-        matches!(
-            &shared,
-            Err(ReadError::Io(io::ReadError::UnsupportedZeroCopy))
-        )
-    );
-    assert_eq!(rt; reader.len(), 2);
-    Ok(())
+    assert!(rt; (is_refused, reader.len()) == (true, 2));
 }
 
 /// What a view gives is the value that was set.
@@ -97,29 +96,42 @@ fn set_first(alloc: Global, bytes: &mut [u8], value: u16) -> ReadResult<u16>
 
 #[test]
 fn sets_stand_in_the_bytes(rt: HostRuntime) -> Result<(), Fail> {
-    let alloc = rt.alloc();
     let mut forms = [2u8, 0, 0, 0, 0, 0, 0, 0, 1, 0, 2, 0];
-    let mut view: SliceRefMut<'_, u16> = deserialize_mut(alloc, forms.as_mut_slice())?;
+    let mut view: SliceRefMut<'_, u16> = deserialize_mut(rt.alloc(), forms.as_mut_slice())?;
     if view.len() != 2 {
         return Err(Fail::from("two forms"));
     }
     view.set(1, 772);
     view.set(1, 772);
-    assert_eq!(rt; (view.get(0), view.get(1)), (1, 772));
-    assert_eq!(rt; forms, [2u8, 0, 0, 0, 0, 0, 0, 0, 1, 0, 4, 3]);
-    let mut bytes = [1u8, 0, 2, 0, 0, 0, 0, 0, 0, 0, 5, 6];
-    let (mut form, lent): (RefMut<'_, u16>, &mut [u8]) = deserialize_mut(
-        alloc,
-        bytes.as_mut_slice(),
-    )?;
+    let (first, second) = (view.get(0), view.get(1));
+    let due = [2u8, 0, 0, 0, 0, 0, 0, 0, 1, 0, 4, 3];
+    assert!(rt; (first, second, forms) == (1, 772, due));
+    Ok(())
+}
+
+/// Sets a form, and changes the second byte of the list behind it.
+fn change_both(alloc: Global, bytes: &mut [u8]) -> Result<(), Fail> {
+    let (mut form, lent): (RefMut<'_, u16>, &mut [u8]) = deserialize_mut(alloc, &mut *bytes)?;
     form.set(772);
     match lent.get_mut(1) {
         Some(last) => *last = 9,
         None => return Err(Fail::from("two bytes")),
     }
-    assert_eq!(rt; bytes, [4u8, 3, 2, 0, 0, 0, 0, 0, 0, 0, 5, 9]);
-    assert_eq!(rt; set_first(alloc, bytes.as_mut_slice(), 515)?, 515);
-    assert_eq!(rt; &bytes[..3], [3u8, 2, 2].as_slice());
+    Ok(())
+}
+
+#[test]
+fn a_form_and_bytes_are_changed(rt: HostRuntime) -> Result<(), Fail> {
+    let alloc = rt.alloc();
+    let mut bytes = [1u8, 0, 2, 0, 0, 0, 0, 0, 0, 0, 5, 6];
+    change_both(alloc, bytes.as_mut_slice())?;
+    let changed = bytes;
+    let first = set_first(alloc, bytes.as_mut_slice(), 515)?;
+    let due = [
+        [4u8, 3, 2, 0, 0, 0, 0, 0, 0, 0, 5, 9],
+        [3, 2, 2, 0, 0, 0, 0, 0, 0, 0, 5, 9],
+    ];
+    assert!(rt; ([changed, bytes], first) == (due, 515));
     Ok(())
 }
 
@@ -161,7 +173,7 @@ fn edits_stand_in_the_bytes(rt: HostRuntime) -> Result<(), Fail> {
         let mut bytes = bytes_of(alloc, digits)?;
         let answer = edit_in_place::<u16>(bytes.as_mut_slice(), edits);
         let found = format!(in alloc; "{answer:?} {}", digits_of(alloc, bytes.as_slice())?)?;
-        assert_eq!(rt; found.as_str(), wanted);
+        assert!(rt; found.as_str() == wanted);
     }
     Ok(())
 }
@@ -170,16 +182,22 @@ fn edits_stand_in_the_bytes(rt: HostRuntime) -> Result<(), Fail> {
 fn edits_of_other_forms(rt: HostRuntime) -> Result<(), Fail> {
     let mut arrays = [2u8, 0, 0, 0, 0, 0, 0, 0, 1, 0, 2, 0, 3, 0, 4, 0];
     edit_in_place::<[u16; 2]>(&mut arrays, &[(1, [772, 5])])?;
-    assert_eq!(rt; arrays, [2u8, 0, 0, 0, 0, 0, 0, 0, 1, 0, 2, 0, 4, 3, 5, 0]);
     let mut vast = [0u8, 0, 0, 0, 0, 0, 0, 128];
     let over = edit_in_place::<u64>(&mut vast, &[]);
-    assert!(rt; matches!(&over, Err(ReadError::LengthEncodingOverflow("usize::MAX"))));
+    let is_over = matches!(&over, Err(ReadError::LengthEncodingOverflow("usize::MAX")));
+    let due = [2u8, 0, 0, 0, 0, 0, 0, 0, 1, 0, 2, 0, 4, 3, 5, 0];
+    assert!(rt; (arrays, is_over) == (due, true));
+    Ok(())
+}
+
+#[test]
+fn edits_of_one_form(rt: HostRuntime) -> Result<(), Fail> {
     let mut one = [1u8, 0, 9];
     edit_one::<u16>(&mut one, &[258, 515])?;
-    assert_eq!(rt; one, [3u8, 2, 9]);
+    let edited = one;
     let few = edit_one::<u32>(&mut one, &[1]);
-    assert!(rt; matches!(&few, Err(ReadError::Io(io::ReadError::ReadSizeLimit(4)))));
-    assert_eq!(rt; one, [3u8, 2, 9]);
+    let is_short = matches!(&few, Err(ReadError::Io(io::ReadError::ReadSizeLimit(4))));
+    assert!(rt; (edited, is_short, one) == ([3, 2, 9], true, [3, 2, 9]));
     Ok(())
 }
 
@@ -209,10 +227,16 @@ fn announced<'s, T: SchemaRead<Lifetime<'s>>>() -> (TypeMeta, usize) {
 }
 
 #[test]
-fn sizes_of_views(rt: HostRuntime) -> Result<(), Fail> {
-    let four = |zero_copy| TypeMeta::Static { size: 4, zero_copy };
-    assert!(rt; announced::<RefMut<'_, u32>>() == (four(false), 8));
-    assert!(rt; announced::<SliceRefMut<'_, u32>>() == (TypeMeta::Dynamic, 16));
-    assert!(rt; announced::<&mut [u8]>() == (TypeMeta::Dynamic, 16));
-    Ok(())
+fn sizes_of_views(rt: HostRuntime) {
+    let found = [
+        announced::<RefMut<'_, u32>>(),
+        announced::<SliceRefMut<'_, u32>>(),
+        announced::<&mut [u8]>(),
+    ];
+    let four = TypeMeta::Static {
+        size: 4,
+        zero_copy: false,
+    };
+    let list = (TypeMeta::Dynamic, 16);
+    assert!(rt; found == [(four, 8), list, list]);
 }

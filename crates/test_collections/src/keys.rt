@@ -84,7 +84,7 @@ fn items_of_heaps(rt: HostRuntime) -> Result<(), Fail> {
         0, 0, 0, 0, 0, 97, 0, 0, 0, 0, 0, 0, 0, 0,
     ];
     let mut heap: BinaryHeap<(String, String)> = deserialize(alloc, due.as_slice())?;
-    assert_eq!(rt; serialize(alloc, &heap)?.as_slice(), due.as_slice());
+    let text = serialize(alloc, &heap)?;
     for (first, second) in [("b", "c"), ("a", "")] {
         let greatest = heap.pop();
         assert!(rt;
@@ -94,7 +94,7 @@ fn items_of_heaps(rt: HostRuntime) -> Result<(), Fail> {
             )
         );
     }
-    assert!(rt; heap.is_empty());
+    assert!(rt; (text.as_slice(), heap.len()) == (due.as_slice(), 0));
     Ok(())
 }
 
@@ -106,6 +106,6 @@ fn lists_in_heaps(rt: HostRuntime) -> Result<(), Fail> {
     let lists = [2u8, 2, 98, 99, 1, 97];
     let mut reader = lists.as_slice();
     let text = rewrite::<Lifetime, _, ShortHeap>(rt.alloc(), &mut reader)?;
-    assert_eq!(rt; text.as_slice(), lists.as_slice());
+    assert!(rt; text.as_slice() == lists.as_slice());
     Ok(())
 }

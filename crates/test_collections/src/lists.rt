@@ -15,10 +15,7 @@ fn lists_past_their_limit_are_written(rt: HostRuntime) -> Result<(), Fail> {
     let items = Vec::from_slice(alloc, &[1u8, 2, 3, 4])?;
     let mut text = Vec::new(alloc);
     <Bytes as SchemaWrite>::write(&mut text, &items)?;
-    assert_eq!(rt;
-        text.as_slice(),
-        [4u8, 0, 0, 0, 0, 0, 0, 0, 1, 2, 3, 4].as_slice()
-    );
+    assert!(rt; text.as_slice() == [4u8, 0, 0, 0, 0, 0, 0, 0, 1, 2, 3, 4].as_slice());
     Ok(())
 }
 
@@ -36,21 +33,36 @@ fn is_past_u16<T: SchemaWrite>(alloc: Global, value: &T::Src) -> bool {
 fn lists_past_u16(rt: HostRuntime) -> Result<(), Fail> {
     let alloc = rt.alloc();
     let many = vec![in alloc; 0u8; 65536]?;
-    assert!(rt; is_past_u16::<containers::Vec<u8, ShortU16Len>>(alloc, &many));
-    let pairs = vec![in alloc; (3u8, many)]?;
+    let list = is_past_u16::<containers::Vec<u8, ShortU16Len>>(alloc, &many);
+    let many = many.into_boxed_slice();
+    let slice = is_past_u16::<containers::BoxedSlice<u8, ShortU16Len>>(alloc, &many);
+    assert!(rt; [list, slice] == [true; 2]);
+    Ok(())
+}
+
+/// So of what stands in a list.
+#[test]
+fn items_past_u16(rt: HostRuntime) -> Result<(), Fail> {
+    let alloc = rt.alloc();
     type Pair = (u8, containers::Vec<u8, ShortU16Len>);
+    let pairs = vec![in alloc; (3u8, vec![in alloc; 0u8; 65536]?)]?;
     let size = <Vec<Pair> as SchemaWrite>::size_of(&pairs);
     assert!(rt; matches!(&size, Err(WriteError::LengthEncodingOverflow("u16::MAX"))));
+    Ok(())
+}
+
+#[test]
+fn queues_and_heaps_past_u16(rt: HostRuntime) -> Result<(), Fail> {
+    let alloc = rt.alloc();
     let mut queue = VecDeque::new(alloc);
     let mut heap = BinaryHeap::new(alloc);
     for _ in 0..65536 {
         queue.push_back(0u8)?;
         heap.push(0u8)?;
     }
-    assert!(rt; is_past_u16::<containers::VecDeque<u8, ShortU16Len>>(alloc, &queue));
-    assert!(rt; is_past_u16::<containers::BinaryHeap<u8, ShortU16Len>>(alloc, &heap));
-    let boxed = vec![in alloc; 0u8; 65536]?.into_boxed_slice();
-    assert!(rt; is_past_u16::<containers::BoxedSlice<u8, ShortU16Len>>(alloc, &boxed));
+    let is_queue_past = is_past_u16::<containers::VecDeque<u8, ShortU16Len>>(alloc, &queue);
+    let is_heap_past = is_past_u16::<containers::BinaryHeap<u8, ShortU16Len>>(alloc, &heap);
+    assert!(rt; [is_queue_past, is_heap_past] == [true; 2]);
     Ok(())
 }
 
@@ -60,11 +72,11 @@ fn lists_behind_lengths_of_a_byte(rt: HostRuntime) -> Result<(), Fail> {
     type Numbers = containers::Vec<u16, ByteLen>;
     let many = vec![in alloc; 0u16; 256]?;
     let size = <Numbers as SchemaWrite>::size_of(&many);
-    assert!(rt; matches!(&size, Err(WriteError::Custom("a length past 255"))));
+    let is_size = matches!(&size, Err(WriteError::Custom("a length past 255")));
     let mut text = Vec::new(alloc);
     let long = <Numbers as SchemaWrite>::write(&mut text, &many);
-    assert!(rt; matches!(&long, Err(WriteError::Custom("a length past 255"))));
-    assert!(rt; text.is_empty());
+    let is_long = matches!(&long, Err(WriteError::Custom("a length past 255")));
+    assert!(rt; (is_size, is_long, text.len()) == (true, true, 0));
     Ok(())
 }
 
@@ -80,6 +92,15 @@ fn lists_of_links(rt: HostRuntime) -> Result<(), Fail> {
     Ok(())
 }
 
+/// The encoding of the twenty numbers from this one on.
+fn twenty_from(alloc: Global, first: u64) -> Result<Vec<u8>, Fail> {
+    let mut bytes = Vec::from_slice(alloc, &20u64.to_le_bytes())?;
+    for i in 0u64..20 {
+        bytes.extend_from_slice(&first.wrapping_add(i).to_le_bytes())?;
+    }
+    Ok(bytes)
+}
+
 #[test]
 fn a_queue_that_wraps_round(rt: HostRuntime) -> Result<(), Fail> {
     let alloc = rt.alloc();
@@ -89,14 +110,10 @@ fn a_queue_that_wraps_round(rt: HostRuntime) -> Result<(), Fail> {
     }
     for turn in 0u64..50 {
         let front = queue.pop_front();
-        assert!(rt; front == Some(turn));
         queue.push_back(turn + 20)?;
         let text = serialize(alloc, &queue)?;
-        let mut due = Vec::from_slice(alloc, &20u64.to_le_bytes())?;
-        for item in turn + 1..turn + 21 {
-            due.extend_from_slice(&item.to_le_bytes())?;
-        }
-        assert_eq!(rt; text.as_slice(), due.as_slice());
+        let due = twenty_from(alloc, turn + 1)?;
+        assert!(rt; (front, text.as_slice()) == (Some(turn), due.as_slice()));
     }
     Ok(())
 }

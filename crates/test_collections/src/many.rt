@@ -39,15 +39,16 @@ fn lists_keep_all<'a, U: Drop, T: SchemaWrite<Src = U> + SchemaRead<Lifetime<'a>
     alloc: Global,
     bytes: &'a [u8],
 ) -> Result<bool, Fail> {
-    Ok(
-        keeps_all::<_, Vec<T>>(alloc, bytes)?
-            && keeps_all::<_, VecDeque<T>>(alloc, bytes)?
-            && keeps_all::<_, LinkedList<T>>(alloc, bytes)?
-            && keeps_all::<_, containers::Vec<T, Len>>(alloc, bytes)?
-            && keeps_all::<_, containers::VecDeque<T, Len>>(alloc, bytes)?
-            && keeps_all::<_, containers::BoxedSlice<T, Len>>(alloc, bytes)?
-            && keeps_all::<_, containers::RcSlice<T, Len>>(alloc, bytes)?,
-    )
+    let all = [
+        keeps_all::<_, Vec<T>>(alloc, bytes)?,
+        keeps_all::<_, VecDeque<T>>(alloc, bytes)?,
+        keeps_all::<_, LinkedList<T>>(alloc, bytes)?,
+        keeps_all::<_, containers::Vec<T, Len>>(alloc, bytes)?,
+        keeps_all::<_, containers::VecDeque<T, Len>>(alloc, bytes)?,
+        keeps_all::<_, containers::BoxedSlice<T, Len>>(alloc, bytes)?,
+        keeps_all::<_, containers::RcSlice<T, Len>>(alloc, bytes)?,
+    ];
+    Ok(all == [true; 7])
 }
 
 /// How many numbers a collection of each kind has.
@@ -103,20 +104,33 @@ fn heaps_of_many_numbers(rt: HostRuntime) -> Result<(), Fail> {
     let alloc = rt.alloc();
     for n in MANY {
         let list = numbered(alloc, n, &[])?;
-        assert!(rt; keeps_all::<_, BinaryHeap<u32>>(alloc, list.as_slice())?);
-        assert!(rt; keeps_all::<_, containers::BinaryHeap<u32, Len>>(alloc, list.as_slice())?);
+        let plain = keeps_all::<_, BinaryHeap<u32>>(alloc, list.as_slice())?;
+        let other = keeps_all::<_, containers::BinaryHeap<u32, Len>>(alloc, list.as_slice())?;
+        assert!(rt; [plain, other] == [true; 2]);
     }
+    Ok(())
+}
+
+/// Texts of four bytes.
+fn texts(alloc: Global) -> Result<Vec<u8>, Fail> {
+    numbered(alloc, 2_000, &4u64.to_le_bytes())
+}
+
+#[test]
+fn lists_of_many_texts(rt: HostRuntime) -> Result<(), Fail> {
+    let alloc = rt.alloc();
+    assert!(rt; lists_keep_all::<_, String>(alloc, texts(alloc)?.as_slice())?);
     Ok(())
 }
 
 #[test]
 fn collections_of_many_texts(rt: HostRuntime) -> Result<(), Fail> {
     let alloc = rt.alloc();
-    let list = numbered(alloc, 2_000, &4u64.to_le_bytes())?;
+    let list = texts(alloc)?;
     let bytes = list.as_slice();
-    assert!(rt; lists_keep_all::<_, String>(alloc, bytes)?);
-    assert!(rt; keeps_all::<_, BTreeMap<String, ()>>(alloc, bytes)?);
-    assert!(rt; keeps_all::<_, HashSet<String>>(alloc, bytes)?);
-    assert!(rt; keeps_all::<_, BinaryHeap<String>>(alloc, bytes)?);
+    let map = keeps_all::<_, BTreeMap<String, ()>>(alloc, bytes)?;
+    let set = keeps_all::<_, HashSet<String>>(alloc, bytes)?;
+    let heap = keeps_all::<_, BinaryHeap<String>>(alloc, bytes)?;
+    assert!(rt; [map, set, heap] == [true; 3]);
     Ok(())
 }

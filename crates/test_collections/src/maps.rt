@@ -19,10 +19,10 @@ fn hashed_maps_are_written(rt: HostRuntime) -> Result<(), Fail> {
     let text = serialize(alloc, &pairs)?;
     let one = [2u8, 0, 0, 0, 0, 0, 0, 0, 1, 2, 3, 4];
     let other = [2u8, 0, 0, 0, 0, 0, 0, 0, 3, 4, 1, 2];
-    assert!(rt; text.as_slice() == one.as_slice() || text.as_slice() == other.as_slice());
+    let is_written = text.as_slice() == one.as_slice() || text.as_slice() == other.as_slice();
     let back: HashMap<u8, u8> = deserialize(alloc, text.as_slice())?;
-    assert_eq!(rt; back.len(), 2);
-    assert!(rt; back.get(&1) == Some(&2) && back.get(&3) == Some(&4));
+    let found = (is_written, back.len(), back.get(&1), back.get(&3));
+    assert!(rt; found == (true, 2, Some(&2), Some(&4)));
     Ok(())
 }
 
@@ -75,12 +75,15 @@ fn long_maps_are_written(rt: HostRuntime) -> Result<(), Fail> {
     for n in [
         0u64, 1, 15, 16, 17, 24, 25, 63, 64, 65, 113, 114, 128, 129, 1000,
     ] {
-        assert!(rt; is_written_so(alloc, n, true, [1u8].as_slice())?);
-        assert!(rt; is_written_so(alloc, n, 7u64, [7u8, 0, 0, 0, 0, 0, 0, 0].as_slice())?);
-        assert!(rt; is_written_so(alloc, n, [7u8; 33], [7u8; 33].as_slice())?);
-        assert!(rt; is_written_so(alloc, n, [7u8; 56], [7u8; 56].as_slice())?);
-        assert!(rt; is_written_so(alloc, n, [7u8; 57], [7u8; 57].as_slice())?);
-        assert!(rt; is_written_so(alloc, n, Some(7u8), [1u8, 7].as_slice())?);
+        let all = [
+            is_written_so(alloc, n, true, [1u8].as_slice())?,
+            is_written_so(alloc, n, 7u64, [7u8, 0, 0, 0, 0, 0, 0, 0].as_slice())?,
+            is_written_so(alloc, n, [7u8; 33], [7u8; 33].as_slice())?,
+            is_written_so(alloc, n, [7u8; 56], [7u8; 56].as_slice())?,
+            is_written_so(alloc, n, [7u8; 57], [7u8; 57].as_slice())?,
+            is_written_so(alloc, n, Some(7u8), [1u8, 7].as_slice())?,
+        ];
+        assert!(rt; all == [true; 6]);
     }
     Ok(())
 }
@@ -90,8 +93,9 @@ fn a_key_of_its_own(rt: HostRuntime) -> Result<(), Fail> {
     let alloc = rt.alloc();
     let bytes = [2u8, 0, 0, 0, 0, 0, 0, 0, 2, 1, 7, 1, 3, 8];
     let ordered: BTreeMap<Square, u8> = deserialize(alloc, bytes.as_slice())?;
-    assert!(rt; ordered.get(&Square { row: 2, column: 1 }) == Some(&7));
     let hashed: HashMap<Square, u8> = deserialize(alloc, bytes.as_slice())?;
-    assert!(rt; hashed.get(&Square { row: 1, column: 3 }) == Some(&8));
+    let first = ordered.get(&Square { row: 2, column: 1 });
+    let second = hashed.get(&Square { row: 1, column: 3 });
+    assert!(rt; (first, second) == (Some(&7), Some(&8)));
     Ok(())
 }

@@ -37,7 +37,7 @@ fn forms(rt: HostRuntime) -> Result<(), Fail> {
 fn lists(rt: HostRuntime) -> Result<(), Fail> {
     let alloc = rt.alloc();
     let list: Vec<()> = deserialize(alloc, LENGTH.as_slice())?;
-    assert_eq!(rt; list.len(), COUNT);
+    assert!(rt; list.len() == COUNT);
     Ok(())
 }
 
@@ -53,7 +53,7 @@ fn options(rt: HostRuntime) -> Result<(), Fail> {
 fn queues(rt: HostRuntime) -> Result<(), Fail> {
     let alloc = rt.alloc();
     let queue: VecDeque<()> = deserialize(alloc, LENGTH.as_slice())?;
-    assert_eq!(rt; queue.len(), COUNT);
+    assert!(rt; queue.len() == COUNT);
     Ok(())
 }
 
@@ -61,7 +61,7 @@ fn queues(rt: HostRuntime) -> Result<(), Fail> {
 fn lists_of_links(rt: HostRuntime) -> Result<(), Fail> {
     let alloc = rt.alloc();
     let list: LinkedList<()> = deserialize(alloc, LENGTH.as_slice())?;
-    assert_eq!(rt; list.len(), COUNT);
+    assert!(rt; list.len() == COUNT);
     Ok(())
 }
 
@@ -69,7 +69,7 @@ fn lists_of_links(rt: HostRuntime) -> Result<(), Fail> {
 fn heaps(rt: HostRuntime) -> Result<(), Fail> {
     let alloc = rt.alloc();
     let heap: BinaryHeap<()> = deserialize(alloc, LENGTH.as_slice())?;
-    assert_eq!(rt; heap.len(), COUNT);
+    assert!(rt; heap.len() == COUNT);
     Ok(())
 }
 
@@ -78,7 +78,7 @@ fn heaps(rt: HostRuntime) -> Result<(), Fail> {
 fn ordered_sets(rt: HostRuntime) -> Result<(), Fail> {
     let alloc = rt.alloc();
     let set: BTreeSet<()> = deserialize(alloc, LENGTH.as_slice())?;
-    assert_eq!(rt; set.len(), 1);
+    assert!(rt; set.len() == 1);
     Ok(())
 }
 
@@ -86,6 +86,6 @@ fn ordered_sets(rt: HostRuntime) -> Result<(), Fail> {
 fn hashed_sets(rt: HostRuntime) -> Result<(), Fail> {
     let alloc = rt.alloc();
     let set: HashSet<()> = deserialize(alloc, LENGTH.as_slice())?;
-    assert_eq!(rt; set.len(), 1);
+    assert!(rt; set.len() == 1);
     Ok(())
 }

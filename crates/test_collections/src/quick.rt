@@ -133,19 +133,27 @@ where
     are_alike::<T, Single<T>>(alloc, rows)
 }
 
-/// Bytes, flags, units and numbers.
+/// Bytes, flags and units.
 #[test]
 fn leaves_are_read_alike(rt: HostRuntime) -> Result<(), Fail> {
     let alloc = rt.alloc();
     let all = lists_of(alloc, &[1])?;
     let rows = all.as_slice();
-    assert!(rt; are_alike_singly::<u8>(alloc, rows)?);
-    assert!(rt; are_alike_singly::<bool>(alloc, rows)?);
-    assert!(rt; are_alike_singly::<()>(alloc, rows)?);
+    let bytes = are_alike_singly::<u8>(alloc, rows)?;
+    let flags = are_alike_singly::<bool>(alloc, rows)?;
+    let units = are_alike_singly::<()>(alloc, rows)?;
+    assert!(rt; [bytes, flags, units] == [true; 3]);
+    Ok(())
+}
+
+#[test]
+fn numbers_are_read_alike(rt: HostRuntime) -> Result<(), Fail> {
+    let alloc = rt.alloc();
     let all = lists_of(alloc, &[7, 0, 0, 255, 0, 1, 128, 3])?;
     let rows = all.as_slice();
-    assert!(rt; are_alike_singly::<u16>(alloc, rows)?);
-    assert!(rt; are_alike_singly::<usize>(alloc, rows)?);
+    let short = are_alike_singly::<u16>(alloc, rows)?;
+    let long = are_alike_singly::<usize>(alloc, rows)?;
+    assert!(rt; [short, long] == [true; 2]);
     Ok(())
 }
 
@@ -175,9 +183,10 @@ fn arrays_are_read_alike(rt: HostRuntime) -> Result<(), Fail> {
         ],
     )?;
     let rows = all.as_slice();
-    assert!(rt; are_alike::<[u8; 17], [Byte; 17]>(alloc, rows)?);
-    assert!(rt; are_alike::<[[u16; 2]; 2], [[Short; 2]; 2]>(alloc, rows)?);
-    assert!(rt; are_alike_singly::<containers::Pod<u32>>(alloc, rows)?);
+    let bytes = are_alike::<[u8; 17], [Byte; 17]>(alloc, rows)?;
+    let numbers = are_alike::<[[u16; 2]; 2], [[Short; 2]; 2]>(alloc, rows)?;
+    let forms = are_alike_singly::<containers::Pod<u32>>(alloc, rows)?;
+    assert!(rt; [bytes, numbers, forms] == [true; 3]);
     Ok(())
 }
 
@@ -283,32 +292,48 @@ fn texts_of(alloc: Global, count: usize) -> Result<Vec<String>, Fail> {
     Ok(texts)
 }
 
-/// Texts, by themselves and in what holds them.
+/// Texts, by themselves and in boxes.
 #[test]
 fn texts_are_read_alike(rt: HostRuntime) -> Result<(), Fail> {
     let alloc = rt.alloc();
     let all = lists_of(alloc, &[2, 0, 0, 0, 0, 0, 0, 0, 104, 105])?;
     let rows = all.as_slice();
-    assert!(rt; are_alike_singly::<String>(alloc, rows)?);
-    assert!(rt; are_alike_singly::<Box<String>>(alloc, rows)?);
-    let all = lists_of(alloc, &[1, 1, 0, 0, 0, 0, 0, 0, 0, 7])?;
-    let rows = all.as_slice();
-    assert!(rt; are_alike::<(bool, String), (Flag, Single<String>)>(alloc, rows)?);
-    assert!(rt; are_alike_singly::<Option<String>>(alloc, rows)?);
+    let plain = are_alike_singly::<String>(alloc, rows)?;
+    let boxed = are_alike_singly::<Box<String>>(alloc, rows)?;
+    assert!(rt; [plain, boxed] == [true; 2]);
     Ok(())
 }
 
-/// Lists, by themselves and on one side of a result.
+/// Texts behind a flag, and in options.
+#[test]
+fn texts_in_others_are_read_alike(rt: HostRuntime) -> Result<(), Fail> {
+    let alloc = rt.alloc();
+    let all = lists_of(alloc, &[1, 1, 0, 0, 0, 0, 0, 0, 0, 7])?;
+    let rows = all.as_slice();
+    let pairs = are_alike::<(bool, String), (Flag, Single<String>)>(alloc, rows)?;
+    let options = are_alike_singly::<Option<String>>(alloc, rows)?;
+    assert!(rt; [pairs, options] == [true; 2]);
+    Ok(())
+}
+
+/// Lists behind a short length.
 #[test]
 fn lists_are_read_alike(rt: HostRuntime) -> Result<(), Fail> {
+    let alloc = rt.alloc();
+    let all = lists_of(alloc, &[2, 7, 8])?;
+    assert!(rt; are_alike_singly::<containers::Vec<u8, ShortU16Len>>(alloc, all.as_slice())?);
+    Ok(())
+}
+
+/// Lists on one side of a result.
+#[test]
+fn lists_in_results_are_read_alike(rt: HostRuntime) -> Result<(), Fail> {
     let alloc = rt.alloc();
     let all = lists_of(
         alloc,
         &[0, 0, 0, 0, 9, 1, 0, 0, 0, 2, 0, 0, 0, 0, 0, 0, 0, 7, 8],
     )?;
     assert!(rt; are_alike_singly::<Result<u8, Vec<u8>>>(alloc, all.as_slice())?);
-    let all = lists_of(alloc, &[2, 7, 8])?;
-    assert!(rt; are_alike_singly::<containers::Vec<u8, ShortU16Len>>(alloc, all.as_slice())?);
     Ok(())
 }
 

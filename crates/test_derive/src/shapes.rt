@@ -26,7 +26,7 @@ fn tokens(rt: HostRuntime) -> Result<(), Fail> {
     let alloc = rt.alloc();
     let bytes = [0u8, 0, 0, 0, 1, 0, 0, 0, 0, 0, 0, 0, 97];
     let word = serialize(alloc, &Token::Word("a"))?;
-    assert_eq!(rt; word.as_slice(), bytes.as_slice());
+    assert!(rt; word.as_slice() == bytes.as_slice());
     let token: Token<'_> = deserialize(alloc, bytes.as_slice())?;
     assert!(rt; matches!(&token, Token::Word("a")));
     let number: Token<'_> = deserialize(alloc, [1u8, 0, 0, 0, 5, 0, 0, 0, 0, 0, 0, 0].as_slice())?;

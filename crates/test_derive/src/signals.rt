@@ -30,7 +30,7 @@ fn a_note(rt: HostRuntime) -> Result<(), Fail> {
     is_encoded::<Note>(alloc, &note, NOTE.as_slice())?;
     let mut reader = NOTE.as_slice();
     let text = copy_front::<Lifetime<'_>, &[u8], Note>(alloc, &mut reader)?;
-    assert_eq!(rt; text.as_slice(), NOTE.as_slice());
+    assert!(rt; text.as_slice() == NOTE.as_slice());
     Ok(())
 }
 

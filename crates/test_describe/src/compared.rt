@@ -19,9 +19,9 @@ fn is_answered(rt: HostRuntime) -> Result<(), Fail> {
     let alloc = rt.alloc();
     let old = Described::parse(alloc, "Vec<enum u8 { 0: u8 }>")?;
     let new = Described::parse(alloc, "Vec<enum u8 { 0: u8, 9: bool }>")?;
-    assert_eq!(rt; answer(alloc, &old, &new)?, Answer::Reads);
-    assert_eq!(rt; answer(alloc, &new, &old)?, Answer::Differs);
-    assert_eq!(rt; answer(alloc, &old, &old)?, Answer::Same);
+    assert!(rt; answer(alloc, &old, &new)? == Answer::Reads);
+    assert!(rt; answer(alloc, &new, &old)? == Answer::Differs);
+    assert!(rt; answer(alloc, &old, &old)? == Answer::Same);
     Ok(())
 }
 
@@ -31,8 +31,8 @@ fn is_printed(rt: HostRuntime) -> Result<(), Fail> {
     let old = Described::parse(alloc, "struct { id: u16, tags: Vec<u8> }")?;
     let new = Described::parse(alloc, "struct { key: u16, tags: Vec<u8>, paid: bool }")?;
     let (answer, text) = compared_lines(alloc, &old, &new)?;
-    assert_eq!(rt; answer, Answer::Differs);
-    assert_eq!(rt; text.as_str(), CHANGES);
+    assert!(rt; answer == Answer::Differs);
+    assert!(rt; text.as_str() == CHANGES);
     Ok(())
 }
 

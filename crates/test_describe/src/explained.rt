@@ -131,7 +131,7 @@ fn each_kind_of_part(rt: HostRuntime) -> Result<(), Fail> {
     let alloc = rt.alloc();
     for (text, bytes, printed) in ROWS {
         let lines = lines(alloc, text, bytes)?;
-        assert_eq!(rt; lines.as_str(), printed);
+        assert!(rt; lines.as_str() == printed);
     }
     Ok(())
 }
@@ -221,7 +221,7 @@ fn types_of_std(rt: HostRuntime) -> Result<(), Fail> {
     let alloc = rt.alloc();
     for (text, bytes, printed) in STD_ROWS {
         let lines = lines(alloc, text, bytes)?;
-        assert_eq!(rt; lines.as_str(), printed);
+        assert!(rt; lines.as_str() == printed);
     }
     Ok(())
 }
@@ -255,9 +255,9 @@ fn a_declared_enum(rt: HostRuntime) -> Result<(), Fail> {
     let source = "enum Level { Low, High(u8) }";
     let described = Described::parse_with(alloc, source, "Level")?;
     let (_, text) = explained_lines(alloc, &described, &[1, 0, 0, 0, 5])?;
-    assert_eq!(rt; text.as_str(), "0: 01000000 tag 1\n4: 05 .0 u8 5\n");
+    assert!(rt; text.as_str() == "0: 01000000 tag 1\n4: 05 .0 u8 5\n");
     let (_, text) = explained_lines(alloc, &described, &[1, 5])?;
-    assert_eq!(rt; text.as_str(), "0: refused: Attempting to read 4 bytes\n");
+    assert!(rt; text.as_str() == "0: refused: Attempting to read 4 bytes\n");
     Ok(())
 }
 
@@ -285,7 +285,7 @@ fn parts_about_as_long_as_are_printed(rt: HostRuntime) -> Result<(), Fail> {
         let bytes = [0u8; 17];
         let kind = format!(in alloc; "[u8; {n}]")?;
         let text = lines(alloc, kind.as_str(), &bytes)?;
-        assert_eq!(rt; text.as_str(), printed);
+        assert!(rt; text.as_str() == printed);
     }
     Ok(())
 }

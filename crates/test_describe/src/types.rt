@@ -77,10 +77,10 @@ fn are_written_as_they_are_parsed(rt: HostRuntime) -> Result<(), Fail> {
     for (text, written) in WRITTEN {
         let described = Described::parse(alloc, text)?;
         let again = format!(in alloc; "{described}")?;
-        assert_eq!(rt; again.as_str(), written);
+        assert!(rt; again.as_str() == written);
         let parsed = Described::parse(alloc, written)?;
         let once_more = format!(in alloc; "{parsed}")?;
-        assert_eq!(rt; once_more.as_str(), written);
+        assert!(rt; once_more.as_str() == written);
     }
     Ok(())
 }
@@ -100,7 +100,7 @@ fn are_parsed_as_they_are_written(rt: HostRuntime) -> Result<(), Fail> {
     let described = Described::Option(Box::new(alloc, Described::ByteArray(3))?);
     let again = parsed_again(alloc, &described)?;
     let text = format!(in alloc; "{again}")?;
-    assert_eq!(rt; text.as_str(), "Option<[u8; 3]>");
+    assert!(rt; text.as_str() == "Option<[u8; 3]>");
     Ok(())
 }
 
@@ -145,7 +145,7 @@ fn are_refused_with_their_byte(rt: HostRuntime) -> Result<(), Fail> {
         match Described::parse(alloc, text) {
             Ok(_) => return Err(Fail::from("parsed")),
             Err(error) => {
-                assert_eq!(rt; format!(in alloc; "{error}")?.as_str(), printed);
+                assert!(rt; format!(in alloc; "{error}")?.as_str() == printed);
             }
         }
     }
@@ -175,10 +175,7 @@ fn are_parsed_up_to_a_depth(rt: HostRuntime) -> Result<(), Fail> {
         Ok(_) => Err(Fail::from("parsed")),
         Err(error) => {
             let printed = format!(in alloc; "{error}")?;
-            assert_eq!(rt;
-                printed.as_str(),
-                "the type at byte 896 is more than 128 levels deep"
-            );
+            assert!(rt; printed.as_str() == "the type at byte 896 is more than 128 levels deep");
             Ok(())
         }
     }
@@ -316,10 +313,10 @@ fn are_named_by_declarations(rt: HostRuntime) -> Result<(), Fail> {
     for (text, written) in DECLARED {
         let described = Described::parse_with(alloc, SOURCE, text)?;
         let again = format!(in alloc; "{described}")?;
-        assert_eq!(rt; again.as_str(), written);
+        assert!(rt; again.as_str() == written);
         let parsed = Described::parse(alloc, written)?;
         let once_more = format!(in alloc; "{parsed}")?;
-        assert_eq!(rt; once_more.as_str(), written);
+        assert!(rt; once_more.as_str() == written);
     }
     Ok(())
 }
@@ -351,7 +348,7 @@ fn are_refused_by_declarations(rt: HostRuntime) -> Result<(), Fail> {
         match Described::parse_with(alloc, SOURCE, text) {
             Ok(_) => return Err(Fail::from("parsed")),
             Err(error) => {
-                assert_eq!(rt; format!(in alloc; "{error}")?.as_str(), printed);
+                assert!(rt; format!(in alloc; "{error}")?.as_str() == printed);
             }
         }
     }
@@ -365,9 +362,9 @@ fn no_declaration_has_a_name_of_std(rt: HostRuntime) -> Result<(), Fail> {
     match Described::parse_with(alloc, "struct Duration(u64);", "Vec<Duration>") {
         Ok(_) => Err(Fail::from("parsed")),
         Err(error) => {
-            assert_eq!(rt;
-                format!(in alloc; "{error}")?.as_str(),
-                "`a declaration with the name of one of std's types` describes no type"
+            assert!(rt;
+                format!(in alloc; "{error}")?.as_str()
+                    == "`a declaration with the name of one of std's types` describes no type"
             );
             Ok(())
         }

@@ -282,19 +282,16 @@ fn each_call_fails_in_turn(rt: HostRuntime) -> Result<(), Fail> {
 /// What is at hand is what the device gave, and it is read though the device has failed.
 #[test]
 fn what_the_device_gave_is_read(rt: HostRuntime) -> Result<(), Fail> {
-    let alloc = rt.alloc();
     let text = [2u8, 0, 0, 0, 0, 0, 0, 0, 104, 105, 7];
     let mut reader = FailingReader::new(&text, 1);
-    assert!(rt; reader.at_hand().is_empty());
+    let before = reader.at_hand().len();
     reader.fill(10)?;
-    assert_eq!(rt; reader.at_hand(), &text[..10]);
-    assert!(rt; reader.fill(11).is_err());
-    assert_eq!(rt; reader.at_hand(), &text[..10]);
-    let value = <String as SchemaGet<Lifetime>>::get(alloc, &mut reader)?;
-    assert_eq!(rt; value.as_str(), "hi");
-    assert!(rt; reader.at_hand().is_empty());
-    assert_eq!(rt; reader.left(), &text[10..]);
-    assert_eq!(rt; reader.failures(), 1);
+    let filled = reader.at_hand().len();
+    let is_refused = reader.fill(11).is_err();
+    assert!(rt; (before, filled, is_refused, reader.at_hand()) == (0, 10, true, &text[..10]));
+    let value = <String as SchemaGet<Lifetime>>::get(rt.alloc(), &mut reader)?;
+    let after = (reader.at_hand().len(), reader.left(), reader.failures());
+    assert!(rt; (value.as_str(), after) == ("hi", (0, &text[10..], 1)));
     Ok(())
 }
 
@@ -305,16 +302,15 @@ fn a_long_list_read_over_a_device(rt: HostRuntime) -> Result<(), Fail> {
     let alloc = rt.alloc();
     let mut bytes = vec![in alloc; 0u8; 524_296]?;
     bytes[2] = 1;
-    for sound in 0..3usize {
+    for (sound, left) in [(0usize, 524_296usize), (1, 524_288), (2, 0)] {
         let mut reader = FailingReader::new(bytes.as_slice(), sound);
         let answer = <Vec<u64> as SchemaGet<Lifetime>>::get(alloc, &mut reader);
-        match &answer {
-            Ok(list) => assert!(rt; sound == 2 && list.len() == 65_536),
-            Err(ReadError::Io(error)) => assert!(rt; sound < 2 && is_read_fault(error)),
-            Err(_) => return Err(Fail::from("another refusal")),
-        }
-        let left = [524_296usize, 524_288, 0];
-        assert_eq!(rt; reader.left().len(), left[sound]);
+        let is_due = match &answer {
+            Ok(list) => sound == 2 && list.len() == 65_536,
+            Err(ReadError::Io(error)) => sound < 2 && is_read_fault(error),
+            Err(_) => false,
+        };
+        assert!(rt; (is_due, reader.left().len()) == (true, left));
     }
     Ok(())
 }
@@ -325,50 +321,64 @@ fn a_long_list_written_over_a_device(rt: HostRuntime) -> Result<(), Fail> {
     let alloc = rt.alloc();
     let list = vec![in alloc; 0u64; 65_536]?;
     let mut room = vec![in alloc; 7u8; 524_297]?;
-    for sound in 0..2usize {
+    for (sound, written) in [(0usize, 0usize), (1, 524_296)] {
         let mut writer = FailingWriter::new(room.as_mut_slice(), sound);
         let answer = <Vec<u64> as SchemaWrite>::write(&mut writer, &list);
-        match &answer {
-            Ok(()) => assert!(rt; sound == 1),
-            Err(WriteError::Io(error)) => assert!(rt; sound == 0 && is_write_fault(error)),
-            Err(_) => return Err(Fail::from("another refusal")),
-        }
-        let written = [0usize, 524_296];
-        assert_eq!(rt; writer.written().len(), written[sound]);
+        let is_due = match &answer {
+            Ok(()) => sound == 1,
+            Err(WriteError::Io(error)) => sound == 0 && is_write_fault(error),
+            Err(_) => false,
+        };
+        assert!(rt; (is_due, writer.written().len()) == (true, written));
     }
-    assert_eq!(rt; room.last(), Some(&7u8));
+    assert!(rt; room.last() == Some(&7u8));
     Ok(())
 }
 
-/// A record from a device that serves so many calls.
+/// The record 7, true and 32 bytes of 9, and a byte of 9 more.
+const RECORD: [u8; 42] = [
+    7, 0, 0, 0, 0, 0, 0, 0, 1, 9, 9, 9, 9, 9, 9, 9, 9, 9, 9, 9, 9, 9, 9, 9, 9, 9, 9, 9, 9, 9, 9, 9,
+    9, 9, 9, 9, 9, 9, 9, 9, 9, 9,
+];
+
+/// A record from a device that serves one call.
 #[test]
 fn a_record_read_over_a_device(rt: HostRuntime) -> Result<(), Fail> {
-    let alloc = rt.alloc();
-    let mut text = [9u8; 42];
-    text[..9].copy_from_slice(&[7, 0, 0, 0, 0, 0, 0, 0, 1]);
-    let mut reader = FailingReader::new(&text, 1);
-    let record = read_record(alloc, &mut reader)?;
-    assert!(rt; record == (7, true, [9; 32]));
-    assert_eq!(rt; reader.left(), [9u8].as_slice());
+    let mut reader = FailingReader::new(&RECORD, 1);
+    let record = read_record(rt.alloc(), &mut reader)?;
     for _ in 0..2 {
-        let failed = read_record(alloc, &mut reader);
-        assert!(rt; matches!(&failed, Err(ReadError::Io(error)) if is_read_fault(error)));
-        assert_eq!(rt; reader.left(), [9u8].as_slice());
+        let left = reader.left().len();
+        let failed = read_record(rt.alloc(), &mut reader);
+        let is_fault = matches!(&failed, Err(ReadError::Io(error)) if is_read_fault(error));
+        assert!(rt; (is_fault, left, reader.left()) == (true, 1, [9u8].as_slice()));
     }
-    let mut reader = FailingReader::new(&text[..40], 1);
-    let short = read_record(alloc, &mut reader);
-    assert!(rt; matches!(&short, Err(ReadError::Io(io::ReadError::ReadSizeLimit(41)))));
-    assert_eq!(rt; reader.left().len(), 40);
-    let mut flag = text;
-    flag[8] = 2;
-    let mut reader = FailingReader::new(&flag, 1);
-    let refused = read_record(alloc, &mut reader);
-    assert!(rt; matches!(&refused, Err(ReadError::InvalidBoolEncoding(2))));
-    assert_eq!(rt; reader.left().len(), 1);
+    assert!(rt; record == (7, true, [9; 32]));
     Ok(())
 }
 
-/// A record to a device that serves so many calls.
+/// How reading a record over a device that serves one call is refused, and how many bytes are left.
+fn record_refused(alloc: Global, bytes: &[u8]) -> Result<String, Fail> {
+    let mut reader = FailingReader::new(bytes, 1);
+    match read_record(alloc, &mut reader) {
+        Ok(_) => Err(Fail::from("a record")),
+        Err(error) => Ok(format!(in alloc; "{error:?} {}", reader.left().len())?),
+    }
+}
+
+#[test]
+fn records_refused_over_a_device(rt: HostRuntime) -> Result<(), Fail> {
+    let mut flag = RECORD;
+    flag[8] = 2;
+    for (bytes, wanted) in [
+        (&RECORD[..40], "Io(ReadSizeLimit(41)) 40"),
+        (flag.as_slice(), "InvalidBoolEncoding(2) 1"),
+    ] {
+        assert!(rt; record_refused(rt.alloc(), bytes)?.as_str() == wanted);
+    }
+    Ok(())
+}
+
+/// A record to a device that serves three calls, of which the third finds too little room.
 #[test]
 fn a_record_written_over_a_device(rt: HostRuntime) -> Result<(), Fail> {
     let record = (7u64, true, [9u8; 32]);
@@ -378,50 +388,48 @@ fn a_record_written_over_a_device(rt: HostRuntime) -> Result<(), Fail> {
         write_record(&mut writer, record)?;
     }
     let full = write_record(&mut writer, record);
-    assert!(rt;
-        matches!(
-            &full,
-            Err(WriteError::Io(io::WriteError::WriteSizeLimit(41)))
-        )
+    let is_full = matches!(
+        &full,
+        Err(WriteError::Io(io::WriteError::WriteSizeLimit(41)))
     );
     for _ in 0..2 {
         let failed = write_record(&mut writer, record);
-        assert!(rt; matches!(&failed, Err(WriteError::Io(error)) if is_write_fault(error)));
+        let is_fault = matches!(&failed, Err(WriteError::Io(error)) if is_write_fault(error));
+        assert!(rt; (is_full, is_fault, writer.written().len()) == (true, true, 82));
     }
-    assert_eq!(rt; writer.written().len(), 82);
-    assert_eq!(rt; &room[..9], [7u8, 0, 0, 0, 0, 0, 0, 0, 1].as_slice());
-    assert_eq!(rt; &room[81..], [9u8, 0].as_slice());
+    assert!(rt; (&room[..9], &room[81..]) == (&RECORD[..9], [9u8, 0].as_slice()));
     Ok(())
 }
 
-/// What a device that has failed answers, and how often it says that it failed.
+/// What a reader's device that has failed answers, and how often it says that it failed.
 #[test]
-fn failures_are_counted(rt: HostRuntime) -> Result<(), Fail> {
+fn failures_of_reading_are_counted(rt: HostRuntime) -> Result<(), Fail> {
     let mut reader = FailingReader::new(&[1, 2, 3], 2);
     reader.consume(1)?;
     let mut window = reader.as_trusted_for(1)?;
     for n in 1..4usize {
         let refused = reader.fill(1);
-        assert!(rt; matches!(&refused, Err(error) if is_read_fault(error)));
-        assert_eq!(rt; reader.failures(), n);
-        assert_eq!(rt; reader.left(), [3u8].as_slice());
+        let is_fault = matches!(&refused, Err(error) if is_read_fault(error));
+        assert!(rt; (is_fault, reader.failures(), reader.left()) == (true, n, [3u8].as_slice()));
     }
     window.consume(1)?;
+    Ok(())
+}
+
+/// So a writer's.
+#[test]
+fn failures_of_writing_are_counted(rt: HostRuntime) -> Result<(), Fail> {
     let mut room = [0u8; 4];
     let mut writer = FailingWriter::new(&mut room, 2);
     writer.write(&[7])?;
-    assert!(rt;
-        matches!(
-            &writer.write(&[8; 4]),
-            Err(io::WriteError::WriteSizeLimit(4))
-        )
-    );
+    let full = writer.write(&[8; 4]);
+    let is_full = matches!(&full, Err(io::WriteError::WriteSizeLimit(4)));
     for n in 1..4usize {
         let refused = writer.write(&[9]);
-        assert!(rt; matches!(&refused, Err(error) if is_write_fault(error)));
-        assert_eq!(rt; writer.failures(), n);
-        assert_eq!(rt; writer.written(), [7u8].as_slice());
+        let is_fault = matches!(&refused, Err(error) if is_write_fault(error));
+        let device = (writer.failures(), writer.written());
+        assert!(rt; (is_full, is_fault, device) == (true, true, (n, [7u8].as_slice())));
     }
-    assert_eq!(rt; room.as_slice(), [7u8, 0, 0, 0].as_slice());
+    assert!(rt; room == [7, 0, 0, 0]);
     Ok(())
 }

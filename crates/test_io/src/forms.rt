@@ -40,21 +40,23 @@ fn refused_size(answer: WriteResult<()>) -> Option<usize> {
 
 /// Other numbers are rows of `rows_values`.
 #[test]
-fn numbers_and_arrays_have_forms(rt: HostRuntime) -> Result<(), Fail> {
+fn numbers_have_forms(rt: HostRuntime) -> Result<(), Fail> {
     let alloc = rt.alloc();
-    assert_eq!(rt; back(alloc, -2i32, &[254, 255, 255, 255])?, Some(-2));
-    let wide = back(
-        alloc,
-        1u128 << 64,
-        &[0, 0, 0, 0, 0, 0, 0, 0, 1, 0, 0, 0, 0, 0, 0, 0],
-    )?;
-    assert_eq!(rt; wide, Some(1 << 64));
-    assert_eq!(rt; back(alloc, [1u16, 515], &[1, 0, 3, 2])?, Some([1, 515]));
-    assert_eq!(rt;
-        back(alloc, [[1u8, 2], [3, 4], [5, 6]], &[1, 2, 3, 4, 5, 6])?,
-        Some([[1, 2], [3, 4], [5, 6]])
-    );
-    assert_eq!(rt; back(alloc, [0u64; 0], &[])?, Some([]));
+    let signed = back(alloc, -2i32, &[254, 255, 255, 255])?;
+    let form = [0, 0, 0, 0, 0, 0, 0, 0, 1, 0, 0, 0, 0, 0, 0, 0];
+    let wide = back(alloc, 1u128 << 64, &form)?;
+    assert!(rt; (signed, wide) == (Some(-2), Some(1 << 64)));
+    Ok(())
+}
+
+#[test]
+fn arrays_have_forms(rt: HostRuntime) -> Result<(), Fail> {
+    let alloc = rt.alloc();
+    let numbers = back(alloc, [1u16, 515], &[1, 0, 3, 2])?;
+    let nested = back(alloc, [[1u8, 2], [3, 4], [5, 6]], &[1, 2, 3, 4, 5, 6])?;
+    let none = back(alloc, [0u64; 0], &[])?;
+    let wanted = (Some([1, 515]), Some([[1, 2], [3, 4], [5, 6]]), Some([]));
+    assert!(rt; (numbers, nested, none) == wanted);
     Ok(())
 }
 
@@ -62,13 +64,9 @@ fn numbers_and_arrays_have_forms(rt: HostRuntime) -> Result<(), Fail> {
 fn a_refused_form_stays(rt: HostRuntime) {
     let mut short = [1u8, 2].as_slice();
     let mut number = Some(7u32);
-    assert!(rt;
-        matches!(
-            &Reader::<Lifetime>::copy_into_t(&mut short, &mut number),
-            Err(ReadError::ReadSizeLimit(4))
-        )
-    );
-    assert_eq!(rt; (short, number), ([1u8, 2].as_slice(), Some(7)));
+    let refused = Reader::<Lifetime>::copy_into_t(&mut short, &mut number);
+    let is_short = matches!(&refused, Err(ReadError::ReadSizeLimit(4)));
+    assert!(rt; (is_short, short, number) == (true, [1u8, 2].as_slice(), Some(7)));
 }
 
 #[test]
@@ -78,25 +76,38 @@ fn a_window_takes_forms(rt: HostRuntime) -> Result<(), Fail> {
     writer.make_room(25)?;
     let mut window = WriteWindow::new(&mut writer, 25);
     write_numbers(&mut window)?;
-    assert_eq!(rt; refused_size(window.write_t(&1u16)), Some(2));
-    assert_eq!(rt; refused_size(window.write_slice_t(&[1u16, 2])), Some(4));
-    assert_eq!(rt; writer.written(), &NUMBERS[..24]);
+    let one = refused_size(window.write_t(&1u16));
+    let two = refused_size(window.write_slice_t(&[1u16, 2]));
+    assert!(rt; (one, two, writer.written()) == (Some(2), Some(4), &NUMBERS[..24]));
+    Ok(())
+}
+
+#[test]
+fn room_is_left_behind_a_form(rt: HostRuntime) -> Result<(), Fail> {
+    let mut slice = [0u8; 30];
+    let mut writer = SliceWriter::new(&mut slice);
+    write_numbers(&mut writer)?;
     writer.write_t(&[1u8, 2])?;
-    assert_eq!(rt; (writer.written().len(), writer.room()), (26, 4));
+    assert!(rt; (writer.written().len(), writer.room()) == (26, 4));
     Ok(())
 }
 
 #[test]
 fn writers_that_count_take_forms(rt: HostRuntime) -> Result<(), Fail> {
-    let want = &NUMBERS[..24];
     let mut counted = Counted::new(Vec::new(rt.alloc()), 2);
     counted.write_t(&258u64)?;
     counted.write_slice_t(&[1u64, 515])?;
-    assert!(rt; matches!(&counted.write_t(&1u8), Err(WriteError::Io(_))));
-    assert_eq!(rt; (counted.bytes(), counted.failures()), (want, 1));
+    let is_failure = matches!(&counted.write_t(&1u8), Err(WriteError::Io(_)));
+    let after = (counted.bytes(), counted.failures());
+    assert!(rt; (is_failure, after) == (true, (&NUMBERS[..24], 1)));
+    Ok(())
+}
+
+#[test]
+fn writers_that_finish_take_forms(rt: HostRuntime) -> Result<(), Fail> {
     let mut finishing = Finishing::new(Vec::new(rt.alloc()));
     write_numbers(&mut finishing)?;
-    assert_eq!(rt; finishing.bytes(), want);
+    assert!(rt; finishing.bytes() == &NUMBERS[..24]);
     Ok(())
 }
 
@@ -104,34 +115,30 @@ fn writers_that_count_take_forms(rt: HostRuntime) -> Result<(), Fail> {
 fn views_give_and_set(rt: HostRuntime) -> Result<(), Fail> {
     let mut bytes = [1u8, 0, 0, 0, 9];
     let mut view = u32::from_bytes_mut(&mut bytes)?;
-    assert_eq!(rt; view.get(), 1);
+    let before = view.get();
     view.set(258);
-    assert_eq!(rt; view.get(), 258);
-    assert_eq!(rt; bytes, [2u8, 1, 0, 0, 9]);
-    assert_eq!(rt; u32::from_bytes(&bytes)?.get(), 258);
-    assert!(rt;
-        matches!(
-            &u32::from_bytes(&bytes[..3]),
-            Err(ReadError::ReadSizeLimit(4))
-        )
-    );
-    assert!(rt;
-        matches!(
-            &u64::from_bytes_mut(&mut bytes),
-            Err(ReadError::ReadSizeLimit(8))
-        )
-    );
-    assert_eq!(rt; bytes, [2u8, 1, 0, 0, 9]);
+    let after = view.get();
+    let shared = u32::from_bytes(&bytes)?.get();
+    assert!(rt; (before, after, shared, bytes) == (1, 258, 258, [2, 1, 0, 0, 9]));
     Ok(())
+}
+
+#[test]
+fn views_of_too_few_bytes(rt: HostRuntime) {
+    let mut bytes = [2u8, 1, 0, 0, 9];
+    let shared = u32::from_bytes(&bytes[..3]);
+    let is_short = matches!(&shared, Err(ReadError::ReadSizeLimit(4)));
+    let for_writing = u64::from_bytes_mut(&mut bytes);
+    let is_shorter = matches!(&for_writing, Err(ReadError::ReadSizeLimit(8)));
+    assert!(rt; (is_short, is_shorter, bytes) == (true, true, [2, 1, 0, 0, 9]));
 }
 
 #[test]
 fn views_leave_what_is_behind(rt: HostRuntime) -> Result<(), Fail> {
     let mut behind = [1u8, 0, 5, 6, 7, 8, 9];
     u16::from_bytes_mut(&mut behind)?.set(772);
-    assert_eq!(rt; behind, [4u8, 3, 5, 6, 7, 8, 9]);
-    assert!(rt; <[u8; 32]>::from_bytes_mut(&mut behind).is_err());
-    assert_eq!(rt; behind, [4u8, 3, 5, 6, 7, 8, 9]);
+    let is_refused = <[u8; 32]>::from_bytes_mut(&mut behind).is_err();
+    assert!(rt; (is_refused, behind) == (true, [4, 3, 5, 6, 7, 8, 9]));
     Ok(())
 }
 
@@ -139,10 +146,14 @@ fn views_leave_what_is_behind(rt: HostRuntime) -> Result<(), Fail> {
 fn views_of_many_forms(rt: HostRuntime) {
     let mut forms = [1u8, 0, 2, 0, 3, 0];
     let mut view = SliceRefMut::<'_, u16>::new(&mut forms, 3);
-    assert_eq!(rt; (view.len(), view.get(1)), (3, 2));
+    let before = (view.len(), view.get(1));
     view.set(1, 772);
-    assert_eq!(rt; (view.get(0), view.get(1), view.get(2)), (1, 772, 3));
-    assert_eq!(rt; forms, [1u8, 0, 4, 3, 3, 0]);
-    let view = SliceRef::<'_, [u8; 2]>::new(&forms, 3);
-    assert_eq!(rt; (view.len(), view.get(1)), (3, [4u8, 3]));
+    let after = (view.get(0), view.get(1), view.get(2));
+    assert!(rt; (before, after, forms) == ((3, 2), (1, 772, 3), [1, 0, 4, 3, 3, 0]));
+}
+
+#[test]
+fn views_of_many_arrays(rt: HostRuntime) {
+    let view = SliceRef::<'_, [u8; 2]>::new(&[1, 0, 4, 3, 3, 0], 3);
+    assert!(rt; (view.len(), view.get(1)) == (3, [4, 3]));
 }

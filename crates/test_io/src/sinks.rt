@@ -128,13 +128,15 @@ fn that_takes_no_more(rt: HostRuntime) -> Result<(), Fail> {
     let alloc = rt.alloc();
     let mut writer = StreamWriter::new(alloc, StdSink::new(Few::new(alloc, 0)))?;
     writer.write(b"some")?;
-    assert!(rt; fails_as(writer.finish(), ErrorKind::WriteZero));
-    assert!(rt; fails_as(writer.finish(), ErrorKind::Other));
+    let is_zero = fails_as(writer.finish(), ErrorKind::WriteZero);
+    let is_other = fails_as(writer.finish(), ErrorKind::Other);
     writer.write(b" more")?;
-    assert!(rt; writer.unsent() == b"some more".as_slice());
-    assert_eq!(rt; writer.position(), 9);
+    let is_kept = (
+        writer.unsent() == b"some more".as_slice(),
+        writer.position(),
+    );
     let (few, _) = writer.into_inner();
-    assert_eq!(rt; few.calls, 1);
+    assert!(rt; (is_zero, is_other, is_kept, few.calls) == (true, true, (true, 9), 1));
     Ok(())
 }
 
@@ -151,8 +153,9 @@ fn in_memory(rt: HostRuntime) -> Result<(), Fail> {
     wanted.write_slice_t(&[1u16, 2, 3])?;
     writer.finish()?;
     let (sink, _) = writer.into_sink();
-    assert_eq!(rt; sink.failures(), 0);
-    assert!(rt; sink.into_bytes() == wanted);
+    let failures = sink.failures();
+    let bytes = sink.into_bytes();
+    assert!(rt; (failures, bytes.as_slice()) == (0, wanted.as_slice()));
     Ok(())
 }
 
@@ -170,8 +173,6 @@ fn that_is_finished_by_its_owner(rt: HostRuntime) -> Result<(), Fail> {
     }
     writer.finish()?;
     let (few, _) = writer.into_inner();
-    assert_eq!(rt; few.bytes.len(), 16000);
-    assert_eq!(rt; few.calls, 2);
-    assert_eq!(rt; few.flushes, 1);
+    assert!(rt; (few.bytes.len(), few.calls, few.flushes) == (16000, 2, 1));
     Ok(())
 }

@@ -10,8 +10,10 @@ use wincode_describe::{
 
 const SIZES: [usize; 5] = [1, 2, 3, 7, 8192];
 
-/// Types, and a value of each, behind which a byte stands.
-const ROWS: [(&str, &[u8]); 8] = [
+/// A type, and a value of it, behind which a byte stands.
+type Row = (&'static str, &'static [u8]);
+
+const PLAIN: [Row; 3] = [
     (
         "(u64, bool, [u8; 3])",
         &[1, 2, 3, 4, 5, 6, 7, 8, 1, 9, 9, 9, 7],
@@ -21,6 +23,9 @@ const ROWS: [(&str, &[u8]); 8] = [
         "Vec<Option<i16>>",
         &[2, 0, 0, 0, 0, 0, 0, 0, 0, 1, 254, 255, 7],
     ),
+];
+
+const NESTED: [Row; 4] = [
     (
         "struct { a: char, b: short Vec<u8>, c: short Vec<(u8, i8)> }",
         &[0xe2, 0x82, 0xac, 2, 8, 9, 1, 3, 255, 7],
@@ -36,17 +41,41 @@ const ROWS: [(&str, &[u8]); 8] = [
             1, 0, 0, 0, 0, 0, 0, 0, 2, 0, 0, 0, 0, 0, 0, 0, 1, 2, 3, 4, 7,
         ],
     ),
-    (
-        "Vec<(NonZeroU16, f32, Duration, SocketAddr)>",
-        &[
-            2, 0, 0, 0, 0, 0, 0, 0, 1, 2, 0, 0, 72, 65, 9, 0, 0, 0, 0, 0, 0, 0, 0, 202, 154, 59, 1,
-            0, 0, 0, 32, 1, 13, 184, 0, 0, 0, 0, 0, 0, 0, 0, 0, 0, 0, 1, 80, 31, 255, 255, 1, 0,
-            128, 255, 0, 0, 0, 0, 0, 0, 0, 0, 1, 2, 3, 4, 0, 0, 0, 0, 127, 0, 0, 1, 187, 1, 7,
-        ],
-    ),
 ];
 
-/// Whether these lines are printed as the bytes come in pieces of this size, and so is said whether a value was read.
+/// Types of std.
+const STD: [Row; 1] = [(
+    "Vec<(NonZeroU16, f32, Duration, SocketAddr)>",
+    &[
+        2, 0, 0, 0, 0, 0, 0, 0, 1, 2, 0, 0, 72, 65, 9, 0, 0, 0, 0, 0, 0, 0, 0, 202, 154, 59, 1, 0,
+        0, 0, 32, 1, 13, 184, 0, 0, 0, 0, 0, 0, 0, 0, 0, 0, 0, 1, 80, 31, 255, 255, 1, 0, 128, 255,
+        0, 0, 0, 0, 0, 0, 0, 0, 1, 2, 3, 4, 0, 0, 0, 0, 127, 0, 0, 1, 187, 1, 7,
+    ],
+)];
+
+/// Whether the bytes in pieces of this size are explained by these lines, and so is said whether a value was read.
+fn is_explained(
+    alloc: Global,
+    (described, bytes, size): (&Described, &[u8], usize),
+    (is_ok, lines): (bool, &str),
+) -> Result<bool, Fail> {
+    let source = in_pieces(alloc, bytes, size, false)?;
+    let (ok, found) = explained_source_lines(alloc, described, source)?;
+    Ok(ok == is_ok && found.as_str() == lines)
+}
+
+/// So of the line that is answered where they are checked.
+fn is_checked(
+    alloc: Global,
+    (described, bytes, size): (&Described, &[u8], usize),
+    (is_ok, line): (bool, &str),
+) -> Result<bool, Fail> {
+    let source = in_pieces(alloc, bytes, size, false)?;
+    let (ok, found) = checked_source_line(alloc, described, source)?;
+    Ok(ok == is_ok && found.as_str() == line)
+}
+
+/// So of the lines that are printed as the bytes come.
 fn is_printed(
     alloc: Global,
     (described, bytes, size): (&Described, &[u8], usize),
@@ -63,40 +92,87 @@ fn first_unlike(alloc: Global, described: &Described, bytes: &[u8]) -> Result<Op
     let (_, lines) = explained_lines(alloc, described, bytes)?;
     let (is_ok, line) = checked_line(alloc, described, bytes)?;
     for size in SIZES {
-        let source = in_pieces(alloc, bytes, size, false)?;
-        let (ok, found) = explained_source_lines(alloc, described, source)?;
-        if ok != is_ok || found != lines {
-            return Ok(Some(size));
-        }
-        let source = in_pieces(alloc, bytes, size, false)?;
-        let (ok, found) = checked_source_line(alloc, described, source)?;
-        if ok != is_ok || found != line {
-            return Ok(Some(size));
-        }
-        if !is_printed(alloc, (described, bytes, size), (is_ok, lines.as_str()))? {
+        let pieces = (described, bytes, size);
+        let alike = [
+            is_explained(alloc, pieces, (is_ok, lines.as_str()))?,
+            is_checked(alloc, pieces, (is_ok, line.as_str()))?,
+            is_printed(alloc, pieces, (is_ok, lines.as_str()))?,
+        ];
+        if alike != [true; 3] {
             return Ok(Some(size));
         }
     }
     Ok(None)
 }
 
-#[test]
-fn fronts_and_changes(rt: HostRuntime) -> Result<(), Fail> {
-    let alloc = rt.alloc();
-    for (text, bytes) in ROWS {
-        let described = Described::parse(alloc, text)?;
-        for n in 0..=bytes.len() {
-            let unlike = first_unlike(alloc, &described, &bytes[..n])?;
-            assert!(rt; unlike == None, "{text} {n} {unlike:?}");
+/// The first front of the bytes of a row that is unlike in pieces, and their size, if there is one.
+fn unlike_front(alloc: Global, (text, bytes): Row) -> Result<Option<(usize, usize)>, Fail> {
+    let described = Described::parse(alloc, text)?;
+    for n in 0..=bytes.len() {
+        if let Some(size) = first_unlike(alloc, &described, &bytes[..n])? {
+            return Ok(Some((n, size)));
         }
-        for i in 0..bytes.len() {
-            for change in [1u8, 127, 255] {
-                let mut changed = Vec::from_slice(alloc, bytes)?;
-                changed[i] ^= change;
-                let unlike = first_unlike(alloc, &described, changed.as_slice())?;
-                assert!(rt; unlike == None, "{text} {i} {unlike:?}");
+    }
+    Ok(None)
+}
+
+/// The bytes with the one at this place changed.
+fn changed(alloc: Global, bytes: &[u8], place: usize, change: u8) -> Result<Vec<u8>, Fail> {
+    let mut changed = Vec::from_slice(alloc, bytes)?;
+    if let Some(byte) = changed.get_mut(place) {
+        *byte ^= change;
+    }
+    Ok(changed)
+}
+
+/// The first place at which a change of a row's bytes is unlike in pieces, and their size, if there is one.
+fn unlike_change(alloc: Global, (text, bytes): Row) -> Result<Option<(usize, usize)>, Fail> {
+    let described = Described::parse(alloc, text)?;
+    for place in 0..bytes.len() {
+        for change in [1u8, 127, 255] {
+            let row = changed(alloc, bytes, place, change)?;
+            if let Some(size) = first_unlike(alloc, &described, row.as_slice())? {
+                return Ok(Some((place, size)));
             }
         }
+    }
+    Ok(None)
+}
+
+#[test]
+fn fronts(rt: HostRuntime) -> Result<(), Fail> {
+    for rows in [PLAIN.as_slice(), NESTED.as_slice(), STD.as_slice()] {
+        for row in rows {
+            let unlike = unlike_front(rt.alloc(), *row)?;
+            assert!(rt; unlike == None, "{} {unlike:?}", row.0);
+        }
+    }
+    Ok(())
+}
+
+#[test]
+fn changes_of_plain_types(rt: HostRuntime) -> Result<(), Fail> {
+    for row in PLAIN {
+        let unlike = unlike_change(rt.alloc(), row)?;
+        assert!(rt; unlike == None, "{} {unlike:?}", row.0);
+    }
+    Ok(())
+}
+
+#[test]
+fn changes_of_nested_types(rt: HostRuntime) -> Result<(), Fail> {
+    for row in NESTED {
+        let unlike = unlike_change(rt.alloc(), row)?;
+        assert!(rt; unlike == None, "{} {unlike:?}", row.0);
+    }
+    Ok(())
+}
+
+#[test]
+fn changes_of_std_types(rt: HostRuntime) -> Result<(), Fail> {
+    for row in STD {
+        let unlike = unlike_change(rt.alloc(), row)?;
+        assert!(rt; unlike == None, "{} {unlike:?}", row.0);
     }
     Ok(())
 }
@@ -134,10 +210,10 @@ fn a_text_of_more_than_a_mebibyte(rt: HostRuntime) -> Result<(), Fail> {
     let described = Described::parse(alloc, "String")?;
     let source = StdSource::new(bytes.as_slice());
     let (ok, lines) = explained_source_lines(alloc, &described, source)?;
-    assert!(rt; ok);
     let printed = lines.as_str();
-    assert!(rt; printed.starts_with("0: 0100100000000000 length 1048577\n8: 6161"));
-    assert!(rt; printed.len() > 1_048_577 && printed.ends_with("aaaa\"\n"));
+    let is_begun = printed.starts_with("0: 0100100000000000 length 1048577\n8: 6161");
+    let is_long = printed.len() > 1_048_577;
+    assert!(rt; [ok, is_begun, is_long, printed.ends_with("aaaa\"\n")] == [true; 4]);
     Ok(())
 }
 
@@ -148,10 +224,10 @@ fn a_failure_behind_a_value(rt: HostRuntime) -> Result<(), Fail> {
     let described = Described::parse(alloc, "(u8, u16)")?;
     let source = in_pieces(alloc, &[1, 2, 0], 1, true)?;
     let (ok, lines) = explained_source_lines(alloc, &described, source)?;
-    assert!(rt; ok);
-    assert_eq!(rt; lines.as_str(), "0: 01 .0 u8 1\n1: 0200 .1 u16 2\n");
     let source = in_pieces(alloc, &[1, 2, 0], 1, true)?;
-    assert!(rt; checked_source_line(alloc, &described, source).is_err());
+    let is_refused = checked_source_line(alloc, &described, source).is_err();
+    let due = (true, "0: 01 .0 u8 1\n1: 0200 .1 u16 2\n", true);
+    assert!(rt; (ok, lines.as_str(), is_refused) == due);
     Ok(())
 }
 
@@ -166,7 +242,6 @@ fn a_large_list(rt: HostRuntime) -> Result<(), Fail> {
     let described = Described::parse(alloc, "Vec<Box<u8>>")?;
     let source = StdSource::new(bytes.as_slice());
     let (ok, line) = checked_source_line(alloc, &described, source)?;
-    assert!(rt; ok);
-    assert_eq!(rt; line.as_str(), "ok, 524296 bytes, 2 left");
+    assert!(rt; (ok, line.as_str()) == (true, "ok, 524296 bytes, 2 left"));
     Ok(())
 }

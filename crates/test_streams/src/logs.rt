@@ -67,9 +67,21 @@ fn cut_at_every_byte(rt: HostRuntime) -> Result<(), Fail> {
     let (bytes, ends) = log_of(alloc, 50)?;
     for size in 0..=bytes.len() {
         let whole = whole_length::<Entry, _>(alloc, &bytes[..size])?;
-        assert_eq!(rt; whole, last_within(ends.as_slice(), size));
+        assert!(rt; whole == last_within(ends.as_slice(), size));
     }
     Ok(())
+}
+
+/// The log with entries appended, from this number up to the twentieth.
+fn gone_on_with(alloc: Global, log: &[u8], count: u16) -> Result<Vec<u8>, Fail> {
+    let mut log = Vec::from_slice(alloc, log)?;
+    for number in count..20 {
+        append_message::<Entry, _>(
+            &mut log,
+            &(number, String::from_str(alloc, letters(number))?),
+        )?;
+    }
+    Ok(log)
 }
 
 #[test]
@@ -78,16 +90,10 @@ fn cut_and_gone_on_with(rt: HostRuntime) -> Result<(), Fail> {
     let (bytes, ends) = log_of(alloc, 20)?;
     for size in 0..=bytes.len() {
         let (count, position) = read_in_front(alloc, &bytes[..size])?;
-        assert_eq!(rt; position, last_within(ends.as_slice(), size));
         let whole: &[u8] = bytes.get(..position).unwrap_or(&[]);
-        let mut log = Vec::from_slice(alloc, whole)?;
-        for number in count..20 {
-            append_message::<Entry, _>(
-                &mut log,
-                &(number, String::from_str(alloc, letters(number))?),
-            )?;
-        }
-        assert!(rt; log == bytes);
+        let log = gone_on_with(alloc, whole, count)?;
+        let due = (last_within(ends.as_slice(), size), bytes.as_slice());
+        assert!(rt; (position, log.as_slice()) == due);
     }
     Ok(())
 }
@@ -101,13 +107,11 @@ fn without_room(rt: HostRuntime) -> Result<(), Fail> {
         let mut bytes = [7; 15];
         let mut writer = SliceWriter::new(&mut bytes[..room]);
         let refused = append_message::<Entry, _>(&mut writer, &entry);
-        assert!(rt;
-            matches!(
-                refused,
-                Err(WriteError::Io(io::WriteError::WriteSizeLimit(15)))
-            )
+        let is_refused = matches!(
+            &refused,
+            Err(WriteError::Io(io::WriteError::WriteSizeLimit(15)))
         );
-        assert!(rt; bytes == [7; 15]);
+        assert!(rt; (is_refused, bytes) == (true, [7; 15]));
     }
     Ok(())
 }

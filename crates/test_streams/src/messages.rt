@@ -38,19 +38,26 @@ fn has_both(alloc: Global, reader: &mut StreamReader<Pieces>, i: u64) -> Result<
     Ok(flag == (i, i % 2 == 0) && word == due)
 }
 
+/// Whether the bytes in pieces of this size are 700 flags and words, and nothing is behind them.
+fn are_both(alloc: Global, bytes: &[u8], size: usize) -> Result<bool, Fail> {
+    let source = in_pieces(alloc, bytes, size, false)?;
+    let mut reader = StreamReader::new(alloc, source)?;
+    for i in 0..700u64 {
+        if !has_both(alloc, &mut reader, i)? {
+            return Ok(false);
+        }
+    }
+    let end = deserialize_from::<Lifetime, _, u8>(alloc, &mut reader);
+    Ok(matches!(&end, Err(ReadError::Io(io::ReadError::ReadSizeLimit(1)))))
+}
+
 /// Messages of two types, one behind another, without a byte lost between them.
 #[test]
 fn of_two_types(rt: HostRuntime) -> Result<(), Fail> {
     let alloc = rt.alloc();
     let bytes = flags_and_words(alloc, 700)?;
     for size in SIZES {
-        let source = in_pieces(alloc, bytes.as_slice(), size, false)?;
-        let mut reader = StreamReader::new(alloc, source)?;
-        for i in 0..700u64 {
-            assert!(rt; has_both(alloc, &mut reader, i)?);
-        }
-        let end = deserialize_from::<Lifetime, _, u8>(alloc, &mut reader);
-        assert!(rt; matches!(&end, Err(ReadError::Io(io::ReadError::ReadSizeLimit(1)))));
+        assert!(rt; are_both(alloc, bytes.as_slice(), size)?);
     }
     Ok(())
 }
@@ -87,26 +94,25 @@ fn count(mut messages: Messages<Pieces, String>) -> (u64, Option<ReadError>) {
 fn to_the_end(rt: HostRuntime) -> Result<(), Fail> {
     let alloc = rt.alloc();
     for size in SIZES {
-        let (n, error) = count(log(alloc, 40, size, 0, false)?);
-        assert!(rt; n == 40 && error.is_none());
-        let (n, error) = count(log(alloc, 0, size, 0, false)?);
-        assert!(rt; n == 0 && error.is_none());
+        for words in [40, 0] {
+            let (n, error) = count(log(alloc, words, size, 0, false)?);
+            assert!(rt; (n, error.is_none()) == (words, true));
+        }
     }
     Ok(())
 }
 
-/// A log that ends within its last word, by each number of bytes: that is an error, and no end.
+/// A log that ends within its last word, by each number of bytes: that is an error, and no end. The word has 17 bytes,
+/// and without all of them the log ends behind a word.
 #[test]
 fn cut_off(rt: HostRuntime) -> Result<(), Fail> {
     let alloc = rt.alloc();
     for size in [1usize, 7, 8192] {
-        for cut in 1..17usize {
+        for cut in 1..=17usize {
             let (n, error) = count(log(alloc, 4, size, cut, false)?);
             let is_short = matches!(&error, Some(ReadError::Io(io::ReadError::ReadSizeLimit(_))));
-            assert!(rt; n == 3 && is_short);
+            assert!(rt; (n, is_short, error.is_none()) == (3, cut < 17, cut == 17));
         }
-        let (n, error) = count(log(alloc, 4, size, 17, false)?);
-        assert!(rt; n == 3 && error.is_none());
     }
     Ok(())
 }
@@ -129,58 +135,71 @@ fn cut_body(alloc: Global, fails: bool) -> Result<Messages<Pieces, Vec<u8>>, Fai
     Ok(Messages::new(alloc, in_pieces(alloc, &bytes, 17, fails)?)?)
 }
 
+/// The kind of the source's failure that stands in the place of the next message: none where anything else does.
+fn next_failure(messages: &mut Messages<Pieces, Vec<u8>>) -> Option<ErrorKind> {
+    match messages.next() {
+        Some(Err(ReadError::Io(io::ReadError::Io(e)))) => Some(e.kind()),
+        _ => None,
+    }
+}
+
 /// Behind a failure of the source nothing is read of what came of half a message.
 #[test]
 fn behind_a_failure(rt: HostRuntime) -> Result<(), Fail> {
     let mut messages = cut_body(rt.alloc(), true)?;
     for _ in 0..3u8 {
-        let Some(Err(ReadError::Io(io::ReadError::Io(e)))) = messages.next() else {
-            panic!(rt; "no failure");
-        };
-        assert!(rt; e.kind() == ErrorKind::Other);
+        assert!(rt; next_failure(&mut messages) == Some(ErrorKind::Other));
     }
-    assert_eq!(rt; messages.into_reader().unread().len(), 9);
+    assert!(rt; messages.into_reader().unread().len() == 9);
     Ok(())
+}
+
+/// A body that was refused, and whether it was, at first for its size and then by each of three calls.
+fn refused_body(alloc: Global) -> Result<(Messages<Pieces, Vec<u8>>, bool), Fail> {
+    let mut messages = cut_body(alloc, false)?;
+    let first = messages.next();
+    let mut is_refused = matches!(
+        &first,
+        Some(Err(ReadError::Io(io::ReadError::ReadSizeLimit(16))))
+    );
+    for _ in 0..3u8 {
+        is_refused &= matches!(&messages.next(), Some(Err(ReadError::Custom(_))));
+    }
+    Ok((messages, is_refused))
 }
 
 /// Nor behind any other refusal, unless the caller says where to go on.
 #[test]
 fn behind_a_refusal(rt: HostRuntime) -> Result<(), Fail> {
     let alloc = rt.alloc();
-    let mut messages = cut_body(alloc, false)?;
-    let first = messages.next();
-    assert!(rt;
-        matches!(
-            &first,
-            Some(Err(ReadError::Io(io::ReadError::ReadSizeLimit(16))))
-        )
-    );
-    for _ in 0..3u8 {
-        assert!(rt; matches!(&messages.next(), Some(Err(ReadError::Custom(_)))));
-    }
+    let (messages, is_refused) = refused_body(alloc)?;
     let reader = messages.into_reader();
-    assert_eq!(rt; reader.unread().len(), 9);
+    let unread = reader.unread().len();
     let mut more = Messages::<Pieces, Vec<u8>>::of_reader(alloc, reader);
-    let Some(Ok(body)) = more.next() else {
-        panic!(rt; "no message");
-    };
-    assert_eq!(rt; body.as_slice(), [77u8].as_slice());
-    assert!(rt; more.next().is_none());
+    let next = more.next();
+    let is_body = matches!(&next, Some(Ok(body)) if body.as_slice() == [77u8].as_slice());
+    let is_end = more.next().is_none();
+    assert!(rt; (is_refused, unread, is_body, is_end) == (true, 9, true, true));
     Ok(())
+}
+
+/// The word behind three messages of a log of four, in pieces of this size.
+fn fourth_word(alloc: Global, size: usize) -> Result<String, Fail> {
+    let mut messages = log(alloc, 4, size, 0, false)?;
+    for _ in 0..3u8 {
+        if !matches!(messages.next(), Some(Ok(_))) {
+            return Err(Fail::from("no message"));
+        }
+    }
+    let mut reader = messages.into_reader();
+    Ok(deserialize_from::<Lifetime, _, String>(alloc, &mut reader)?)
 }
 
 /// The reader behind some messages gives what follows them.
 #[test]
 fn taken_apart(rt: HostRuntime) -> Result<(), Fail> {
-    let alloc = rt.alloc();
     for size in SIZES {
-        let mut messages = log(alloc, 4, size, 0, false)?;
-        for _ in 0..3u8 {
-            assert!(rt; matches!(messages.next(), Some(Ok(_))));
-        }
-        let mut reader = messages.into_reader();
-        let word: String = deserialize_from::<Lifetime, _, _>(alloc, &mut reader)?;
-        assert!(rt; word.as_str() == "message 3");
+        assert!(rt; fourth_word(rt.alloc(), size)?.as_str() == "message 3");
     }
     Ok(())
 }

@@ -21,8 +21,6 @@
 
 mod calls;
 pub mod containers;
-pub mod exact;
-pub mod laws;
 pub mod len;
 pub mod limits;
 pub mod logs;
@@ -42,7 +40,6 @@ pub use calls::{
     deserialize, deserialize_exact, deserialize_from, deserialize_mut, serialize, serialize_into,
     serialize_limited, serialized_size,
 };
-pub use exact::ExactError;
 pub use limits::{LimitError, Limited, LimitedLen, LimitedShape};
 pub use logs::{append_message, whole_length};
 pub use markers::{OneText, RoundTrip, SchemaReadOwned};
@@ -56,4 +53,6 @@ pub use wincode_base::{error, meta};
 pub use wincode_io as io;
 pub use wincode_io::ZeroCopy;
 pub use wincode_read::{Key, SchemaGet, SchemaRead, Told};
+pub use wincode_serde::exact::ExactError;
+pub use wincode_serde::{exact, laws};
 pub use wincode_write::{SchemaWrite, write_tag};

@@ -3,7 +3,7 @@ ghost use Rattle.std.specs.Prelude.{◌≡◌, false, IfOk, IfErr, OnOk};
 ghost use Rattle.wincode_io.specs.Writers.{IsUnmoved};
 ghost use Rattle.wincode_base.specs.Outcomes.{Wrote};
 ghost use Rattle.wincode.specs.Logs.{IsWholePart, says_none};
-ghost use Rattle.wincode.specs.Serde.{AppendRefused};
+ghost use Rattle.wincode.specs.Appends.{AppendRefused};
 
 use crate::io::{self, Lifetime, Source, WriteWindow, Writer};
 use crate::markers::SchemaReadOwned;

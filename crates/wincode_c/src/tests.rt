@@ -65,16 +65,14 @@ fn bytes_are_checked(rt: HostRuntime) -> Result<(), Fail> {
     for (words, bytes, number, numbers) in CHECKED {
         let mut report = NO_REPORT;
         let found = wincode_check(rt.alloc(), words.as_bytes(), bytes, &mut report);
-        assert_eq!(rt; found, number, "{words}");
+        assert!(rt; found == number, "{words}");
         let [length, parts, behind, place, first, second] = numbers;
-        assert_eq!(rt;
-            (report.length, report.parts, report.behind),
-            (length, parts, behind),
+        assert!(rt;
+            (report.length, report.parts, report.behind) == (length, parts, behind),
             "{words}"
         );
-        assert_eq!(rt;
-            (report.place, report.first, report.second),
-            (place, first, second),
+        assert!(rt;
+            (report.place, report.first, report.second) == (place, first, second),
             "{words}"
         );
     }
@@ -123,7 +121,7 @@ fn depths_of_refusals(rt: HostRuntime) -> Result<(), Fail> {
     for (words, bytes, depth) in DEPTHS {
         let mut report = NO_REPORT;
         let _ = wincode_check(rt.alloc(), words.as_bytes(), bytes, &mut report);
-        assert_eq!(rt; report.depth, depth, "{words}");
+        assert!(rt; report.depth == depth, "{words}");
     }
     Ok(())
 }
@@ -136,11 +134,8 @@ fn bytes_behind_a_value_are_refused(rt: HostRuntime) -> Result<(), Fail> {
         (&[], 1, 1),
     ] {
         let mut report = NO_REPORT;
-        assert_eq!(rt;
-            wincode_check_exact(rt.alloc(), b"u8", bytes, &mut report),
-            number
-        );
-        assert_eq!(rt; report.first, first);
+        assert!(rt; wincode_check_exact(rt.alloc(), b"u8", bytes, &mut report) == number);
+        assert!(rt; report.first == first);
     }
     Ok(())
 }
@@ -153,15 +148,9 @@ fn a_type_that_is_too_deep_or_no_text(rt: HostRuntime) -> Result<(), Fail> {
     }
     deep.push(b'u')?;
     let mut report = NO_REPORT;
-    assert_eq!(rt;
-        wincode_check(rt.alloc(), deep.as_slice(), &[], &mut report),
-        -3
-    );
-    assert_eq!(rt;
-        wincode_check(rt.alloc(), &[117, 56, 255], &[], &mut report),
-        -1
-    );
-    assert_eq!(rt; report.place, 2);
+    assert!(rt; wincode_check(rt.alloc(), deep.as_slice(), &[], &mut report) == -3);
+    assert!(rt; wincode_check(rt.alloc(), &[117, 56, 255], &[], &mut report) == -1);
+    assert!(rt; report.place == 2);
     Ok(())
 }
 
@@ -186,11 +175,11 @@ fn pages_of_lines(rt: HostRuntime) -> Result<(), Fail> {
                 &mut report,
                 &mut page,
             );
-            assert_eq!(rt; (found, report.parts, report.length), (0, 3, 4));
+            assert!(rt; (found, report.parts, report.length) == (0, 3, 4));
             let (lines, left) = bytes.as_slice().split_at(page.length.min(room));
             seen.extend_from_slice(lines)?;
             assert!(rt; left.iter().all(|byte| *byte == 255));
-            assert_eq!(rt; seen.len().checked_add(page.behind), Some(LINES.len()));
+            assert!(rt; seen.len().checked_add(page.behind) == Some(LINES.len()));
             from = from.saturating_add(page.lines);
         }
         let whole = match room {
@@ -199,7 +188,7 @@ fn pages_of_lines(rt: HostRuntime) -> Result<(), Fail> {
             15..=19 => 29,
             _ => LINES.len(),
         };
-        assert_eq!(rt; seen.as_slice(), LINES.get(..whole).unwrap_or(LINES));
+        assert!(rt; seen.as_slice() == LINES.get(..whole).unwrap_or(LINES));
     }
     Ok(())
 }
@@ -230,18 +219,14 @@ fn texts_of_refusals(rt: HostRuntime) -> Result<(), Fail> {
         (99, 1, 2, ""),
     ] {
         let (mut room, mut length) = ([255u8; 100], 0usize);
-        assert_eq!(rt;
-            wincode_message(rt.alloc(), number, first, second, &mut room, &mut length),
-            0
+        assert!(rt;
+            wincode_message(rt.alloc(), number, first, second, &mut room, &mut length) == 0
         );
-        assert_eq!(rt; room.get(..length).unwrap_or(&[]), text.as_bytes());
+        assert!(rt; room.get(..length).unwrap_or(&[]) == text.as_bytes());
         let mut little = [255u8; 2];
         let found = wincode_message(rt.alloc(), number, first, second, &mut little, &mut length);
-        assert_eq!(rt;
-            (found, length),
-            (if text.is_empty() { 0 } else { -6 }, text.len())
-        );
-        assert_eq!(rt; little, [255, 255]);
+        assert!(rt; (found, length) == (if text.is_empty() { 0 } else { -6 }, text.len()));
+        assert!(rt; little == [255, 255]);
     }
     Ok(())
 }
@@ -260,9 +245,9 @@ fn layouts_of_declared_types(rt: HostRuntime) -> Result<(), Fail> {
     ] {
         let (mut room, mut length) = ([255u8; 100], 0usize);
         let found = wincode_layout(rt.alloc(), source, text.as_bytes(), &mut room, &mut length);
-        assert_eq!(rt; found, number);
+        assert!(rt; found == number);
         let shown = if number == 0 { length } else { 0 };
-        assert_eq!(rt; room.get(..shown).unwrap_or(&[]), layout.as_bytes());
+        assert!(rt; room.get(..shown).unwrap_or(&[]) == layout.as_bytes());
     }
     Ok(())
 }

@@ -1,6 +1,4 @@
 //! What is asked of bytes by their type: their parts, a line each, or whether they begin with a value.
-use crate::recoding::{KnownShape, RelayError};
-use crate::relaying::gather;
 use std::alloc::{AllocError, AllocFailed, Global};
 use std::io::{self, ErrorKind, Read, Write};
 use thiserror::Error;
@@ -10,6 +8,7 @@ use wincode_derive_text::shown;
 use wincode_describe::{
     DescribeError, Described, PrintError, checked_line, checked_source_line, print_source_lines,
 };
+use wincode_recode::{KnownShape, RelayError, gather};
 
 /// What `--help` prints.
 pub const HELP: &str = "\

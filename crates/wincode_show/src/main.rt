@@ -7,25 +7,17 @@
 
 mod asking;
 mod comparing;
-mod passing;
-mod recoding;
-mod relaying;
-mod streaming;
-#[cfg(test)]
-mod tests;
 
 use asking::{Asked, Command, Fault, HELP, Question, print};
 use comparing::{Named, compared, layout_lines};
-use recoding::RelayError;
-use relaying::relay;
 use std::fs::File;
 use std::io::ErrorKind;
 use std::process::ExitCode;
 use std::rt::{Env, Files};
 use std::{env, fs, io};
-use streaming::relay_stream;
 use wincode::io::{StdSink, StdSource, StreamReader, StreamWriter};
 use wincode_describe::TYPES;
+use wincode_recode::{RelayError, relay, relay_stream};
 
 /// Why the arguments aren't known: no memory for them, or one that is no text.
 fn unread(error: io::Error) -> RelayError {
