@@ -134,6 +134,7 @@ fn room_is_at_hand(rt: HostRuntime) -> Result<(), Fail> {
     let empty = vector.room_at_hand();
     vector.write(&[1, 2])?;
     let begun = vector.room_at_hand();
+    vector.make_room(5)?;
     let mut window = WriteWindow::new(&mut vector, 5);
     window.write(&[3])?;
     let of_window = window.room_at_hand();
