@@ -68,7 +68,23 @@ def of_made(template, entry):
     template = template.replace("$at_once$", (FLOATS_READ_AT_ONCE if entry in FLOATS else READ_ONE_BY_ONE).strip("\n"))
     template = template.replace("$written_at_once$", (FLOATS_WRITTEN_AT_ONCE if entry in FLOATS else WRITTEN_ONE_BY_ONE).strip("\n"))
     words["R"], words["W"] = f"⟦<{entry[1]} as SchemaRead<L>>⟧", f"⟦<{entry[1]} as SchemaWrite>⟧"
+    if entry == SOCKET_SIX:
+        template = unscoped(template)
+    elif entry[0] == "SocketAddr":
+        template = template.replace(NO_LIMIT, OF_KIND_LIMIT)
     return re.sub(r"\$(\w+)\$", lambda it: words[it[1]], template)
+
+
+def unscoped(template):
+    """The template, for an address of which a part isn't written."""
+    written = "$relation$ (socket_v6_written x) (socket_v6_written x) × $W$.is_valid (socket_v6_written x)"
+    laws = "unscoped_write_laws $W$.model $function$ socket_v6_written (λ y c. c) $W$.write_laws"
+    return (
+        template.replace(NO_LIMIT, UNSCOPED_LIMIT)
+        .replace("$relation$ ($own$ x) ($own$ x) × $W$.is_valid ($own$ x)", written)
+        .replace("{ reference_write $W$.writing }", "{ unscoped_write (reference_write $W$.writing) }")
+        .replace("made_write_laws (λ x. $relation$ ($own$ x) ($own$ x)) $function$ $W$.write_laws", laws)
+    )
 
 
 # What it is read back by, where every number is within its limits.
@@ -84,8 +100,16 @@ def back_of(parts):
     entries = sides_of(parts)
     written, read = [f"⟦<{it[0]} as SchemaWrite>⟧" for it in entries], [f"⟦<{it[0]} as SchemaRead<L>>⟧" for it in entries]
     grammars = " ".join(f"{w}.model {w}.writing {r}.model {r}.reading" for w, r in zip(written, read))
-    backs = " ".join(f"(same_reads_back ⟦<{it[1]} as SchemaRead<L>>⟧.model [] {it[4]} ({back_of(it[1])}))" for it in entries)
+    backs = " ".join(f"({same_back(it)})" for it in entries)
     return f"result_reads_back 4 {written[0]}.is_valid {written[1]}.is_valid {grammars} {backs}"
+
+
+def same_back(entry):
+    """What an address is read back by, which makes itself."""
+    see, back = f"⟦<{entry[1]} as SchemaRead<L>>⟧.model", back_of(entry[1])
+    if entry == SOCKET_SIX:
+        return f"unscoped_reads_back {see} {entry[4]} socket_v6_written [] (λ y p small. (p.0, small)) (λ b v r. r.3.0) ({back})"
+    return f"same_reads_back {see} [] {entry[4]} ({back})"
 
 
 def one_text_of(parts):
@@ -120,7 +144,7 @@ def marked(entry):
     is_same, relation = makes == "IsSame", makes if " " not in makes else f"({makes})"
     own = own if " " not in own else f"({own})"
     fits = "(tt, tt)" if parts[0] == "(" else "tt"
-    reads_back = f"same_reads_back {see} {text} {own} ({back})" if is_same else f"made_reads_back {see} {relation} {text} {own} (λ b p q r m. {fits}) ({back})"
+    reads_back = same_back(entry) if is_same else f"made_reads_back {see} {relation} {text} {own} (λ b p q r m. {fits}) ({back})"
     text_of = ""
     if is_same or makes.startswith("IsNot"):
         text_of = f"""
@@ -148,8 +172,9 @@ ghost use Rattle.std.specs.Range.{{range_inclusive_end, range_inclusive_start}};
 ghost use Rattle.wincode_base.specs.ArrayLaws.{{array_reads_back}};
 ghost use Rattle.wincode_base.specs.LeafLaws.{{number_reads_back, signed_reads_back}};
 ghost use Rattle.wincode_base.specs.Leaves.{{number_read, number_write}};
-ghost use Rattle.wincode_base.specs.Made.{{AreBits, AreTime, IsNot, IsSame, clock_parts, duration_parts, ip_parts, is_overflow, is_zero, socket_parts, socket_v4_parts, socket_v6_parts}};
+ghost use Rattle.wincode_base.specs.Made.{{AreBits, AreTime, IsNot, IsSame, clock_parts, duration_parts, ip_parts, is_overflow, is_zero, socket_parts, socket_v4_parts, socket_v6_parts, socket_v6_written}};
 ghost use Rattle.wincode_base.specs.MadeLaws.{{made_reads_back, same_reads_back}};
+ghost use Rattle.wincode_base.specs.SocketLaws.{{unscoped_reads_back}};
 ghost use Rattle.wincode_base.specs.PairLaws.{{pair_reads_back, reads_back_by, windowed_reads_back}};
 ghost use Rattle.wincode_base.specs.TagLaws.{{result_reads_back}};
 ghost use Rattle.wincode.specs.OneTextLaws.{{array_one_text, both_owned, made_one_text, number_one_text, numbers_apart, pair_one_text, result_one_text, same_apart, signed_one_text, windowed_one_text}};
@@ -199,20 +224,36 @@ where
 }
 """
 
-MADE_LIMITS = """
-impl Limited for $made$ {
-    fn counts() -> usize {
-        <$parts$ as Limited>::counts()
-    }
-
-    fn has_no_limits() -> bool {
+NO_LIMIT = """    fn has_no_limits() -> bool {
         <$parts$ as Limited>::has_no_limits()
     }
 
     fn is_within(_src: &$made$) -> bool {
         true
     }
-}
+"""
+
+UNSCOPED_LIMIT = """    /// An address reads back that has no flow label and no scope, since neither is written.
+    fn is_within(src: &$made$) -> bool {
+        src.flowinfo() == 0 && src.scope_id() == 0
+    }
+"""
+
+OF_KIND_LIMIT = """    fn is_within(src: &$made$) -> bool {
+        match src {
+            SocketAddr::V4(_) => true,
+            SocketAddr::V6(address) => <SocketAddrV6 as Limited>::is_within(address),
+        }
+    }
+"""
+
+MADE_LIMITS = f"""
+impl Limited for $made$ {{
+    fn counts() -> usize {{
+        <$parts$ as Limited>::counts()
+    }}
+
+{NO_LIMIT}}}
 """
 
 WRAPPED_LIMITS = """
@@ -247,7 +288,7 @@ impl<T: Limited> Limited for $made$<T> {
 }
 """
 
-STD_LIMIT_USES = f"""limits of numbers other than 0, floats, times and addresses, which have none, and of what is as what it holds.
+STD_LIMIT_USES = f"""limits of numbers other than 0, floats, times and addresses, which have none but of a socket, and of what is as what it holds.
 use crate::limits::Limited;
 use std::cmp::Reverse;
 use std::net::{{IpAddr, Ipv4Addr, Ipv6Addr, SocketAddr, SocketAddrV4, SocketAddrV6}};
@@ -713,8 +754,9 @@ use wincode_io::{Lending, Reader};
 MADE_WRITE_USES = """schemas of floats, of times and of addresses.
 ghost use Rattle.std.specs.Net.Addr.{ipv4_octets, ipv6_octets};
 ghost use Rattle.std.specs.Prelude.{◌^◌, to_bits};
-ghost use Rattle.wincode_base.specs.Made.{AreBits, AreTime, IsSame, clock_parts, duration_parts, ip_parts, socket_parts, socket_v4_parts, socket_v6_parts};
+ghost use Rattle.wincode_base.specs.Made.{AreBits, AreTime, IsSame, clock_parts, duration_parts, ip_parts, socket_parts, socket_v4_parts, socket_v6_parts, socket_v6_written, unscoped_write};
 ghost use Rattle.wincode_base.specs.MadeLaws.{made_write_laws};
+ghost use Rattle.wincode_base.specs.SocketLaws.{unscoped_write_laws};
 ghost use Rattle.wincode_base.specs.Strings.{reference_write};
 ghost use lib.Ieee.{binary32, binary64};
 
@@ -1069,10 +1111,10 @@ use Rattle.wincode_read.proofs.schema.strings.texts.$made$SchemaRead.read.Goals 
 pub returns-in_err-text : goal.returns-in_err-text
 returns-in_err-text g c =
     let o = c.in_err-text.ensures in
-    read_refused _ _ _ _ _ _ c.from_residual.ensures refl (refuses_unspared o.refused, inl (o.refused, o.place))
+    read_refused _ _ _ _ _ _ c.from_residual.ensures refl (refuses_unspared o.refused.0, inl o.refused)
 
 pub returns-in-Ok : goal.returns-in-Ok
-returns-in-Ok g c = record { ok = rw c.in-Ok.ensures.ok c.in_ok-text.ensures.ok; refused = tt; place = tt; same = tt }
+returns-in-Ok g c = record { ok = rw c.in-Ok.ensures.ok c.in_ok-text.ensures.ok; refused = tt; same = tt }
 """
 
 TEXT_WRITES = """

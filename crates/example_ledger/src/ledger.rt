@@ -3,7 +3,7 @@ use std::alloc::{AllocError, AllocFailed, Global};
 use std::fs::File;
 use std::io::{self, Seek, SeekFrom};
 use thiserror::Error;
-use wincode::io::{StdSink, StdSource, StreamWriter};
+use wincode::io::{StdSink, StdSource, StreamReader, StreamWriter};
 use wincode::prelude::*;
 use wincode::{Messages, append_message, whole_length};
 
@@ -55,7 +55,9 @@ pub fn opened(rt: &HostRuntime, path: &str) -> Result<File, Fault> {
 pub fn take_up(alloc: Global, file: &mut File) -> Result<u64, Fault> {
     let size = file.metadata()?.len();
     file.seek(SeekFrom::Start(0))?;
-    let whole = whole_length::<Entry, _>(alloc, StdSource::new(&*file))? as u64;
+    let mut reader = StreamReader::new(alloc, StdSource::new(&*file)).map_err(ReadError::from)?;
+    let whole = whole_length::<Entry, _>(alloc, &mut reader)? as u64;
+    drop(reader);
     file.set_len(whole)?;
     file.seek(SeekFrom::Start(whole))?;
     Ok(size.saturating_sub(whole))

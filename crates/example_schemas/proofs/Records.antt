@@ -42,10 +42,10 @@ steady_inside {after = after} u w k =
 -- no window of all of such a window is refused
 all_of_window : (n : ℕ) (old new window after : ReaderState) (e : ReadError) → old.counts_windows ≡ false → Windowed n old new window
     → NoWindow n window after e → ⊥
-all_of_window n old new window after (reading.Io (reader.ReadSizeLimit m)) u w p = let short = p.1.0 w.is_known in absurd (omega (arith, w.takes.size, short))
-all_of_window n old new window after (reading.Io reader.UnsupportedZeroCopy) u w p = p.1
-all_of_window n old new window after (reading.Io reader.OutOfMemory) u w p = true≢false (sym (steady_inside u w p.0.kept) ∙ p.1)
-all_of_window n old new window after (reading.Io (reader.Io x)) u w p = true≢false (sym (p.0.kept.never_fails ∙ w.never_fails) ∙ p.1.0)
+all_of_window n old new window after (reading.Io (reader.ReadSizeLimit m)) u w p = let short = p.2.0 w.is_known in absurd (omega (arith, w.takes.size, short))
+all_of_window n old new window after (reading.Io reader.UnsupportedZeroCopy) u w p = p.2
+all_of_window n old new window after (reading.Io reader.OutOfMemory) u w p = true≢false (sym (steady_inside u w p.0.kept) ∙ p.2)
+all_of_window n old new window after (reading.Io (reader.Io x)) u w p = true≢false (sym (p.0.kept.never_fails ∙ w.never_fails) ∙ p.2.0)
 all_of_window n old new window after _ u w p = p
 
 -- a window of all of a window is one of the reader below
@@ -134,7 +134,7 @@ record_denied old new e d = (window_denied_refuses record_read.reads 41 sized re
 pub record_served : (old new : ReadFrom) (e : IoReadError) → WindowRefused 41 (over_device old) (over_device new) e → AskedReadRefused old.device new.device e
     → 0 < old.device.sound → Front record_read.reads old.rest → ⊥
 record_served old new (reader.ReadSizeLimit m) d a some f =
-    let short : length old.rest < 41 = d.1.0 refl in
+    let short : length old.rest < 41 = d.2.0 refl in
     let joins = ap length f.found.joins ∙ length-append f.found.encoding f.rest in
     absurd (omega (arith, short, joins, sized f.found.encoding f.value f.found.is_read))
 record_served old new (reader.Io x) d a some f = let none = a.0.0 in absurd (omega (arith, none, some))
@@ -181,7 +181,7 @@ unrefused = record {
 -- what serves a call and has room for a record makes it
 pub record_fits : (old new : WrittenTo) (e : IoWriteError) → BytesWriteRefused 41 (slice_over old) (slice_over new) e
     → AskedWriteRefused old.device new.device e → 0 < old.device.sound → 41 ≤ slice_room old.content → ⊥
-record_fits old new (writer.WriteSizeLimit m) d a some fits = let less = d.1.0 in absurd (omega (arith, less, fits))
+record_fits old new (writer.WriteSizeLimit m) d a some fits = let less = d.2.0 in absurd (omega (arith, less, fits))
 record_fits old new (writer.Io x) d a some fits = let none = a.0.0 in absurd (omega (arith, none, some))
 record_fits old new _ d a some fits = a
 
@@ -222,8 +222,12 @@ module _ {S K : Type 0} {put : S → List ℕ → S} {room : S → ℕ} (v : ℕ
     took = record {
       same = record {
         kept = ap (λ k. k.target) o.took.same.kept ∙ ap (λ s. s.kept) same;
-        never_fails =
-            ap (λ k. k.never_fails) o.took.same.kept ∙ ap (λ s. s.never_fails) same;
+        never_fails = ap (λ k. k.never_fails) o.took.same.kept ∙ ap (λ s. s.never_fails) same;
+        finishes = ap (λ k. k.finishes) o.took.same.kept ∙ ap (λ s. s.finishes) same;
+      };
+      sound = record {
+        failures = ap (λ k. k.failures) o.took.same.kept ∙ ap (λ s. s.failures) same;
+        has_failed = ap (λ k. k.has_failed) o.took.same.kept ∙ ap (λ s. s.has_failed) same;
       };
       content = ap (λ c. c.target) o.took.content ∙ ap (λ s. put s.content o.encoding) same;
     };

@@ -1,8 +1,8 @@
--- Devices that serve so many calls and then fail each time.
-use Rattle.std.specs.Prelude.{◌≡◌, ℕ, ◌+◌, min, List, length, true, false, None}
+-- Devices that serve so many calls and then fail each time, with a kind of the caller's.
+use Rattle.std.specs.Prelude.{◌≡◌, ℕ, ◌+◌, min, Bool, List, length, true, false, None}
 use Rattle.std.specs.Borrow.{GName}
-use Rattle.std.specs.IoError.{error_kind}
-use Rattle.std.specs.declared.io.ErrorKind.TheVariants.{Other}
+use Rattle.std.specs.declared.io.ErrorKind.{ErrorKind}
+use Rattle.wincode_io.specs.Failures.{IsTold}
 use Rattle.wincode_io.specs.Readers.{ReaderState, nothing}
 use Rattle.wincode_io.specs.Writers.{WriterState, byte_limit}
 use Rattle.wincode_io.specs.SliceWriters.{SliceState, slice_put, slice_room}
@@ -11,30 +11,36 @@ use Rattle.wincode_io.specs.declared.error.ReadError.TheVariants as reader
 use Rattle.wincode_io.specs.declared.error.WriteError.{WriteError}
 use Rattle.wincode_io.specs.declared.error.WriteError.TheVariants as writer
 
--- How many calls more it serves, and how often it failed.
+-- How many calls more it serves, how often it failed, whether it did, and the kind that it fails with.
 pub record DeviceState : Type 0 where
   pub sound : ℕ
   pub failures : ℕ
+  pub has_failed : Bool
+  pub last : ErrorKind
+
+-- a device that serves so many calls, has not failed, and fails with this kind
+abbrev pub sound_device : ℕ → ErrorKind → DeviceState
+sound_device sound kind = record { sound = sound; failures = 0; has_failed = false; last = kind }
 
 -- it was asked with k + 1 calls left, and served: k are left
 abbrev pub HasServed : DeviceState → DeviceState → Type 0
-HasServed old new = (old.sound ≡ new.sound + 1) × (new.failures ≡ old.failures)
+HasServed old new = (old.sound ≡ new.sound + 1) × (new ≡ record old { sound = new.sound })
 
 -- it was asked with no call left, and failed: none is left; the count of its failures stays at `usize::MAX`
 abbrev pub HasFailed : DeviceState → DeviceState → Type 0
-HasFailed old new = (old.sound ≡ 0) × (new ≡ record { sound = 0; failures = min (old.failures + 1) byte_limit })
+HasFailed old new = (old.sound ≡ 0) × (new ≡ record old { failures = min (old.failures + 1) byte_limit; has_failed = true })
 
--- A reader that asked its device once was refused: the device failed, as `Io` of kind Other; or it served, and too few
--- bytes are there.
+-- A reader that asked its device once was refused: the device failed, with its own kind the first time and Other
+-- afterwards; or it served, and too few bytes are there.
 abbrev pub AskedReadRefused : DeviceState → DeviceState → ReadError → Type 0
-AskedReadRefused old new (reader.Io e) = HasFailed old new × (error_kind e ≡ Other)
+AskedReadRefused old new (reader.Io e) = HasFailed old new × IsTold old.has_failed new.has_failed new.last e
 AskedReadRefused old new (reader.ReadSizeLimit n) = HasServed old new
 AskedReadRefused old new _ = ⊥
 
--- A writer that asked its device once was refused: the device failed, as `Io` of kind Other; or it served, and there is
--- too little room.
+-- A writer that asked its device once was refused: the device failed, with its own kind the first time and Other
+-- afterwards; or it served, and there is too little room.
 abbrev pub AskedWriteRefused : DeviceState → DeviceState → WriteError → Type 0
-AskedWriteRefused old new (writer.Io e) = HasFailed old new × (error_kind e ≡ Other)
+AskedWriteRefused old new (writer.Io e) = HasFailed old new × IsTold old.has_failed new.has_failed new.last e
 AskedWriteRefused old new (writer.WriteSizeLimit n) = HasServed old new
 AskedWriteRefused old new _ = ⊥
 
@@ -52,8 +58,9 @@ over_device r = record {
   lends = nothing;
   never_fails = false;
   counts_windows = false;
-  failures =
-      r.device.failures;
+  failures = r.device.failures;
+  has_failed = r.device.has_failed;
+  last = r.device.last;
   is_known = true;
   place = None;
 }
@@ -67,4 +74,13 @@ pub record WrittenTo : Type 0 where
 
 -- A writer of this content over a device: room is made where the device served.
 abbrev pub slice_over : WrittenTo → WriterState slice_put slice_room GName
-slice_over w = record { content = w.content; kept = w.slice; never_fails = false; failures = w.device.failures; ready = min w.made (slice_room w.content) }
+slice_over w = record {
+  content = w.content;
+  kept = w.slice;
+  never_fails = false;
+  failures = w.device.failures;
+  has_failed = w.device.has_failed;
+  last = w.device.last;
+  finishes = 0;
+  ready = min w.made (slice_room w.content);
+}

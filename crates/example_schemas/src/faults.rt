@@ -1,10 +1,9 @@
-//! Devices that serve so many calls and then fail each time: a reader and a writer over one.
+//! Devices that serve so many calls and then fail each time, with a kind of the caller's: a reader and a writer over one.
 ghost use Rattle.std.specs.Prelude.{◌≡◌, ◌<◌, ◌≤◌, IfErr, OnOk, IsOk};
-ghost use Rattle.std.specs.IoError.{error_kind};
-ghost use Rattle.std.specs.declared.io.ErrorKind.TheVariants.{Other};
+ghost use Rattle.wincode_io.specs.Failures.{IsTold};
 ghost use Rattle.wincode_io.specs.SliceWriters.{slice_room};
 ghost use Rattle.wincode_base.specs.Outcomes.{Front, GetOutcome, Wrote, WriteOutcome};
-ghost use Rattle.example_schemas.specs.Faults.{HasServed, HasFailed, over_device, slice_over};
+ghost use Rattle.example_schemas.specs.Faults.{HasServed, HasFailed, sound_device, over_device, slice_over};
 ghost use Rattle.example_schemas.specs.Records.{record_size, record_read, record_write};
 
 mod failing_reader;
@@ -58,11 +57,14 @@ pub fn write_record(writer: &mut FailingWriter, src: (u64, bool, [u8; 32])) -> W
     write_in_room(writer, src)
 }
 
-/// A device that serves so many calls more and then fails each time. It counts its failures.
+/// A device that serves so many calls more and then fails each time: with the caller's kind the first time, and with Other
+/// afterwards. It counts its failures.
 #[derive(Drop)]
 pub(crate) struct Device {
     sound: usize,
     failures: usize,
+    has_failed: bool,
+    kind: ErrorKind,
 }
 
 impl Model for Device {
@@ -70,15 +72,20 @@ impl Model for Device {
 
     ghost Value = { DeviceState };
 
-    ghost view = { λ d. record { sound = d.sound; failures = d.failures } };
+    ghost view = { λ d. record { sound = d.sound; failures = d.failures; has_failed = d.has_failed; last = d.kind } };
 }
 
 impl Device {
-    /// A device that serves `sound` calls and has not failed.
-    pub(crate) fn new(sound: usize) -> Device
-        ensures { result ≡ record { sound = sound; failures = 0 } }
+    /// A device that serves `sound` calls, has not failed, and fails with this kind.
+    pub(crate) fn new(sound: usize, kind: ErrorKind) -> Device
+        ensures { result ≡ sound_device sound kind }
     {
-        Device { sound, failures: 0 }
+        Device {
+            sound,
+            failures: 0,
+            has_failed: false,
+            kind,
+        }
     }
 
     /// How often it failed; the count stays at `usize::MAX`.
@@ -88,17 +95,22 @@ impl Device {
         self.failures
     }
 
-    /// Asks it once. A failure is an error of kind Other, and is counted.
+    /// Asks it once.
     pub(crate) fn ask(&mut self) -> io::Result<()>
         ensures ok { OnOk result (HasServed self.old self.new) }
-        ensures err { IfErr result (λ e. HasFailed self.old self.new × (error_kind e ≡ Other)) }
+        ensures err { IfErr result (λ e. HasFailed self.old self.new × IsTold self.old.has_failed self.new.has_failed self.new.last e) }
     {
         if 0 < self.sound {
             self.sound -= 1;
-            Ok(())
-        } else {
-            self.failures = self.failures.saturating_add(1);
-            Err(io::Error::from(ErrorKind::Other))
+            return Ok(());
         }
+        self.failures = self.failures.saturating_add(1);
+        let kind = if self.has_failed {
+            ErrorKind::Other
+        } else {
+            self.kind
+        };
+        self.has_failed = true;
+        Err(io::Error::from(kind))
     }
 }

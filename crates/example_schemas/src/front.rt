@@ -16,7 +16,7 @@ pub fn read_front<L: Lending, S: Source + Drop, T: SchemaReadOwned<L, Dst = T>>(
     source: S,
 ) -> ReadResult<(T, StreamReader<S>)>
     ensures ok { IfOk result (λ p. IsTrue (S.state source).is_known → Found T.SchemaRead.reading.reads (S.state source).coming (T.SchemaRead.model p.0) (stream_state S.state p.1).rest) }
-    ensures err { IfErr result (IsNotRead T.SchemaRead.reading (streaming 0 [] (S.state source))) }
+    ensures err { IfErr result (IsNotRead T.SchemaRead.reading (streaming 0 [] false (S.state source))) }
 {
     let mut reader = match StreamReader::new(alloc, source) {
         Ok(reader) => reader,

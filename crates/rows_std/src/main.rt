@@ -1,6 +1,7 @@
 //! Rows of std's types: each line of the input is `TYPE|DIGITS`, a type and bytes in base 16, and is printed with what
 //! reading the type from the bytes answers behind it, as `TYPE|DIGITS|ANSWER`: `ok LEFT TEXT`, how many bytes are left, and
-//! the value written again; or `err ERROR LEFT`. A line that begins with `#` is a title, and is printed as it is. So
+//! the value written again, behind which ` asked N` stands where the reader was asked for more bytes than the value has; or
+//! `err ERROR LEFT`. A line that begins with `#` is a title, and is printed as it is. So
 //! `stdout` is the table of all rows, and `stdin` its first two columns: a new row is a line in each.
 //!
 //! Most rows are those that `tools/std_rows` made, of which `stdout` has each `ok` as bincode answered it, and an error of

@@ -7,7 +7,7 @@ use crate::values::{NESTED, nested};
 use std::alloc::Global;
 use std::collections::{BTreeMap, BinaryHeap, HashMap, LinkedList, VecDeque};
 use std::test::Fail;
-use wincode::io::{self, Input, WriteResult, Writer, ZeroCopy};
+use wincode::io::{self, Input, Trace, WriteResult, Writer, ZeroCopy};
 use wincode::{ReadResult, SchemaRead, SchemaWrite, WriteError, deserialize, serialize_into};
 
 /// Whether the bytes are read as this value.
@@ -40,6 +40,8 @@ fn inputs_of_each_kind(rt: HostRuntime) -> Result<(), Fail> {
 struct Ending {
     bytes: Vec<u8>,
     ended: usize,
+    /// A byte for each of these calls.
+    ends: Trace,
     refuses: bool,
 }
 
@@ -52,7 +54,7 @@ impl Writer for Ending {
 
     ghost Kept = { Unit };
 
-    ghost state = { λ c. in_memory c.bytes.items tt (min (vec_capacity c.bytes - length c.bytes.items) (byte_limit - length c.bytes.items)) };
+    ghost state = { λ c. record (in_memory c.bytes.items tt (min (vec_capacity c.bytes - length c.bytes.items) (byte_limit - length c.bytes.items))) { finishes = length c.ends.bytes } };
 
     ghost buffers = { true };
 
@@ -76,6 +78,7 @@ impl Writer for Ending {
 
     fn finish(&mut self) -> WriteResult<()> {
         self.ended = self.ended.saturating_add(1);
+        self.ends.note(&[0]);
         if self.refuses {
             Err(io::WriteError::OutOfMemory)
         } else {
@@ -96,6 +99,7 @@ fn a_piece_of_writing_ends_once(rt: HostRuntime) -> Result<(), Fail> {
         let mut writer = Ending {
             bytes: Vec::new(alloc),
             ended: 0,
+            ends: Trace::new(),
             refuses,
         };
         let answer = serialize_into(&mut writer, &lists);
@@ -116,6 +120,7 @@ fn ends_once<T: SchemaWrite<Src = T>>(alloc: Global, value: &T) -> Result<bool, 
     let mut writer = Ending {
         bytes: Vec::new(alloc),
         ended: 0,
+        ends: Trace::new(),
         refuses: false,
     };
     T::write(&mut writer, value)?;

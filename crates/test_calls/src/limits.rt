@@ -2,6 +2,7 @@
 //! be when it is read.
 use std::alloc::Global;
 use std::collections::{BTreeMap, BTreeSet, BinaryHeap, HashMap, HashSet, LinkedList, VecDeque};
+use std::net::{Ipv6Addr, SocketAddr, SocketAddrV6};
 use std::rc::{Rc, RcSlice};
 use std::test::Fail;
 use testkit_schemas::byte_len::ByteLen;
@@ -10,7 +11,7 @@ use wincode::len::{BincodeLen, ShortU16, ShortU16Len};
 use wincode::serde::{Deserialize, Serialize};
 use wincode::{
     LimitError, Limited, LimitedLen, ReadError, RoundTrip, SchemaGet, WriteError, containers,
-    serialize_limited,
+    deserialize, serialize, serialize_limited,
 };
 
 /// Whether the value is written, where that is due, and its bytes are read; or else is refused as past a limit, and its
@@ -323,6 +324,31 @@ fn without_limits(rt: HostRuntime) -> Result<(), Fail> {
     let options = vec![in alloc; Some(7), None]?;
     let options = is_answered::<Vec<Option<u16>>>(alloc, &options, true)?;
     assert!(rt; [three, forms, short, item, options] == [true; 5]);
+    Ok(())
+}
+
+/// A flow label, a scope, and whether an address with them is within its limits: neither is written, so that any other
+/// address is read for it.
+const SCOPES: [(u32, u32, bool); 4] = [(0, 0, true), (9, 0, false), (0, 7, false), (1, 1, false)];
+
+#[test]
+fn addresses_of_sockets(rt: HostRuntime) -> Result<(), Fail> {
+    let alloc = rt.alloc();
+    let plain = SocketAddrV6::new(Ipv6Addr::LOCALHOST, 80, 0, 0);
+    for (flow, scope, is_within) in SCOPES {
+        let address = SocketAddrV6::new(Ipv6Addr::LOCALHOST, 80, flow, scope);
+        let either = SocketAddr::V6(address);
+        let bytes = serialize(alloc, &address)?;
+        let back: SocketAddrV6 = deserialize(alloc, bytes.as_slice())?;
+        let size = limited_size(alloc, &address)?;
+        let either_size = limited_size(alloc, &either)?;
+        let due = if is_within {
+            (Some(18), Some(22))
+        } else {
+            (None, None)
+        };
+        assert!(rt; (back == plain, size, either_size) == (true, due.0, due.1));
+    }
     Ok(())
 }
 

@@ -16,18 +16,18 @@ use wincode::{
 /// More calls than any of these values needs.
 const CALLS: usize = 1_000;
 
-/// Whether a reader's device failed.
-fn is_read_fault(error: &io::ReadError) -> bool {
+/// Whether a reader's device failed so.
+fn is_read_fault(error: &io::ReadError, kind: ErrorKind) -> bool {
     match error {
-        io::ReadError::Io(error) => error.kind() == ErrorKind::Other,
+        io::ReadError::Io(error) => error.kind() == kind,
         _ => false,
     }
 }
 
-/// Whether a writer's device failed.
-fn is_write_fault(error: &io::WriteError) -> bool {
+/// Whether a writer's device failed so.
+fn is_write_fault(error: &io::WriteError, kind: ErrorKind) -> bool {
     match error {
-        io::WriteError::Io(error) => error.kind() == ErrorKind::Other,
+        io::WriteError::Io(error) => error.kind() == kind,
         _ => false,
     }
 }
@@ -55,7 +55,7 @@ where
 }
 
 /// Reads the bytes over a device that fails at each call in turn, until it is met by none. Each read that
-/// meets a failure is `Io` of kind Other and leaves an end of the bytes; the last one is as it is expected.
+/// meets a failure is `Io` of the device's kind and leaves an end of the bytes; the last one is as it is expected.
 /// How many failures were met: as many as reading makes calls.
 fn read_over_faults<'a, T: RoundTrip<Lifetime<'a>>>(
     alloc: Global,
@@ -66,7 +66,7 @@ where
     T::Src: Drop,
 {
     for sound in 0..CALLS {
-        let mut reader = FailingReader::new(bytes, sound);
+        let mut reader = FailingReader::new(bytes, sound, ErrorKind::TimedOut);
         let answer = rewrite::<Lifetime<'a>, FailingReader<'a>, T>(alloc, &mut reader);
         let left = reader.left();
         if !bytes.ends_with(left) {
@@ -82,7 +82,8 @@ where
             };
         }
         match &answer {
-            Err(Error::ReadError(ReadError::Io(error))) if is_read_fault(error) => {}
+            Err(Error::ReadError(ReadError::Io(error)))
+                if is_read_fault(error, ErrorKind::TimedOut) => {}
             _ => return Err(Fail::from("a failure is not told")),
         }
     }
@@ -90,7 +91,7 @@ where
 }
 
 /// Writes the value that these bytes have, if one, to a device that fails at each call in turn, until it is met
-/// by none. Each write that meets a failure is `Io` of kind Other and adds a beginning of the encoding; the last
+/// by none. Each write that meets a failure is `Io` of the device's kind and adds a beginning of the encoding; the last
 /// one adds all. How many failures were met, if there is such a value.
 fn write_over_faults<'a, T: RoundTrip<Lifetime<'a>>>(
     alloc: Global,
@@ -108,7 +109,7 @@ where
     let mut room = Vec::from_slice(alloc, text.as_slice())?;
     for sound in 0..CALLS {
         room.as_mut_slice().fill(0);
-        let mut writer = FailingWriter::new(room.as_mut_slice(), sound);
+        let mut writer = FailingWriter::new(room.as_mut_slice(), sound, ErrorKind::StorageFull);
         let answer = T::write(&mut writer, &value);
         if !text.as_slice().starts_with(writer.written()) {
             return Err(Fail::from("no beginning was added"));
@@ -121,7 +122,7 @@ where
             };
         }
         match &answer {
-            Err(WriteError::Io(error)) if is_write_fault(error) => {}
+            Err(WriteError::Io(error)) if is_write_fault(error, ErrorKind::StorageFull) => {}
             _ => return Err(Fail::from("a failure is not told")),
         }
     }
@@ -283,7 +284,7 @@ fn each_call_fails_in_turn(rt: HostRuntime) -> Result<(), Fail> {
 #[test]
 fn what_the_device_gave_is_read(rt: HostRuntime) -> Result<(), Fail> {
     let text = [2u8, 0, 0, 0, 0, 0, 0, 0, 104, 105, 7];
-    let mut reader = FailingReader::new(&text, 1);
+    let mut reader = FailingReader::new(&text, 1, ErrorKind::TimedOut);
     let before = reader.at_hand().len();
     reader.fill(10)?;
     let filled = reader.at_hand().len();
@@ -303,11 +304,11 @@ fn a_long_list_read_over_a_device(rt: HostRuntime) -> Result<(), Fail> {
     let mut bytes = vec![in alloc; 0u8; 524_296]?;
     bytes[2] = 1;
     for (sound, left) in [(0usize, 524_296usize), (1, 524_288), (2, 0)] {
-        let mut reader = FailingReader::new(bytes.as_slice(), sound);
+        let mut reader = FailingReader::new(bytes.as_slice(), sound, ErrorKind::TimedOut);
         let answer = <Vec<u64> as SchemaGet<Lifetime>>::get(alloc, &mut reader);
         let is_due = match &answer {
             Ok(list) => sound == 2 && list.len() == 65_536,
-            Err(ReadError::Io(error)) => sound < 2 && is_read_fault(error),
+            Err(ReadError::Io(error)) => sound < 2 && is_read_fault(error, ErrorKind::TimedOut),
             Err(_) => false,
         };
         assert!(rt; (is_due, reader.left().len()) == (true, left));
@@ -322,11 +323,12 @@ fn a_long_list_written_over_a_device(rt: HostRuntime) -> Result<(), Fail> {
     let list = vec![in alloc; 0u64; 65_536]?;
     let mut room = vec![in alloc; 7u8; 524_297]?;
     for (sound, written) in [(0usize, 0usize), (1, 524_296)] {
-        let mut writer = FailingWriter::new(room.as_mut_slice(), sound);
+        let mut writer = FailingWriter::new(room.as_mut_slice(), sound, ErrorKind::StorageFull);
         let answer = <Vec<u64> as SchemaWrite>::write(&mut writer, &list);
         let is_due = match &answer {
             Ok(()) => sound == 1,
-            Err(WriteError::Io(error)) => sound == 0 && is_write_fault(error),
+            Err(WriteError::Io(error)) => sound == 0
+                && is_write_fault(error, ErrorKind::StorageFull),
             Err(_) => false,
         };
         assert!(rt; (is_due, writer.written().len()) == (true, written));
@@ -344,12 +346,12 @@ const RECORD: [u8; 42] = [
 /// A record from a device that serves one call.
 #[test]
 fn a_record_read_over_a_device(rt: HostRuntime) -> Result<(), Fail> {
-    let mut reader = FailingReader::new(&RECORD, 1);
+    let mut reader = FailingReader::new(&RECORD, 1, ErrorKind::TimedOut);
     let record = read_record(rt.alloc(), &mut reader)?;
-    for _ in 0..2 {
+    for kind in [ErrorKind::TimedOut, ErrorKind::Other] {
         let left = reader.left().len();
         let failed = read_record(rt.alloc(), &mut reader);
-        let is_fault = matches!(&failed, Err(ReadError::Io(error)) if is_read_fault(error));
+        let is_fault = matches!(&failed, Err(ReadError::Io(error)) if is_read_fault(error, kind));
         assert!(rt; (is_fault, left, reader.left()) == (true, 1, [9u8].as_slice()));
     }
     assert!(rt; record == (7, true, [9; 32]));
@@ -358,7 +360,7 @@ fn a_record_read_over_a_device(rt: HostRuntime) -> Result<(), Fail> {
 
 /// How reading a record over a device that serves one call is refused, and how many bytes are left.
 fn record_refused(alloc: Global, bytes: &[u8]) -> Result<String, Fail> {
-    let mut reader = FailingReader::new(bytes, 1);
+    let mut reader = FailingReader::new(bytes, 1, ErrorKind::TimedOut);
     match read_record(alloc, &mut reader) {
         Ok(_) => Err(Fail::from("a record")),
         Err(error) => Ok(format!(in alloc; "{error:?} {}", reader.left().len())?),
@@ -383,7 +385,7 @@ fn records_refused_over_a_device(rt: HostRuntime) -> Result<(), Fail> {
 fn a_record_written_over_a_device(rt: HostRuntime) -> Result<(), Fail> {
     let record = (7u64, true, [9u8; 32]);
     let mut room = [0u8; 83];
-    let mut writer = FailingWriter::new(&mut room, 3);
+    let mut writer = FailingWriter::new(&mut room, 3, ErrorKind::StorageFull);
     for _ in 0..2 {
         write_record(&mut writer, record)?;
     }
@@ -392,24 +394,34 @@ fn a_record_written_over_a_device(rt: HostRuntime) -> Result<(), Fail> {
         &full,
         Err(WriteError::Io(io::WriteError::WriteSizeLimit(41)))
     );
-    for _ in 0..2 {
+    for kind in [ErrorKind::StorageFull, ErrorKind::Other] {
         let failed = write_record(&mut writer, record);
-        let is_fault = matches!(&failed, Err(WriteError::Io(error)) if is_write_fault(error));
+        let is_fault = matches!(&failed, Err(WriteError::Io(error)) if is_write_fault(error, kind));
         assert!(rt; (is_full, is_fault, writer.written().len()) == (true, true, 82));
     }
     assert!(rt; (&room[..9], &room[81..]) == (&RECORD[..9], [9u8, 0].as_slice()));
     Ok(())
 }
 
+/// The device's own kind is told the first time, and Other afterwards.
+fn told(failures: usize, kind: ErrorKind) -> ErrorKind {
+    if failures == 1 {
+        kind
+    } else {
+        ErrorKind::Other
+    }
+}
+
 /// What a reader's device that has failed answers, and how often it says that it failed.
 #[test]
 fn failures_of_reading_are_counted(rt: HostRuntime) -> Result<(), Fail> {
-    let mut reader = FailingReader::new(&[1, 2, 3], 2);
+    let mut reader = FailingReader::new(&[1, 2, 3], 2, ErrorKind::TimedOut);
     reader.consume(1)?;
     let mut window = reader.as_trusted_for(1)?;
     for n in 1..4usize {
+        let kind = told(n, ErrorKind::TimedOut);
         let refused = reader.fill(1);
-        let is_fault = matches!(&refused, Err(error) if is_read_fault(error));
+        let is_fault = matches!(&refused, Err(error) if is_read_fault(error, kind));
         assert!(rt; (is_fault, reader.failures(), reader.left()) == (true, n, [3u8].as_slice()));
     }
     window.consume(1)?;
@@ -420,13 +432,14 @@ fn failures_of_reading_are_counted(rt: HostRuntime) -> Result<(), Fail> {
 #[test]
 fn failures_of_writing_are_counted(rt: HostRuntime) -> Result<(), Fail> {
     let mut room = [0u8; 4];
-    let mut writer = FailingWriter::new(&mut room, 2);
+    let mut writer = FailingWriter::new(&mut room, 2, ErrorKind::StorageFull);
     writer.write(&[7])?;
     let full = writer.write(&[8; 4]);
     let is_full = matches!(&full, Err(io::WriteError::WriteSizeLimit(4)));
     for n in 1..4usize {
+        let kind = told(n, ErrorKind::StorageFull);
         let refused = writer.write(&[9]);
-        let is_fault = matches!(&refused, Err(error) if is_write_fault(error));
+        let is_fault = matches!(&refused, Err(error) if is_write_fault(error, kind));
         let device = (writer.failures(), writer.written());
         assert!(rt; (is_full, is_fault, device) == (true, true, (n, [7u8].as_slice())));
     }

@@ -1,6 +1,6 @@
 //! A writer to a sink, beside the same bytes in a vector.
 use std::alloc::Global;
-use std::io::ErrorKind;
+use std::io::{self, ErrorKind, Write};
 use std::test::Fail;
 use testkit_io::few::Few;
 use wincode_io::{MemorySink, StdSink, StreamWriter, Unfinished, WriteError, WriteResult, Writer};
@@ -123,6 +123,55 @@ fn that_fails_at_each_long_call(rt: HostRuntime) -> Result<(), Fail> {
     Ok(())
 }
 
+/// A number, a form of 9000 bytes, a list of 9600 bytes, and a form of 8185.
+fn write_forms<W: Writer>(writer: &mut W, call: usize) -> WriteResult<()> {
+    match call {
+        0 => writer.write_t(&7u64),
+        1 => writer.write_t(&[8u8; 9000]),
+        2 => writer.write_slice_t([9u64; 1200].as_slice()),
+        _ => writer.write_t(&[1u8; 8185]),
+    }
+}
+
+/// Writes forms to a sink that fails behind so many calls: each call writes all of its bytes, or none and tells the failure;
+/// and where it writes no more than 8192 bytes are kept but its own.
+fn forms_fail_once(alloc: Global, size: usize, sound: usize) -> Result<bool, Fail> {
+    let mut wanted = Vec::new(alloc);
+    let mut writer = StreamWriter::new(alloc, StdSink::new(Few::failing(alloc, size, sound)))?;
+    let mut is_due = true;
+    for call in 0..4 {
+        let before = wanted.len();
+        write_forms(&mut wanted, call)?;
+        let kind = match writer.has_failed() {
+            true => ErrorKind::Other,
+            false => ErrorKind::BrokenPipe,
+        };
+        let result = write_forms(&mut writer, call);
+        if result.is_err() {
+            is_due = is_due && fails_as(result, kind) && writer.has_failed();
+            wanted.truncate(before);
+        } else {
+            let most = wanted.len().saturating_sub(before).max(8192);
+            is_due = is_due && writer.unsent().len() <= most;
+        }
+        is_due = is_due && writer.position() == wanted.len();
+    }
+    let (few, kept) = writer.into_inner();
+    let mut all = few.bytes;
+    all.extend_from_slice(kept.as_slice())?;
+    Ok(is_due && all == wanted)
+}
+
+#[test]
+fn that_fails_at_each_call_for_forms(rt: HostRuntime) -> Result<(), Fail> {
+    let alloc = rt.alloc();
+    for sound in 0..30 {
+        assert!(rt; forms_fail_once(alloc, 1000, sound)?);
+        assert!(rt; forms_fail_once(alloc, 9000, sound)?);
+    }
+    Ok(())
+}
+
 #[test]
 fn that_takes_no_more(rt: HostRuntime) -> Result<(), Fail> {
     let alloc = rt.alloc();
@@ -137,6 +186,37 @@ fn that_takes_no_more(rt: HostRuntime) -> Result<(), Fail> {
     );
     let (few, _) = writer.into_inner();
     assert!(rt; (is_zero, is_other, is_kept, few.calls) == (true, true, (true, 9), 1));
+    Ok(())
+}
+
+/// Would block at its first thousand calls, and takes all afterwards.
+#[derive(Drop)]
+struct Blocking {
+    calls: usize,
+}
+
+impl Write for Blocking {
+    fn write(&mut self, buf: &[u8]) -> io::Result<usize> {
+        self.calls = self.calls.saturating_add(1);
+        if self.calls <= 1000 {
+            return Err(io::Error::from(ErrorKind::WouldBlock));
+        }
+        Ok(buf.len())
+    }
+
+    fn flush(&mut self) -> io::Result<()> {
+        Ok(())
+    }
+}
+
+/// Only an interrupted write is tried again.
+#[test]
+fn that_would_block(rt: HostRuntime) -> Result<(), Fail> {
+    let mut writer = StreamWriter::new(rt.alloc(), StdSink::new(Blocking { calls: 0 }))?;
+    writer.write(b"some")?;
+    let is_told = fails_as(writer.finish(), ErrorKind::WouldBlock);
+    let (blocking, kept) = writer.into_inner();
+    assert!(rt; (is_told, blocking.calls, kept.as_slice()) == (true, 1, b"some".as_slice()));
     Ok(())
 }
 

@@ -14,7 +14,12 @@ use wincode::io::{
 use wincode_recode::{RelayError, relay, relay_stream};
 
 /// The bytes in pieces of this size, with an empty one before each.
-fn in_pieces(alloc: Global, bytes: &[u8], size: usize, fails: bool) -> Result<Pieces, Fail> {
+fn in_pieces(
+    alloc: Global,
+    bytes: &[u8],
+    size: usize,
+    fails: Option<ErrorKind>,
+) -> Result<Pieces, Fail> {
     let mut pieces = Vec::new(alloc);
     for piece in bytes.chunks(size.max(1)) {
         pieces.push(Vec::new(alloc))?;
@@ -32,10 +37,10 @@ fn relayed<S: Source + Drop>(
     let Ok(mut writer) = StreamWriter::new(alloc, MemorySink::new(alloc)) else {
         return (Vec::new(alloc), Err(RelayError::OutOfMemory));
     };
-    let Ok(reader) = StreamReader::new(alloc, source) else {
+    let Ok(mut reader) = StreamReader::new(alloc, source) else {
         return (Vec::new(alloc), Err(RelayError::OutOfMemory));
     };
-    let answer = relay_stream(alloc, shape, reader, &mut writer);
+    let answer = relay_stream(alloc, shape, &mut reader, &mut writer);
     let (sink, _kept) = writer.into_sink();
     (sink.into_bytes(), answer)
 }
@@ -56,7 +61,7 @@ fn whole_values(rt: HostRuntime) -> Result<(), Fail> {
     let alloc = rt.alloc();
     for (shape, input, wanted) in WHOLE {
         for size in [1usize, 5, 100] {
-            let (output, answer) = relayed(alloc, shape, in_pieces(alloc, input, size, false)?);
+            let (output, answer) = relayed(alloc, shape, in_pieces(alloc, input, size, None)?);
             assert!(rt;
                 answer.is_ok() && output.as_slice() == wanted,
                 "{shape} {size}"
@@ -78,7 +83,7 @@ fn whole_values_of_std(rt: HostRuntime) -> Result<(), Fail> {
 #[test]
 fn an_unknown_shape(rt: HostRuntime) -> Result<(), Fail> {
     let alloc = rt.alloc();
-    let (_, answer) = relayed(alloc, "other", in_pieces(alloc, &NESTED, 1, false)?);
+    let (_, answer) = relayed(alloc, "other", in_pieces(alloc, &NESTED, 1, None)?);
     assert!(rt; matches!(&answer, Err(RelayError::UnknownShape)));
     Ok(())
 }
@@ -97,22 +102,32 @@ fn more_than_a_mebibyte(rt: HostRuntime) -> Result<(), Fail> {
 }
 
 /// A shape, an input in pieces, whether its source then fails, and what is written, or why nothing is.
-const CUT: [(&str, &[u8], bool, Result<&[u8], &str>); 5] = [
+const CUT: [(&str, &[u8], Option<ErrorKind>, Result<&[u8], &str>); 5] = [
     (
         "nested",
         &[2, 0, 0, 0, 0, 0, 0, 0, 1],
-        true,
-        Err("Read(Io(Io(Kind(Other))))"),
+        Some(ErrorKind::TimedOut),
+        Err("Read(Io(Io(Kind(TimedOut))))"),
     ),
     (
         "nested",
         &[2, 0, 0, 0, 0, 0, 0, 0, 1],
-        false,
+        None,
         Err("Read(Io(ReadSizeLimit(8)))"),
     ),
-    ("short", &[3, 1, 2, 3], true, Ok(&[3, 1, 2, 3])),
-    ("short", &[0], true, Err("Read(Io(Io(Kind(Other))))")),
-    ("short", &[0], false, Ok(&[0])),
+    (
+        "short",
+        &[3, 1, 2, 3],
+        Some(ErrorKind::TimedOut),
+        Ok(&[3, 1, 2, 3]),
+    ),
+    (
+        "short",
+        &[0],
+        Some(ErrorKind::TimedOut),
+        Err("Read(Io(Io(Kind(TimedOut))))"),
+    ),
+    ("short", &[0], None, Ok(&[0])),
 ];
 
 #[test]
@@ -129,7 +144,7 @@ fn cut_or_failing(rt: HostRuntime) -> Result<(), Fail> {
             Ok(written) => (written, ""),
             Err(why) => ([].as_slice(), why),
         };
-        assert!(rt; found == due, "{shape} {fails} {said}");
+        assert!(rt; found == due, "{shape} {fails:?} {said}");
     }
     Ok(())
 }
@@ -162,10 +177,10 @@ fn is_served(alloc: Global, text: &[u8], piece: usize, sound: usize) -> Result<b
     let Ok(mut writer) = StreamWriter::new(alloc, sink) else {
         return Err(Fail::from("a writer"));
     };
-    let Ok(reader) = StreamReader::new(alloc, StdSource::new(text)) else {
+    let Ok(mut reader) = StreamReader::new(alloc, StdSource::new(text)) else {
         return Err(Fail::from("a reader"));
     };
-    let answer = relay_stream(alloc, "nested", reader, &mut writer);
+    let answer = relay_stream(alloc, "nested", &mut reader, &mut writer);
     let (sink, kept) = writer.into_inner();
     let (front, rest) = text.split_at(sink.taken().len().min(text.len()));
     let is_front = front == sink.taken() && rest.starts_with(kept.as_slice());
@@ -204,10 +219,10 @@ fn what_is_on_the_way(rt: HostRuntime) -> Result<(), Fail> {
     else {
         return Err(Fail::from("a writer"));
     };
-    let Ok(reader) = StreamReader::new(alloc, source) else {
+    let Ok(mut reader) = StreamReader::new(alloc, source) else {
         return Err(Fail::from("a reader"));
     };
-    relay_stream(alloc, "nested", reader, &mut writer)?;
+    relay_stream(alloc, "nested", &mut reader, &mut writer)?;
     assert!(rt; taken.get() == long_size());
     assert!(rt; widest.get() <= WIDEST);
     Ok(())

@@ -1,6 +1,7 @@
 //! Bytes of described types in pieces of many sizes, explained and checked as in a slice.
 use crate::pieces::in_pieces;
 use std::alloc::Global;
+use std::io::ErrorKind;
 use std::test::Fail;
 use wincode::io::StdSource;
 use wincode_describe::{
@@ -59,7 +60,7 @@ fn is_explained(
     (described, bytes, size): (&Described, &[u8], usize),
     (is_ok, lines): (bool, &str),
 ) -> Result<bool, Fail> {
-    let source = in_pieces(alloc, bytes, size, false)?;
+    let source = in_pieces(alloc, bytes, size, None)?;
     let (ok, found) = explained_source_lines(alloc, described, source)?;
     Ok(ok == is_ok && found.as_str() == lines)
 }
@@ -70,7 +71,7 @@ fn is_checked(
     (described, bytes, size): (&Described, &[u8], usize),
     (is_ok, line): (bool, &str),
 ) -> Result<bool, Fail> {
-    let source = in_pieces(alloc, bytes, size, false)?;
+    let source = in_pieces(alloc, bytes, size, None)?;
     let (ok, found) = checked_source_line(alloc, described, source)?;
     Ok(ok == is_ok && found.as_str() == line)
 }
@@ -81,7 +82,7 @@ fn is_printed(
     (described, bytes, size): (&Described, &[u8], usize),
     (is_ok, lines): (bool, &str),
 ) -> Result<bool, Fail> {
-    let source = in_pieces(alloc, bytes, size, false)?;
+    let source = in_pieces(alloc, bytes, size, None)?;
     let (output, answer) = print_source_lines(alloc, described, source, Vec::new(alloc));
     let is_said = matches!(&answer, Ok(is_read) if *is_read == is_ok);
     Ok(is_said && output.as_slice() == lines.as_bytes())
@@ -193,7 +194,7 @@ fn short_lengths(rt: HostRuntime) -> Result<(), Fail> {
         let mut bytes = Vec::from_slice(alloc, head)?;
         bytes.extend_from_slice(vec![in alloc; 7u8; n]?.as_slice())?;
         bytes.push(1)?;
-        let source = in_pieces(alloc, bytes.as_slice(), 8192, false)?;
+        let source = in_pieces(alloc, bytes.as_slice(), 8192, None)?;
         let (ok, lines) = explained_source_lines(alloc, &described, source)?;
         let (_, due) = explained_lines(alloc, &described, bytes.as_slice())?;
         assert!(rt; ok && lines == due, "{n}");
@@ -222,9 +223,9 @@ fn a_text_of_more_than_a_mebibyte(rt: HostRuntime) -> Result<(), Fail> {
 fn a_failure_behind_a_value(rt: HostRuntime) -> Result<(), Fail> {
     let alloc = rt.alloc();
     let described = Described::parse(alloc, "(u8, u16)")?;
-    let source = in_pieces(alloc, &[1, 2, 0], 1, true)?;
+    let source = in_pieces(alloc, &[1, 2, 0], 1, Some(ErrorKind::TimedOut))?;
     let (ok, lines) = explained_source_lines(alloc, &described, source)?;
-    let source = in_pieces(alloc, &[1, 2, 0], 1, true)?;
+    let source = in_pieces(alloc, &[1, 2, 0], 1, Some(ErrorKind::TimedOut))?;
     let is_refused = checked_source_line(alloc, &described, source).is_err();
     let due = (true, "0: 01 .0 u8 1\n1: 0200 .1 u16 2\n", true);
     assert!(rt; (ok, lines.as_str(), is_refused) == due);

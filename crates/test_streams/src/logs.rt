@@ -1,8 +1,11 @@
 //! Logs that were cut off, and gone on with.
+use crate::pieces::in_pieces;
 use std::alloc::Global;
+use std::io::ErrorKind;
+use std::marker::PhantomData;
 use std::test::Fail;
 use testkit_io::few::Few;
-use wincode::io::{self, SliceWriter, StdSink, StdSource, StreamWriter};
+use wincode::io::{self, SliceWriter, StdSink, StdSource, StreamReader, StreamWriter};
 use wincode::{Messages, ReadError, WriteError, append_message, serialize_into, whole_length};
 
 type Entry = (u16, String);
@@ -66,9 +69,49 @@ fn cut_at_every_byte(rt: HostRuntime) -> Result<(), Fail> {
     let alloc = rt.alloc();
     let (bytes, ends) = log_of(alloc, 50)?;
     for size in 0..=bytes.len() {
-        let whole = whole_length::<Entry, _>(alloc, &bytes[..size])?;
+        let mut reader = StreamReader::new(alloc, &bytes[..size])?;
+        let whole = whole_length::<Entry, _>(alloc, &mut reader)?;
         assert!(rt; whole == last_within(ends.as_slice(), size));
     }
+    Ok(())
+}
+
+/// A source that fails where its bytes end: its own failure is told, whether an entry is cut off there or not.
+#[test]
+fn of_a_source_that_fails_at_every_byte(rt: HostRuntime) -> Result<(), Fail> {
+    let alloc = rt.alloc();
+    let (bytes, _) = log_of(alloc, 7)?;
+    for size in 0..=bytes.len() {
+        let source = in_pieces(alloc, &bytes[..size], 5, Some(ErrorKind::TimedOut))?;
+        let mut reader = StreamReader::new(alloc, source)?;
+        for told in [ErrorKind::TimedOut, ErrorKind::Other] {
+            let kind = match whole_length::<Entry, _>(alloc, &mut reader) {
+                Err(ReadError::Io(io::ReadError::Io(error))) => Some(error.kind()),
+                _ => None,
+            };
+            assert!(rt; kind == Some(told), "{size}");
+        }
+    }
+    Ok(())
+}
+
+/// Of values without bytes no log has a number: they are refused at once, and nothing is read.
+#[test]
+fn values_without_bytes(rt: HostRuntime) -> Result<(), Fail> {
+    let alloc = rt.alloc();
+    let mut reader = StreamReader::new(alloc, [7u8, 8].as_slice())?;
+    let whole = [
+        whole_length::<(), _>(alloc, &mut reader).is_err(),
+        whole_length::<[u64; 0], _>(alloc, &mut reader).is_err(),
+        whole_length::<((), PhantomData<u8>), _>(alloc, &mut reader).is_err(),
+    ];
+    let mut messages: Messages<_, ()> = Messages::of_reader(alloc, reader);
+    let is_next = matches!(&messages.next(), Some(Err(ReadError::Custom(_))));
+    let mut log = Vec::new(alloc);
+    let appended = append_message::<(), _>(&mut log, &());
+    let is_appended = matches!(&appended, Err(WriteError::Custom(_)));
+    let unread = messages.into_reader().unread().len();
+    assert!(rt; (whole, is_next, is_appended, unread, log.len()) == ([true; 3], true, true, 0, 0));
     Ok(())
 }
 
@@ -128,7 +171,8 @@ fn is_front(alloc: Global, size: usize, sound: usize) -> Result<bool, Fail> {
     }
     let (few, _) = writer.into_inner();
     let sent = few.bytes.as_slice();
-    let whole = whole_length::<Entry, _>(alloc, StdSource::new(sent))?;
+    let mut reader = StreamReader::new(alloc, StdSource::new(sent))?;
+    let whole = whole_length::<Entry, _>(alloc, &mut reader)?;
     Ok(bytes.as_slice().starts_with(sent) && whole == last_within(ends.as_slice(), sent.len()))
 }
 

@@ -40,7 +40,7 @@ fn has_both(alloc: Global, reader: &mut StreamReader<Pieces>, i: u64) -> Result<
 
 /// Whether the bytes in pieces of this size are 700 flags and words, and nothing is behind them.
 fn are_both(alloc: Global, bytes: &[u8], size: usize) -> Result<bool, Fail> {
-    let source = in_pieces(alloc, bytes, size, false)?;
+    let source = in_pieces(alloc, bytes, size, None)?;
     let mut reader = StreamReader::new(alloc, source)?;
     for i in 0..700u64 {
         if !has_both(alloc, &mut reader, i)? {
@@ -68,7 +68,7 @@ fn log(
     words: u64,
     size: usize,
     cut: usize,
-    fails: bool,
+    fails: Option<ErrorKind>,
 ) -> Result<Messages<Pieces, String>, Fail> {
     let mut bytes = Vec::new(alloc);
     for i in 0..words {
@@ -90,12 +90,20 @@ fn count(mut messages: Messages<Pieces, String>) -> (u64, Option<ReadError>) {
     (1_000, None)
 }
 
+/// The kind of the source's failure: none where anything else is.
+fn kind_of(error: &Option<ReadError>) -> Option<ErrorKind> {
+    match error {
+        Some(ReadError::Io(io::ReadError::Io(e))) => Some(e.kind()),
+        _ => None,
+    }
+}
+
 #[test]
 fn to_the_end(rt: HostRuntime) -> Result<(), Fail> {
     let alloc = rt.alloc();
     for size in SIZES {
         for words in [40, 0] {
-            let (n, error) = count(log(alloc, words, size, 0, false)?);
+            let (n, error) = count(log(alloc, words, size, 0, None)?);
             assert!(rt; (n, error.is_none()) == (words, true));
         }
     }
@@ -109,7 +117,7 @@ fn cut_off(rt: HostRuntime) -> Result<(), Fail> {
     let alloc = rt.alloc();
     for size in [1usize, 7, 8192] {
         for cut in 1..=17usize {
-            let (n, error) = count(log(alloc, 4, size, cut, false)?);
+            let (n, error) = count(log(alloc, 4, size, cut, None)?);
             let is_short = matches!(&error, Some(ReadError::Io(io::ReadError::ReadSizeLimit(_))));
             assert!(rt; (n, is_short, error.is_none()) == (3, cut < 17, cut == 17));
         }
@@ -122,15 +130,14 @@ fn cut_off(rt: HostRuntime) -> Result<(), Fail> {
 fn failing(rt: HostRuntime) -> Result<(), Fail> {
     let alloc = rt.alloc();
     for size in SIZES {
-        let (n, error) = count(log(alloc, 4, size, 0, true)?);
-        let is_failure = matches!(&error, Some(ReadError::Io(io::ReadError::Io(_))));
-        assert!(rt; n == 4 && is_failure);
+        let (n, error) = count(log(alloc, 4, size, 0, Some(ErrorKind::TimedOut))?);
+        assert!(rt; (n, kind_of(&error)) == (4, Some(ErrorKind::TimedOut)));
     }
     Ok(())
 }
 
 /// A body of 16 bytes of which a byte comes before the source fails, or ends.
-fn cut_body(alloc: Global, fails: bool) -> Result<Messages<Pieces, Vec<u8>>, Fail> {
+fn cut_body(alloc: Global, fails: Option<ErrorKind>) -> Result<Messages<Pieces, Vec<u8>>, Fail> {
     let bytes = [16u8, 0, 0, 0, 0, 0, 0, 0, 1, 0, 0, 0, 0, 0, 0, 0, 77];
     Ok(Messages::new(alloc, in_pieces(alloc, &bytes, 17, fails)?)?)
 }
@@ -146,9 +153,9 @@ fn next_failure(messages: &mut Messages<Pieces, Vec<u8>>) -> Option<ErrorKind> {
 /// Behind a failure of the source nothing is read of what came of half a message.
 #[test]
 fn behind_a_failure(rt: HostRuntime) -> Result<(), Fail> {
-    let mut messages = cut_body(rt.alloc(), true)?;
-    for _ in 0..3u8 {
-        assert!(rt; next_failure(&mut messages) == Some(ErrorKind::Other));
+    let mut messages = cut_body(rt.alloc(), Some(ErrorKind::TimedOut))?;
+    for told in [ErrorKind::TimedOut, ErrorKind::Other, ErrorKind::Other] {
+        assert!(rt; next_failure(&mut messages) == Some(told));
     }
     assert!(rt; messages.into_reader().unread().len() == 9);
     Ok(())
@@ -156,7 +163,7 @@ fn behind_a_failure(rt: HostRuntime) -> Result<(), Fail> {
 
 /// A body that was refused, and whether it was, at first for its size and then by each of three calls.
 fn refused_body(alloc: Global) -> Result<(Messages<Pieces, Vec<u8>>, bool), Fail> {
-    let mut messages = cut_body(alloc, false)?;
+    let mut messages = cut_body(alloc, None)?;
     let first = messages.next();
     let mut is_refused = matches!(
         &first,
@@ -185,7 +192,7 @@ fn behind_a_refusal(rt: HostRuntime) -> Result<(), Fail> {
 
 /// The word behind three messages of a log of four, in pieces of this size.
 fn fourth_word(alloc: Global, size: usize) -> Result<String, Fail> {
-    let mut messages = log(alloc, 4, size, 0, false)?;
+    let mut messages = log(alloc, 4, size, 0, None)?;
     for _ in 0..3u8 {
         if !matches!(messages.next(), Some(Ok(_))) {
             return Err(Fail::from("no message"));

@@ -19,7 +19,12 @@ const SIZES: [usize; 6] = [1, 2, 3, 7, 8192, 65536];
 type Short = containers::Vec<u8, ShortU16Len>;
 
 /// The bytes in pieces of this size, with an empty one behind each.
-pub fn in_pieces(alloc: Global, bytes: &[u8], size: usize, fails: bool) -> Result<Pieces, Fail> {
+pub fn in_pieces(
+    alloc: Global,
+    bytes: &[u8],
+    size: usize,
+    fails: Option<ErrorKind>,
+) -> Result<Pieces, Fail> {
     let mut pieces = Vec::new(alloc);
     for piece in bytes.chunks(size.max(1)) {
         pieces.push(Vec::from_slice(alloc, piece)?)?;
@@ -71,7 +76,7 @@ where
 {
     let wanted = read_as::<T>(alloc, bytes)?;
     for size in SIZES {
-        let mut reader = StreamReader::new(alloc, in_pieces(alloc, bytes, size, false)?)?;
+        let mut reader = StreamReader::new(alloc, in_pieces(alloc, bytes, size, None)?)?;
         let text = rewrite::<Lifetime<'a>, StreamReader<Pieces>, T>(alloc, &mut reader);
         let found = outcome(alloc, text, left(&mut reader)?)?;
         if found != wanted {
@@ -186,7 +191,7 @@ fn large_lists_in_pieces(rt: &(impl Abort + AllocGlobal), sizes: &[usize]) -> Re
     let mut text = serialize(alloc, &value)?;
     text.extend_from_slice(&[7, 8, 9])?;
     for size in sizes {
-        let source = in_pieces(alloc, text.as_slice(), *size, false)?;
+        let source = in_pieces(alloc, text.as_slice(), *size, None)?;
         let (read, mut reader) = read_front::<Lifetime, Pieces, Vec<Vec<u64>>>(alloc, source)?;
         let rest = left(&mut reader)?;
         assert!(rt; (read.as_slice(), rest) == (value.as_slice(), 3));
@@ -210,10 +215,13 @@ fn lists_before_a_failure(
     bytes: &[u8],
     size: usize,
 ) -> Result<Option<Vec<Vec<u64>>>, Fail> {
-    let mut reader = StreamReader::new(alloc, in_pieces(alloc, bytes, size, true)?)?;
+    let mut reader = StreamReader::new(
+        alloc,
+        in_pieces(alloc, bytes, size, Some(ErrorKind::TimedOut))?,
+    )?;
     match deserialize_from::<Lifetime, _, Vec<Vec<u64>>>(alloc, &mut reader) {
         Ok(lists) => Ok(Some(lists)),
-        Err(ReadError::Io(io::ReadError::Io(e))) if e.kind() == ErrorKind::Other => Ok(None),
+        Err(ReadError::Io(io::ReadError::Io(e))) if e.kind() == ErrorKind::TimedOut => Ok(None),
         Err(_) => Err(Fail::from("refused otherwise")),
     }
 }
@@ -239,10 +247,11 @@ fn a_failure_behind_each_byte(rt: HostRuntime) -> Result<(), Fail> {
 #[test]
 fn a_failure_behind_a_short_length(rt: HostRuntime) -> Result<(), Fail> {
     let alloc = rt.alloc();
-    let rows: [(&[u8], bool, bool); 3] = [
-        (&[3, 1, 2, 3], true, true),
-        (&[0], true, false),
-        (&[0], false, true),
+    let late = Some(ErrorKind::TimedOut);
+    let rows: [(&[u8], Option<ErrorKind>, bool); 3] = [
+        (&[3, 1, 2, 3], late, true),
+        (&[0], late, false),
+        (&[0], None, true),
     ];
     for (bytes, fails, is_read) in rows {
         let mut reader = StreamReader::new(alloc, in_pieces(alloc, bytes, 2, fails)?)?;

@@ -14,7 +14,7 @@ type Any = Lifetime<'static>;
 type Stream = StreamReader<Pieces>;
 
 /// Pieces of these lengths, of the bytes 1, 2, 3 ..
-fn reader(alloc: Global, lengths: &[usize], fails: bool) -> Result<Stream, Fail> {
+fn reader(alloc: Global, lengths: &[usize], fails: Option<ErrorKind>) -> Result<Stream, Fail> {
     let mut all = Vec::new(alloc);
     let mut next = 0u8;
     for n in lengths {
@@ -42,7 +42,7 @@ fn fill_exact<L: Lending, R: Reader<L>>(reader: &mut R, n: usize) -> ReadResult<
 
 #[test]
 fn three_bytes_in_all(rt: HostRuntime) -> Result<(), Fail> {
-    let mut r = reader(rt.alloc(), &[1, 0, 2], false)?;
+    let mut r = reader(rt.alloc(), &[1, 0, 2], None)?;
     let is_all = fill_buf::<Any, Stream>(&mut r, 9)? == [1u8, 2, 3].as_slice();
     let past = fill_exact::<Any, Stream>(&mut r, usize::MAX);
     let is_past = matches!(&past, Err(ReadError::ReadSizeLimit(usize::MAX)));
@@ -57,7 +57,7 @@ fn three_bytes_in_all(rt: HostRuntime) -> Result<(), Fail> {
 
 #[test]
 fn three_bytes_consumed(rt: HostRuntime) -> Result<(), Fail> {
-    let mut r = reader(rt.alloc(), &[3], false)?;
+    let mut r = reader(rt.alloc(), &[3], None)?;
     let first = *<Stream as Reader<Any>>::peek(&mut r)?;
     <Stream as Reader<Any>>::consume(&mut r, 3)?;
     let is_end = <Stream as Reader<Any>>::peek(&mut r).is_err();
@@ -67,7 +67,7 @@ fn three_bytes_consumed(rt: HostRuntime) -> Result<(), Fail> {
 
 #[test]
 fn three_bytes_copied(rt: HostRuntime) -> Result<(), Fail> {
-    let mut r = reader(rt.alloc(), &[1, 2], false)?;
+    let mut r = reader(rt.alloc(), &[1, 2], None)?;
     let mut bytes = [0u8; 3];
     <Stream as Reader<Any>>::copy_into_slice(&mut r, &mut bytes)?;
     let is_end = fill_buf::<Any, Stream>(&mut r, 1)?.is_empty();
@@ -77,7 +77,7 @@ fn three_bytes_copied(rt: HostRuntime) -> Result<(), Fail> {
 
 #[test]
 fn a_form_of_three_bytes(rt: HostRuntime) -> Result<(), Fail> {
-    let mut r = reader(rt.alloc(), &[1, 2], false)?;
+    let mut r = reader(rt.alloc(), &[1, 2], None)?;
     let mut form: Option<[u8; 3]> = None;
     <Stream as Reader<Any>>::copy_into_t(&mut r, &mut form)?;
     let is_end = fill_buf::<Any, Stream>(&mut r, 1)?.is_empty();
@@ -87,7 +87,7 @@ fn a_form_of_three_bytes(rt: HostRuntime) -> Result<(), Fail> {
 
 #[test]
 fn three_forms_copied(rt: HostRuntime) -> Result<(), Fail> {
-    let mut r = reader(rt.alloc(), &[1, 2], false)?;
+    let mut r = reader(rt.alloc(), &[1, 2], None)?;
     let mut forms = [0u8; 3];
     <Stream as Reader<Any>>::copy_into_slice_t(&mut r, &mut forms)?;
     let is_end = fill_buf::<Any, Stream>(&mut r, 1)?.is_empty();
@@ -98,7 +98,7 @@ fn three_forms_copied(rt: HostRuntime) -> Result<(), Fail> {
 /// Windows in windows, which outlive one another and the bytes that come after them.
 #[test]
 fn windows_share_the_bytes(rt: HostRuntime) -> Result<(), Fail> {
-    let mut r = reader(rt.alloc(), &[4, 6], false)?;
+    let mut r = reader(rt.alloc(), &[4, 6], None)?;
     let mut a = window_of::<Any, Stream>(&mut r, 8)?;
     a.consume(2)?;
     let mut b = a.as_trusted_for(5)?;
@@ -115,10 +115,10 @@ fn windows_share_the_bytes(rt: HostRuntime) -> Result<(), Fail> {
 
 #[test]
 fn a_failure_is_remembered(rt: HostRuntime) -> Result<(), Fail> {
-    let mut r = reader(rt.alloc(), &[2, 1], true)?;
-    for _ in 0..2 {
-        let refused = fill_exact::<Any, Stream>(&mut r, 4);
-        assert!(rt; matches!(&refused, Err(ReadError::Io(_))));
+    let mut r = reader(rt.alloc(), &[2, 1], Some(ErrorKind::TimedOut))?;
+    for told in [ErrorKind::TimedOut, ErrorKind::Other] {
+        let kind = kind_of(&fill_exact::<Any, Stream>(&mut r, 4));
+        assert!(rt; kind == Some(told));
     }
     let first = *<Stream as Reader<Any>>::peek(&mut r)?;
     let mut form: Option<[u8; 2]> = None;

@@ -7,9 +7,9 @@ use Rattle.wincode_io.specs.Writers.{WriterState, Added, BytesWriteRefused, Writ
 -- Two parts were refused: the first was, or it was added and then the second was refused.
 abbrev pub BothWriteRefused : {S K : Type 0} {put : S → List ℕ → S} {room : S → ℕ} → List ℕ → List ℕ → WriterState put room K → WriterState put room K
     → WriteError → Type 0
-BothWriteRefused {room = room} first second old new e =
+BothWriteRefused {K = K} {put = put} {room = room} first second old new e =
     BytesWriteRefused (length first) old new e
-    ⊎ (Added first old new × WriteRefusedFor (room new.content < length second) (length second) new e)
+    ⊎ ((mid : WriterState put room K) × Added first old mid × BytesWriteRefused (length second) mid new e)
 
 -- n bytes were refused where room bytes are left
 abbrev pub IsOverrun : ℕ → ℕ → WriteError → Type 0

@@ -1,10 +1,11 @@
 //! Writers that count: the failures of a device, and the calls of `finish`.
-ghost use Rattle.std.specs.Prelude.{◌≡◌, ℕ, ◌+◌, ◌-◌, ◌<◌, ◌≤◌, Bool, true, false, IsTrue, min, List, length, ◌++◌, vec_capacity};
+ghost use Rattle.std.specs.Prelude.{◌≡◌, ℕ, ◌+◌, ◌-◌, ◌<◌, ◌≤◌, Bool, true, false, [], IsTrue, min, List, length, ◌++◌, vec_capacity};
+ghost use Rattle.std.specs.declared.io.ErrorKind.TheVariants.{Other};
 ghost use Rattle.wincode_io.specs.Writers.{in_memory, byte_limit};
 ghost use Rattle.wincode_io.specs.WriterLaws.{append_laws, min_right};
 
 use std::io;
-use wincode_io::{WriteError, WriteResult, Writer, ZeroCopy};
+use wincode_io::{Trace, WriteError, WriteResult, Writer, ZeroCopy};
 
 /// Appends to a vector, as a device does that makes room so many times and then fails each time.
 #[derive(Drop)]
@@ -12,6 +13,7 @@ pub struct Counted {
     bytes: Vec<u8>,
     sound: usize,
     failures: usize,
+    has_failed: bool,
 }
 
 impl Counted {
@@ -20,11 +22,13 @@ impl Counted {
         ensures bytes { result.bytes ≡ bytes }
         ensures sound { result.sound ≡ sound }
         ensures failures { result.failures ≡ 0 }
+        ensures has_failed { result.has_failed ≡ false }
     {
         Counted {
             bytes,
             sound,
             failures: 0,
+            has_failed: false,
         }
     }
 
@@ -45,14 +49,15 @@ impl Counted {
     /// Asks the device once. `false` is a failure, which is counted.
     fn ask(&mut self) -> bool
         ensures bytes { self.new.bytes ≡ self.old.bytes }
-        ensures answer { result ≡ true → (0 < self.old.sound) × (self.new.sound + 1 ≡ self.old.sound) × (self.new.failures ≡ self.old.failures) }
-        ensures failure { result ≡ false → (self.old.sound ≡ 0) × (self.new.sound ≡ 0) × (self.new.failures ≡ min (self.old.failures + 1) byte_limit) }
+        ensures answer { result ≡ true → (0 < self.old.sound) × (self.new.sound + 1 ≡ self.old.sound) × (self.new.failures ≡ self.old.failures) × (self.new.has_failed ≡ self.old.has_failed) }
+        ensures failure { result ≡ false → (self.old.sound ≡ 0) × (self.new.sound ≡ 0) × (self.new.failures ≡ min (self.old.failures + 1) byte_limit) × (self.new.has_failed ≡ true) }
     {
         if 0 < self.sound {
             self.sound -= 1;
             return true;
         }
         self.failures = self.failures.saturating_add(1);
+        self.has_failed = true;
         false
     }
 }
@@ -72,6 +77,9 @@ impl Writer for Counted {
       kept = tt;
       never_fails = false;
       failures = c.failures;
+      has_failed = c.has_failed;
+      last = Other;
+      finishes = 0;
       ready = min (vec_capacity c.bytes - length c.bytes.items) (byte_limit - length c.bytes.items);
     } };
 
@@ -98,6 +106,10 @@ impl Writer for Counted {
         self.bytes.write_ready_t(src);
     }
 
+    fn finish(&mut self) -> WriteResult<()> {
+        Ok(())
+    }
+
     ghost writer_laws = { append_laws };
 
     ghost ready_room = { λ c. min_right (vec_capacity c.bytes - length c.bytes.items) (byte_limit - length c.bytes.items) };
@@ -109,6 +121,8 @@ impl Writer for Counted {
 pub struct Finishing {
     bytes: Vec<u8>,
     finished: usize,
+    /// A byte for each call of `finish`.
+    ends: Trace,
 }
 
 impl Finishing {
@@ -116,8 +130,13 @@ impl Finishing {
     pub fn new(bytes: Vec<u8>) -> Finishing
         ensures bytes { result.bytes ≡ bytes }
         ensures finished { result.finished ≡ 0 }
+        ensures ends { result.ends.bytes ≡ [] }
     {
-        Finishing { bytes, finished: 0 }
+        Finishing {
+            bytes,
+            finished: 0,
+            ends: Trace::new(),
+        }
     }
 
     /// The bytes that it took.
@@ -145,7 +164,7 @@ impl Writer for Finishing {
 
     ghost Kept = { Unit };
 
-    ghost state = { λ w. in_memory w.bytes.items tt (min (vec_capacity w.bytes - length w.bytes.items) (byte_limit - length w.bytes.items)) };
+    ghost state = { λ w. record (in_memory w.bytes.items tt (min (vec_capacity w.bytes - length w.bytes.items) (byte_limit - length w.bytes.items))) { finishes = length w.ends.bytes } };
 
     ghost buffers = { true };
 
@@ -163,6 +182,7 @@ impl Writer for Finishing {
 
     fn finish(&mut self) -> WriteResult<()> {
         self.finished = self.finished.saturating_add(1);
+        self.ends.note(&[0]);
         Ok(())
     }
 

@@ -4,6 +4,7 @@ use Rattle.wincode_io.specs.Joins.{Each}
 use Rattle.wincode_io.specs.JoinLaws.{each_append}
 use Rattle.wincode_io.specs.PlaceLaws.{loses_onward}
 use Rattle.wincode_io.specs.Readers.{ReaderState, Takes}
+use Rattle.wincode_io.specs.WriterLaws.{same_refl, same_trans, writer_sound_refl, writer_sound_trans}
 use Rattle.wincode_io.specs.Writers.{WriterState, WriterLaws, Took, BytesWriteRefused}
 use Rattle.wincode_base.specs.LeafLaws.{same_front}
 use Rattle.wincode_base.specs.Outcomes.{Accepts, ReadRefused, WriteRefused, Stopped}
@@ -28,13 +29,14 @@ module _ (n : ℕ) (old new : ReaderState) (bytes : List ℕ) (t : Takes n old n
     kept = t.loses.kept;
     left = λ told. record { front = bytes; joins = takes_joins t told };
     place = loses_onward n old new t.loses;
+    device = t.loses.sound;
     due = other_due;
   }
 
 -- nothing is so many zeros as none
 pub none_took : {S K : Type 0} {put : S → List ℕ → S} {room : S → ℕ} → WriterLaws put room → (s : WriterState put room K) → (bytes : List ℕ) × AreZeros 0 bytes
     × Took bytes s s
-none_took laws s = ([], (refl, tt), record { same = record { kept = refl; never_fails = refl }; content = sym (laws.nil s.content) })
+none_took laws s = ([], (refl, tt), record { same = same_refl s; sound = writer_sound_refl s; content = sym (laws.nil s.content) })
 
 -- one more piece of 64 zeros
 pub more_took : {S K : Type 0} {put : S → List ℕ → S} {room : S → ℕ} → WriterLaws put room → (i : ℕ) (old mid new : WriterState put room K) (piece : List ℕ)
@@ -44,7 +46,8 @@ more_took {put = put} {room = room} laws i old mid new piece fits zeros (bytes, 
   bytes ++ piece,
   (omega (arith, length-append bytes piece, before.0, zeros.0), each_append (λ d. d ≡ 0) bytes piece before.1 zeros.1),
   record {
-    same = record { kept = two.same.kept ∙ one.same.kept; never_fails = two.same.never_fails ∙ one.same.never_fails };
+    same = same_trans one.same two.same;
+    sound = writer_sound_trans one.sound two.sound;
     content = two.content ∙ ap (λ c. put c piece) one.content ∙ laws.join old.content bytes piece (omega (arith, fits, before.0, zeros.0));
   },
 )

@@ -30,7 +30,7 @@ block_read n = record {
 -- n bytes, all of them zero, written
 abbrev pub block_write : ℕ → WriteGrammar Unit
 block_write n = record {
-  writes = λ v b. AreZeros n b;
+  writes = λ b v. AreZeros n b;
   can = λ v. Unit {0};
   size = λ v. n;
   fits = λ v. Unit {0};
@@ -65,6 +65,7 @@ block_read_laws n = record {
 pub block_write_laws : (n : ℕ) → WriteLaws {X = Unit} (λ x. Unit {0}) (λ x. x) (block_write n)
 block_write_laws n = record {
   has_encoding = λ v c. (replicate n 0, (length-replicate n 0, all_zero n));
+  encoding_can = λ v b w. tt;
   encoding_size = λ v b w. w.0;
   can_fit = λ v f. f;
   statics = (λ x p. tt, λ v c. refl);

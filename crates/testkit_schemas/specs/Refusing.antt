@@ -40,7 +40,7 @@ IsRefusingWrite v room added _ = ⊥
 -- no value can be written
 abbrev pub nothing_write : WriteGrammar Unit
 nothing_write = record {
-  writes = λ v b. ⊥;
+  writes = λ b v. ⊥;
   can = λ v. ⊥;
   size = λ v. 0;
   fits = λ v. ⊥;
@@ -53,6 +53,7 @@ nothing_write = record {
 pub nothing_write_laws : {X : Type 0} → WriteLaws {X = X} (λ x. Unit {0}) (λ x. tt) nothing_write
 nothing_write_laws = record {
   has_encoding = λ v c. absurd c;
+  encoding_can = λ v b w. w;
   encoding_size = λ v b w. absurd w;
   can_fit = λ v f. f;
   statics = tt;

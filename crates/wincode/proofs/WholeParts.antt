@@ -1,5 +1,5 @@
 -- The whole values of a log, one more at a time.
-use Rattle.std.proofs.Common.{◌≡◌, ◌∙◌, sym, ap, subst, ℕ, ◌+◌, ◌<◌, ◌^◌, min, Bool, true, List, [], ◌∷◌, ◌++◌, length, refl, arith, append_assoc, length-append}
+use Rattle.std.proofs.Common.{◌≡◌, ◌∙◌, sym, ap, subst, ℕ, ◌+◌, ◌-◌, ◌<◌, ◌≤◌, ◌^◌, min, Bool, true, List, [], ◌∷◌, ◌++◌, length, refl, arith, append_assoc, length-append}
 use Rattle.std.proofs.Common.{IsTrue, inl, inr}
 use Rattle.std.specs.Prelude.{◌⊎◌}
 use Rattle.wincode_io.specs.Joins.{IsUnambiguous, Joined}
@@ -21,7 +21,7 @@ use Rattle.wincode.proofs.Positions.{place_of}
 pub record SoFar {V : Type 0} (reads : List ℕ → V → Type 0) (all rest : List ℕ) (n : ℕ) : Type 0 where
   pub values : List V
   pub front : List ℕ
-  pub joined : Joined (λ v x. reads x v) values front
+  pub joined : Joined reads values front
   pub joins : all ≡ front ++ rest
   pub size : n ≡ length front
 
@@ -59,27 +59,29 @@ all_whole reads one some all rest n so none =
           (c.left, c.parts ∙ ap (λ us. us ++ c.left) same.0);
     }
 
--- so where the count is as of a stream, of bytes that can be counted
-pub ended_whole : {V : Type 0} (reads : List ℕ → V → Type 0) → IsUnambiguous reads → ((v : V) → reads [] v → ⊥) → (all rest : List ℕ) (p n : ℕ)
-    → SoFar reads all rest p → (Front reads rest → ⊥) → length all < 2 ^ 64 → n ≡ min p byte_limit → WholePart reads all n
-ended_whole reads one some all rest p n so none small is =
+-- so where a stream stood at one place before and stands at another now, and what went by can be counted
+pub counted_whole : {V : Type 0} (reads : List ℕ → V → Type 0) → IsUnambiguous reads → ((v : V) → reads [] v → ⊥) → (all rest : List ℕ) (start p n : ℕ)
+    → SoFar reads all rest (p - start) → start ≤ p → (Front reads rest → ⊥) → start + length all < 2 ^ 64
+    → n ≡ min p byte_limit - min start byte_limit → WholePart reads all n
+counted_whole reads one some all rest start p n so behind none small is =
     let size = ap length so.joins ∙ length-append so.front rest in
     all_whole reads one some all rest n (record {
       values = so.values;
       front = so.front;
       joined = so.joined;
       joins = so.joins;
-      size = omega (arith, is, so.size, size, small);
+      size = omega (arith, is, so.size, size, small, behind);
     }) none
 
 -- one more, that a stream gave
-pub gave_one_more : {V : Type 0} (reads : List ℕ → V → Type 0) (all : List ℕ) (p q : ℕ) (a b : List ℕ) (s t : SourceState) (v : V)
-    → SoFar reads all (streaming p a s).rest p → Gives reads (streaming p a s) (streaming q b t) v → IsTrue s.is_known
-    → SoFar reads all (streaming q b t).rest q
-gave_one_more reads all p q a b s t v so g known =
+pub gave_one_more : {V : Type 0} (reads : List ℕ → V → Type 0) (all : List ℕ) (start p q : ℕ) (a b : List ℕ) (i j : Bool) (s t : SourceState) (v : V)
+    → SoFar reads all (streaming p a i s).rest (p - start) → start ≤ p → Gives reads (streaming p a i s) (streaming q b j t) v → IsTrue s.is_known
+    → SoFar reads all (streaming q b j t).rest (q - start)
+gave_one_more reads all start p q a b i j s t v so behind g known =
     let found = g.found known in
-    let size = ap length found.joins ∙ length-append found.encoding (streaming q b t).rest in
-    one_more reads all (streaming p a s).rest (streaming q b t).rest p q v so found (omega (arith, ap place_of (g.place known), size))
+    let size = ap length found.joins ∙ length-append found.encoding (streaming q b j t).rest in
+    one_more reads all (streaming p a i s).rest (streaming q b j t).rest (p - start) (q - start) v so found
+    (omega (arith, ap place_of (g.place known), size, behind))
 
 -- no value stands in front of no bytes
 pub none_in_front : {V : Type 0} (reads : List ℕ → V → Type 0) → ((v : V) → reads [] v → ⊥) → (bytes : List ℕ) → bytes ≡ [] → Front reads bytes → ⊥
@@ -105,8 +107,8 @@ due_none A b t new (reading.Custom x) s d = d
 due_none A b t new reading.UnalignedPointerRead s d = d
 
 not_begun : (old new : ReaderState) (e : ReadError) → says_none e ≡ true → NotBegun old new e → ⊥
-not_begun old new (reading.Io (reader.ReadSizeLimit n)) s d = d.1.1.0
-not_begun old new (reading.Io reader.UnsupportedZeroCopy) s d = d.1.1
+not_begun old new (reading.Io (reader.ReadSizeLimit n)) s d = d.1.2.0
+not_begun old new (reading.Io reader.UnsupportedZeroCopy) s d = d.1.2
 not_begun old new (reading.Io (reader.Io e)) s d = absurd (cc)
 not_begun old new (reading.Io reader.OutOfMemory) s d = absurd (cc)
 not_begun old new reading.OutOfMemory s d = d
@@ -125,7 +127,7 @@ pub none_left : {V : Type 0} (g : ReadGrammar V) (old new : ReaderState) (e : Re
 none_left g old new e s (inl d) known small f = not_begun old new e s d
 none_left g old new e s (inr d) known small f =
     let mid = d.1.0 in
-    let stays = d.1.1 in
+    let stays = d.1.1.0 in
     let rest = stays.rest known in
     due_none (Accepts g.reads mid) g.borrow g.takes_no_memory new e s d.1.2.0.due
     (record { is_known = rw stays.kept.is_known known; fits = rw rest small; front = subst (Front g.reads) (sym rest) f })

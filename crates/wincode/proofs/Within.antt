@@ -10,7 +10,7 @@ use Rattle.wincode_base.specs.Arrays.{IsArray}
 use Rattle.wincode_base.specs.Grammar.{WriteGrammar}
 use Rattle.wincode_base.specs.Lengths.{Scheme, SchemeLaws}
 use Rattle.wincode_base.specs.Tags.{IfPart, IfSide}
-use Rattle.wincode.specs.Limits.{ListFits}
+use Rattle.wincode_base.specs.Lists.{ListFits}
 
 -- so far each item before those that are left is within its limits, where it is valid
 pub record WithinSoFar {E V : Type 0} (fits : V → Type 0) (see : E → V) (P : E → Type 0) (all rest : List E) : Type 0 where

@@ -1,18 +1,21 @@
 -- A log that was cut off: which of its values are whole, and where the last whole one ends.
 use Rattle.std.proofs.Common.{◌≡◌, ◌∙◌, sym, ap, subst, ℕ, List, [], ◌∷◌, ◌++◌, length, refl, arith, append_assoc, length-append, inl, inr}
-use Rattle.std.specs.Prelude.{◌⊎◌, ◌<◌, ◌^◌, IsTrue}
+use Rattle.std.specs.Prelude.{◌⊎◌, ◌+◌, ◌<◌, ◌^◌, IsTrue}
 use Rattle.std.specs.Prelude.{Bool, true, false}
-use Rattle.wincode_io.specs.Sources.{SourceState}
+use Rattle.wincode_io.specs.Readers.{ReaderState}
 use Rattle.wincode_io.specs.declared.error.ReadError.TheVariants as reader
 use Rattle.wincode_base.specs.declared.error.ReadError.{ReadError}
 use Rattle.wincode_base.specs.declared.error.ReadError.TheVariants as reading
+use Rattle.wincode_base.specs.declared.meta.TypeMeta.{TypeMeta}
+use Rattle.wincode_base.specs.Outcomes.{ReadTells}
 use Rattle.wincode_io.specs.Joins.{IsUnambiguous, Joined}
+use Rattle.wincode.specs.Messages.{HasNoBytes, NothingToRead}
 use Rattle.wincode_io.specs.JoinLaws.{cancel}
 
 -- The whole values in front of the bytes, and the rest, in front of which no value stands.
 pub record WholeFront {V : Type 0} (reads : List ℕ → V → Type 0) (bytes : List ℕ) (vs : List V) (rest : List ℕ) : Type 0 where
   pub front : List ℕ
-  pub joined : Joined (λ v x. reads x v) vs front
+  pub joined : Joined reads vs front
   pub joins : bytes ≡ front ++ rest
   pub ended : (a t : List ℕ) (v : V) → reads a v → rest ≡ a ++ t → ⊥
 
@@ -31,11 +34,12 @@ pub record WholePart {V : Type 0} (reads : List ℕ → V → Type 0) (bytes : L
   pub rest : List ℕ
   pub whole : WholeFront reads bytes values rest
   pub size : n ≡ length whole.front
-  pub of_log : (vs : List V) (all lost : List ℕ) → Joined (λ v x. reads x v) vs all → all ≡ bytes ++ lost → (left : List V) × (vs ≡ values ++ left)
+  pub of_log : (vs : List V) (all lost : List ℕ) → Joined reads vs all → all ≡ bytes ++ lost → (left : List V) × (vs ≡ values ++ left)
 
--- So of what comes of a source, where its bytes are known, as many as there can be at the most, and no encoding is empty.
-abbrev pub IsWholePart : {V : Type 0} → (List ℕ → V → Type 0) → SourceState → ℕ → Type 0
-IsWholePart {V} reads s n = IsTrue s.is_known → length s.coming < 2 ^ 64 → ((v : V) → reads [] v → ⊥) → WholePart reads s.coming n
+-- So of what a reader has behind so many bytes, where its bytes are known, all of them as many as there can be at the
+-- most, and no encoding is empty.
+abbrev pub IsWholePart : {V : Type 0} → (List ℕ → V → Type 0) → ℕ → ReaderState → ℕ → Type 0
+IsWholePart {V} reads position s n = IsTrue s.is_known → position + length s.rest < 2 ^ 64 → ((v : V) → reads [] v → ⊥) → WholePart reads s.rest n
 
 -- an error that says that no value is in front
 abbrev pub says_none : ReadError → Bool
@@ -43,6 +47,12 @@ says_none (reading.Io (reader.ReadSizeLimit n)) = true
 says_none (reading.Io e) = false
 says_none reading.OutOfMemory = false
 says_none e = true
+
+-- Why the whole part was not found: the source failed, as is told; memory was refused, or there are more than `u64::MAX`
+-- values; or the values have no bytes.
+abbrev pub WholeRefused : TypeMeta → ReaderState → ReaderState → ReadError → Type 0
+WholeRefused m old new e = ReadTells old new e
+    × ((HasNoBytes m × (new ≡ old) × NothingToRead e) ⊎ ((HasNoBytes m → ⊥) × (says_none e ≡ false)))
 
 -- of two beginnings of one text one begins the other
 align : (a b x y : List ℕ) → a ++ x ≡ b ++ y → ((z : List ℕ) × (b ≡ a ++ z) × (x ≡ z ++ y)) ⊎ ((c : ℕ) × (z : List ℕ) × (a ≡ b ++ (c ∷ z)))
@@ -72,7 +82,7 @@ module _ {V : Type 0} (reads : List ℕ → V → Type 0) (one : IsUnambiguous r
       omega (arith, m, n, k, length-append a t, length-append bytes (c ∷ z))
 
   -- Of any front of a log, exactly the whole values in it are in front, and the place behind the last of them is known.
-  pub cut : (vs : List V) (all bytes lost : List ℕ) → Joined (λ v x. reads x v) vs all → all ≡ bytes ++ lost → Cut reads vs bytes
+  pub cut : (vs : List V) (all bytes lost : List ℕ) → Joined reads vs all → all ≡ bytes ++ lost → Cut reads vs bytes
   cut [] all bytes lost j e =
       let none = nil_front bytes lost (sym j ∙ e) in
       record { done = []; left = []; parts = refl; rest = []; whole = record { front = []; joined = refl; joins = none; ended = λ a t v r q. some v (subst (λ b. reads b v) (nil_front a t q) r) } }

@@ -1,14 +1,16 @@
 -- What the next value of a source is.
-use Rattle.std.specs.Prelude.{◌≡◌, ℕ, ◌+◌, ◌<◌, ◌⊎◌, min, Bool, true, false, List, length, IsTrue, Option, Some, None, Result, Ok, Err, OnOk, IfOk, IfErr}
+use Rattle.std.specs.Prelude.{◌≡◌, ℕ, ◌+◌, ◌<◌, ◌⊎◌, min, Bool, true, false, List, length, codes, IsTrue, Option, Some, None, Result, Ok, Err, OnOk, IfOk, IfErr}
 use Rattle.std.specs.IoError.{error_kind}
 use Rattle.std.specs.declared.io.ErrorKind.TheVariants.{Other}
-use Rattle.wincode_io.specs.Readers.{ReaderState, Stays, BytesReadRefused}
+use Rattle.wincode_io.specs.Readers.{ReaderState, StaysSound, BytesReadRefused}
 use Rattle.wincode_io.specs.Sources.{SourceState}
 use Rattle.wincode_io.specs.Streams.{Streamed}
 use Rattle.wincode_io.specs.Writers.{byte_limit}
 use Rattle.wincode_io.specs.declared.error.ReadError.TheVariants as reader
 use Rattle.wincode_base.specs.Grammar.{ReadGrammar}
 use Rattle.wincode_base.specs.Outcomes.{Gives, SchemaReadRefused}
+use Rattle.wincode_base.specs.declared.meta.TypeMeta.{TypeMeta}
+use Rattle.wincode_base.specs.declared.meta.TypeMeta.TheVariants.{Static, Dynamic}
 use Rattle.wincode_base.specs.declared.error.ReadError.{ReadError}
 use Rattle.wincode_base.specs.declared.error.ReadError.TheVariants as reading
 
@@ -36,7 +38,21 @@ NotBegun old new _ = ⊥
 
 -- a byte was brought to hand, and reading was refused as the schema says
 abbrev pub Begun : {V : Type 0} → ReadGrammar V → ReaderState → ReaderState → ReadError → Type 0
-Begun g old new e = (mid : ReaderState) × Stays old mid × SchemaReadRefused g mid new e
+Begun g old new e = (mid : ReaderState) × StaysSound old mid × SchemaReadRefused g mid new e
+
+-- no value has a byte, by what is announced of their size
+abbrev pub HasNoBytes : TypeMeta → Type 0
+HasNoBytes Dynamic = ⊥
+HasNoBytes (Static s z) = s ≡ 0
+
+-- the text of why values without bytes are neither counted nor appended
+abbrev pub no_bytes : List ℕ
+no_bytes = codes "values without bytes, which no log has a number of"
+
+-- values without bytes are not looked for
+abbrev pub NothingToRead : ReadError → Type 0
+NothingToRead (reading.Custom text) = text.now ≡ no_bytes
+NothingToRead _ = ⊥
 
 -- Where a byte is left, the value in front was read, or refused as its schema says. Or the reader failed before.
 pub record NextOutcome {D V : Type 0} (g : ReadGrammar V) (model : D → V) (old new : ReaderState) (r : Result D ReadError) : Type 0 where

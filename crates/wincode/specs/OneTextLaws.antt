@@ -8,7 +8,7 @@ use Rattle.wincode_io.specs.Numbers.{le}
 use Rattle.wincode_io.specs.Writers.{byte_limit}
 use Rattle.wincode_base.specs.Arrays.{array_read}
 use Rattle.wincode_base.specs.Grammar.{ReadGrammar, ReadRefusal}
-use Rattle.wincode_base.specs.Bounds.{bound_tag, BoundReads, bound_part_read, bound_read}
+use Rattle.wincode_base.specs.Bounds.{bound_tag, IsBoundPart, bound_part_read, bound_read}
 use Rattle.wincode_base.specs.Boxed.{boxed_read}
 use Rattle.wincode_base.specs.CStrings.{IsText, bytes_seen, c_string_read, is_nul}
 use Rattle.wincode_base.specs.InWindow.{windowed_read}
@@ -19,7 +19,7 @@ use Rattle.wincode_base.specs.Made.{IsNot, IsSame, made_read}
 use Rattle.wincode.specs.OneText.{IsOneText}
 use Rattle.wincode_base.specs.Pairs.{pair_read}
 use Rattle.wincode_base.specs.Short.{short_read}
-use Rattle.wincode_base.specs.Tags.{tagged_read, option_tag, OptionReads, option_part_read, option_read, result_tag, SidesRead, sides_read, result_read}
+use Rattle.wincode_base.specs.Tags.{tagged_read, option_tag, IsOptionPart, option_part_read, option_read, result_tag, IsSidePart, sides_read, result_read}
 use Rattle.wincode_base.specs.Strings.{char_read, str_read}
 use Rattle.wincode_base.specs.Views.{form_read, lent_read}
 
@@ -58,8 +58,8 @@ pair_one_text one two = record { same = λ a b v p q. joined_same a b p.0 p.1 q.
 pub windowed_one_text : {V : Type 0} {g : ReadGrammar V} → IsOneText g → IsOneText (windowed_read g)
 windowed_one_text one = record { same = one.same }
 
-items_same : {V : Type 0} (g : ReadGrammar V) → IsOneText g → (vs : List V) (a b : List ℕ) → Joined (λ v t. g.reads t v) vs a
-    → Joined (λ v t. g.reads t v) vs b → a ≡ b
+items_same : {V : Type 0} (g : ReadGrammar V) → IsOneText g → (vs : List V) (a b : List ℕ) → Joined g.reads vs a
+    → Joined g.reads vs b → a ≡ b
 items_same g one [] a b p q = p ∙ sym q
 items_same g one (v ∷ vs) a b p q = joined_same a b p.0 p.1 q.0 q.1 p.4 q.4 (one.same p.0 q.0 v p.2 q.2) (items_same g one vs p.1 q.1 p.3 q.3)
 
@@ -92,7 +92,7 @@ pub tagged_one_text : {V : Type 0} {refusal : ReadRefusal} (k : ℕ) (tag : V �
     → IsOneText (tagged_read k tag refusal part)
 tagged_one_text k tag one = record { same = λ a b v p q. p.2 ∙ ap (λ t. le k (tag v) ++ t) (one.same p.0 q.0 v p.1 q.1) ∙ sym q.2 }
 
-option_same : {V : Type 0} (g : ReadGrammar V) → IsOneText g → (a b : List ℕ) (o : Option V) → OptionReads g.reads a o → OptionReads g.reads b o → a ≡ b
+option_same : {V : Type 0} (g : ReadGrammar V) → IsOneText g → (a b : List ℕ) (o : Option V) → IsOptionPart g.reads a o → IsOptionPart g.reads b o → a ≡ b
 option_same g one a b None p q = p ∙ sym q
 option_same g one a b (Some v) p q = one.same a b v p q
 
@@ -100,7 +100,7 @@ pub option_one_text : {V : Type 0} (k : ℕ) {g : ReadGrammar V} → IsOneText g
 option_one_text k {g = g} one = tagged_one_text k option_tag {part = option_part_read g} (record { same = option_same g one })
 
 sides_same : {V W : Type 0} (g : ReadGrammar V) (h : ReadGrammar W) → IsOneText g → IsOneText h
-    → (a b : List ℕ) (r : Result V W) → SidesRead g.reads h.reads a r → SidesRead g.reads h.reads b r → a ≡ b
+    → (a b : List ℕ) (r : Result V W) → IsSidePart g.reads h.reads a r → IsSidePart g.reads h.reads b r → a ≡ b
 sides_same g h one two a b (Ok v) p q = one.same a b v p q
 sides_same g h one two a b (Err w) p q = two.same a b w p q
 
@@ -111,7 +111,7 @@ sides_one_text {g = g} {h = h} one two = record { same = sides_same g h one two 
 pub result_one_text : {V W : Type 0} (k : ℕ) {g : ReadGrammar V} {h : ReadGrammar W} → IsOneText g → IsOneText h → IsOneText (result_read k g h)
 result_one_text k {g = g} {h = h} one two = tagged_one_text k result_tag {part = sides_read g h} (sides_one_text one two)
 
-bound_same : {V : Type 0} (g : ReadGrammar V) → IsOneText g → (a b : List ℕ) (o : Bound V) → BoundReads g.reads a o → BoundReads g.reads b o → a ≡ b
+bound_same : {V : Type 0} (g : ReadGrammar V) → IsOneText g → (a b : List ℕ) (o : Bound V) → IsBoundPart g.reads a o → IsBoundPart g.reads b o → a ≡ b
 bound_same g one a b Unbounded p q = p ∙ sym q
 bound_same g one a b (Included v) p q = one.same a b v p q
 bound_same g one a b (Excluded v) p q = one.same a b v p q

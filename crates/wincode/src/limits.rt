@@ -26,7 +26,8 @@ pub enum LimitError {
     /// Writing it is refused: what `serialize` answers.
     #[error(transparent)]
     Write(WriteError),
-    /// A length in it is past the limit by which it is read.
+    /// A length in it is past the limit by which it is read, or an address of a socket has a flow label or a scope, which
+    /// aren't written.
     #[error("a length is past the limit by which it is read")]
     PastLimit,
 }
@@ -52,7 +53,7 @@ pub trait Limited: SchemaWrite + Sized {
         false
     }
 
-    /// Whether each length in the value is within its limit.
+    /// Whether each length in the value is within its limit, and nothing of it is left out.
     fn is_within(src: &Self::Src) -> bool
         ensures within { IsTrue result → Self.SchemaWrite.is_valid src.now → Self.SchemaWrite.writing.fits (Self.SchemaWrite.model src.now) }
         ensures past { result ≡ false → Self.SchemaWrite.writing.fits (Self.SchemaWrite.model src.now) → ⊥ };

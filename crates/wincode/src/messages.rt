@@ -1,11 +1,11 @@
 //! The values of a source, one after another.
-ghost use Rattle.std.specs.Prelude.{◌≡◌, min, [], false, IsErrAnd, IfOk, IfErr, IfSome, IsSomeAnd, IsNone, IsTrue};
+ghost use Rattle.std.specs.Prelude.{◌≡◌, min, [], false, IsErrAnd, IfOk, IfErr, IfSome, IsSomeAnd, IsNone, IsTrue, ◌↔◌};
 ghost use Rattle.wincode_base.specs.declared.error.ReadError.TheVariants as reading;
-ghost use Rattle.wincode_io.specs.Readers.{Stays};
+ghost use Rattle.wincode_io.specs.Readers.{StaysSound};
 ghost use Rattle.wincode_io.specs.Streams.{stream_state};
 ghost use Rattle.wincode_io.specs.declared.error.ReadError.TheVariants as reader;
 ghost use Rattle.wincode_io.specs.Writers.{byte_limit};
-ghost use Rattle.wincode.specs.Messages.{Advances, NextOutcome, Remembers, RefusedAgain, is_failure};
+ghost use Rattle.wincode.specs.Messages.{Advances, HasNoBytes, NextOutcome, NothingToRead, Remembers, RefusedAgain, is_failure, no_bytes};
 
 use crate::io::{self, Lifetime, Reader, Source, StreamReader};
 use crate::markers::SchemaReadOwned;
@@ -14,10 +14,15 @@ use std::alloc::Global;
 use std::io::ErrorKind;
 use std::marker::{Model, PhantomData};
 use wincode_base::error::{ReadError, ReadResult};
+use wincode_base::meta::TypeMeta;
+
+/// Why values without bytes are neither counted nor appended.
+pub(crate) const NO_BYTES: &str = "values without bytes, which no log has a number of";
 
 /// The values of a source, one after another, to its end: those of a log or a snapshot file.
 ///
-/// `T` is their schema. To contracts it is the reader of the source, where in it the last whole value ended, whether a
+/// `T` is their schema. Where its values have no bytes, as `()`, the first call of `next` refuses them.
+/// To contracts it is the reader of the source, where in it the last whole value ended, whether a
 /// value was refused, and whether by a failure of the source.
 #[derive(Drop)]
 pub struct Messages<S: Source, T> {
@@ -99,15 +104,18 @@ impl<S: Source, T> Messages<S, T> {
 
 impl<S: Source, T: SchemaReadOwned<Lifetime<'static>>> Messages<S, T> {
     /// The next value; none exactly where no byte is left where it would begin. A value that is cut off is
-    /// an error, as `get` of its schema says, and so is a source that fails.
+    /// an error, as `get` of its schema says, and so is a source that fails. Of a schema whose values have no bytes, as
+    /// `()`, any number stands anywhere: it is `Custom`, and nothing is read.
     ///
     /// Behind an error nothing more is read, since the next value begins at no known place: each call is
     /// `Io(Io(e))` of kind Other behind a failure of the source, and else `Custom`. `into_reader` goes on.
     pub fn next(&mut self) -> Option<ReadResult<T::Dst>>
         ensures again { IsTrue self.old.is_refused → (self.new ≡ self.old) × IsSomeAnd result (λ r. IsErrAnd r (RefusedAgain self.old.has_failed)) }
-        ensures none { IsNone result → (self.new.is_refused ≡ false) × Stays (stream_state S.state self.old.reader) (stream_state S.state self.new.reader)
+        ensures none { IsNone result → (self.new.is_refused ≡ false) × StaysSound (stream_state S.state self.old.reader) (stream_state S.state self.new.reader)
             × (IsTrue (stream_state S.state self.old.reader).is_known → (stream_state S.state self.old.reader).rest ≡ []) }
-        ensures some { self.old.is_refused ≡ false → IfSome result (NextOutcome T.SchemaRead.reading T.SchemaRead.model
+        ensures empty { self.old.is_refused ≡ false → HasNoBytes T.SchemaRead.reading.meta
+            → IsSomeAnd result (λ r. IsErrAnd r NothingToRead) × (self.new.reader ≡ self.old.reader) }
+        ensures some { self.old.is_refused ≡ false → (HasNoBytes T.SchemaRead.reading.meta → ⊥) → IfSome result (NextOutcome T.SchemaRead.reading T.SchemaRead.model
             (stream_state S.state self.old.reader) (stream_state S.state self.new.reader)) }
         ensures remembered { IfSome result (Remembers self.new) }
         ensures position { Advances S.state T.SchemaRead.reading.reads T.SchemaRead.model self.old self.new result }
@@ -115,7 +123,11 @@ impl<S: Source, T: SchemaReadOwned<Lifetime<'static>>> Messages<S, T> {
         if self.is_refused {
             return Some(Err(refused_again(self.has_failed)));
         }
-        let next = next_of::<S, T>(self.alloc, &mut self.reader);
+        let next = if has_no_bytes(T::type_meta()) {
+            Some(Err(ReadError::Custom(NO_BYTES)))
+        } else {
+            next_of::<S, T>(self.alloc, &mut self.reader)
+        };
         match &next {
             Some(Ok(_)) => self.position = self.reader.position(),
             Some(Err(error)) => {
@@ -129,11 +141,11 @@ impl<S: Source, T: SchemaReadOwned<Lifetime<'static>>> Messages<S, T> {
 }
 
 /// The next value that the reader has; none where no byte is left.
-fn next_of<S: Source, T: SchemaReadOwned<Lifetime<'static>>>(
+pub(crate) fn next_of<S: Source, T: SchemaReadOwned<Lifetime<'static>>>(
     alloc: Global,
     reader: &mut StreamReader<S>,
 ) -> Option<ReadResult<T::Dst>>
-    ensures none { IsNone result → Stays (stream_state S.state reader.old) (stream_state S.state reader.new)
+    ensures none { IsNone result → StaysSound (stream_state S.state reader.old) (stream_state S.state reader.new)
         × (IsTrue (stream_state S.state reader.old).is_known → (stream_state S.state reader.old).rest ≡ []) }
     ensures some { IfSome result (NextOutcome T.SchemaRead.reading T.SchemaRead.model (stream_state S.state reader.old) (stream_state S.state reader.new)) }
 {
@@ -145,6 +157,13 @@ fn next_of<S: Source, T: SchemaReadOwned<Lifetime<'static>>>(
         return None;
     }
     Some(T::get(alloc, reader))
+}
+
+/// Whether no value has a byte, by what its schema announces of their size.
+pub(crate) fn has_no_bytes(meta: TypeMeta) -> bool
+    ensures { IsTrue result ↔ HasNoBytes meta }
+{
+    matches!(meta, TypeMeta::Static { size: 0, .. })
 }
 
 /// Whether a source failed.

@@ -1,6 +1,5 @@
 //! The calls that most programs make, as methods of every schema.
-ghost use Rattle.std.specs.Prelude.{◌≡◌, IfOk, IfErr, OnOk, OnErr};
-ghost use Rattle.wincode_base.specs.Outcomes.{Gives, Puts, ReadRefused};
+ghost use Rattle.wincode_base.specs.Outcomes.{GetOutcome, ReadOutcome};
 
 use crate::io::{Lending, Reader};
 use crate::markers::SchemaReadOwned;
@@ -14,9 +13,7 @@ pub trait DeserializeOwned<L: Lending>: SchemaReadOwned<L> {
     /// The value in front of what the reader has, of which exactly the rest is left. It is refused as
     /// `get` is, and never for a borrow.
     fn deserialize_from<R: Reader<L>>(alloc: Global, reader: &mut R) -> ReadResult<Self::Dst>
-        ensures ok { IfOk result (λ v. Gives Self.SchemaRead.reading.reads (R.state reader.old) (R.state reader.new) (Self.SchemaRead.model v)) }
-        ensures err { IfErr result (ReadRefused Self.SchemaRead.reading.reads 0 Self.SchemaRead.reading.takes_no_memory (R.state reader.old) (R.state reader.new)) }
-        ensures refused { IfErr result (Self.SchemaRead.reading.refused (R.state reader.old) (R.state reader.new)) };
+        ensures { GetOutcome (record Self.SchemaRead.reading { borrow = 0 }) Self.SchemaRead.model (R.state reader.old) (R.state reader.new) result };
 
     /// As `deserialize_from`, and puts the value into the destination. Refused, the destination is as it
     /// was.
@@ -25,10 +22,7 @@ pub trait DeserializeOwned<L: Lending>: SchemaReadOwned<L> {
         reader: &mut R,
         dst: &mut Option<Self::Dst>,
     ) -> ReadResult<()>
-        ensures ok { OnOk result (Puts Self.SchemaRead.reading.reads Self.SchemaRead.model (R.state reader.old) (R.state reader.new) dst.new) }
-        ensures err { IfErr result (ReadRefused Self.SchemaRead.reading.reads 0 Self.SchemaRead.reading.takes_no_memory (R.state reader.old) (R.state reader.new)) }
-        ensures refused { IfErr result (Self.SchemaRead.reading.refused (R.state reader.old) (R.state reader.new)) }
-        ensures same { OnErr result (dst.new ≡ dst.old) };
+        ensures { ReadOutcome (record Self.SchemaRead.reading { borrow = 0 }) Self.SchemaRead.model (R.state reader.old) (R.state reader.new) dst.old dst.new result };
 }
 
 impl<L: Lending, T: SchemaReadOwned<L>> DeserializeOwned<L> for T {

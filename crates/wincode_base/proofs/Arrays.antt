@@ -10,7 +10,7 @@ use Rattle.wincode_base.proofs.Items.{item_stopped}
 use Rattle.wincode_base.specs.Sequences.{gives_onward}
 use Rattle.wincode_base.specs.declared.error.ReadError.{ReadError}
 use Rattle.wincode_io.specs.Joins.{IsUnambiguous, AreItems}
-use Rattle.wincode_io.specs.PlaceLaws.{kept_trans, known_kept}
+use Rattle.wincode_io.specs.PlaceLaws.{kept_trans, known_kept, sound_trans}
 
 module _ {V : Type 0} (reads : List ℕ → V → Type 0) where
   -- an item and then the others
@@ -18,6 +18,7 @@ module _ {V : Type 0} (reads : List ℕ → V → Type 0) where
       → Gives (AreItems (suc i) reads) old new (v ∷ vs)
   item_and_items i old mid new v vs g h = record {
     kept = kept_trans g.kept h.kept;
+    sound = sound_trans g.sound h.sound;
     found = λ t. let f = g.found t in let k = h.found (known_kept g.kept t) in record {
       encoding = f.encoding ++ k.encoding;
       is_read = (ap suc k.is_read.0, (f.encoding, k.encoding, f.is_read, k.is_read.1, refl));

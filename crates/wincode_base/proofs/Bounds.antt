@@ -5,7 +5,7 @@ use Rattle.std.proofs.Common.{◌≡◌, ◌∙◌, sym, ap, ℕ, ◌≤◌, tru
 use Rattle.wincode_io.specs.Readers.{ReaderState}
 use Rattle.wincode_io.specs.Numbers.{le}
 use Rattle.wincode_io.specs.Writers.{WriterState, WriterLaws}
-use Rattle.wincode_base.specs.Bounds.{bound_tag, BoundReads, bound_part_read, bound_read, IfBound, BoundWrites, bound_size, BoundWriteRefused}
+use Rattle.wincode_base.specs.Bounds.{bound_tag, IsBoundPart, bound_part_read, bound_read, IfBound, bound_size, BoundWriteRefused}
 use Rattle.wincode_base.specs.Bounds.{bound_part_write, bound_write}
 use Rattle.wincode_base.specs.BoundLaws.{bound_small, bound_part_laws}
 use Rattle.wincode_base.specs.Grammar.{ReadGrammar, WriteGrammar, WriteLaws}
@@ -28,13 +28,13 @@ module _ {V : Type 0} (g : ReadGrammar V) (old mid new : ReaderState) (t : ℕ) 
 
   pub included_gives : (v : V) → t ≡ 1 → Gives g.reads mid new v → Gives (bound_read g).reads old new (Included v)
   included_gives v i s = tagged_gives 4 bound_tag bound_small (bound_part_read g) old mid new t (Included v) (sym i) r
-      (gives_map g.reads (BoundReads g.reads) mid new v (Included v) (λ b w. w) s)
+      (gives_map g.reads (IsBoundPart g.reads) mid new v (Included v) (λ b w. w) s)
 
   pub excluded_gives : (v : V) → t ≡ 2 → Gives g.reads mid new v → Gives (bound_read g).reads old new (Excluded v)
   excluded_gives v i s = tagged_gives 4 bound_tag bound_small (bound_part_read g) old mid new t (Excluded v) (sym i) r
-      (gives_map g.reads (BoundReads g.reads) mid new v (Excluded v) (λ b w. w) s)
+      (gives_map g.reads (IsBoundPart g.reads) mid new v (Excluded v) (λ b w. w) s)
 
-  of_value : 1 ≤ t → (b : List ℕ) (o : Bound V) → IsCase bound_tag (BoundReads g.reads) t b o → (v : V) × g.reads b v
+  of_value : 1 ≤ t → (b : List ℕ) (o : Bound V) → IsCase bound_tag (IsBoundPart g.reads) t b o → (v : V) × g.reads b v
   of_value l b Unbounded k = absurd (omega (arith, k.0, l))
   of_value l b (Included v) k = (v, k.1)
   of_value l b (Excluded v) k = (v, k.1)
@@ -43,7 +43,7 @@ module _ {V : Type 0} (g : ReadGrammar V) (old mid new : ReaderState) (t : ℕ) 
       → ReadRefused (bound_read g).reads g.borrow g.takes_no_memory old new e
   value_refused l e u =
       case_refused 4 bound_tag bound_small (bound_part_read g) g.borrow g.takes_no_memory old mid new t e (omega arith) (λ x. x) r
-      (refuses_map g.reads (IsCase bound_tag (BoundReads g.reads) t) g.borrow g.takes_no_memory mid new e (of_value l) u)
+      (refuses_map g.reads (IsCase bound_tag (IsBoundPart g.reads) t) g.borrow g.takes_no_memory mid new e (of_value l) u)
 
   no_bound : 3 ≤ t → (o : Bound V) → bound_tag o ≡ t → ⊥
   no_bound l Unbounded e = omega (arith, e, l)
@@ -55,7 +55,7 @@ module _ {V : Type 0} (g : ReadGrammar V) (old mid new : ReaderState) (t : ℕ) 
 
 -- ---- writing
 
-unbounded_texts : {V : Type 0} (g : WriteGrammar V) (b : List ℕ) → (number_write 4 true).writes 0 b → (bound_write g).writes Unbounded b
+unbounded_texts : {V : Type 0} (g : WriteGrammar V) (b : List ℕ) → (number_write 4 true).writes b 0 → (bound_write g).writes b Unbounded
 unbounded_texts g b w = ([], refl, w ∙ sym (append-nil (le 4 0)))
 
 module _ {S K : Type 0} {put : S → List ℕ → S} {room : S → ℕ} (laws : WriterLaws put room) where
@@ -80,13 +80,13 @@ module _ {S K : Type 0} {put : S → List ℕ → S} {room : S → ℕ} (laws : 
 
     -- behind the tag: what is written of the value is of the end
     module _ (v : V) {mid new : WriterState put room K} (r : Wrote (number_write 4 true) old mid (bound_tag o)) where
-      pub bound_wrote : (g.can v → IfBound g.can o) → bound_size g.size o ≡ g.size v → ((b : List ℕ) → g.writes v b → BoundWrites g.writes o b)
+      pub bound_wrote : (g.can v → IfBound g.can o) → bound_size g.size o ≡ g.size v → ((b : List ℕ) → g.writes b v → IsBoundPart g.writes b o)
           → Wrote g mid new v → Wrote (bound_write g) old new o
       bound_wrote can size texts s = tagged_wrote laws 4 bound_tag (bound_part_write g) (bound_part_laws p model g l) o r
           (wrote_map g (bound_part_write g) v o can size texts s)
 
       pub bound_unwritten : {e : WriteError} → (IfBound g.can o → g.can v) → bound_size g.size o ≡ g.size v
-          → ((b : List ℕ) → g.writes v b → BoundWrites g.writes o b) → WriteRefused g mid new v e → WriteRefused (bound_write g) old new o e
+          → ((b : List ℕ) → g.writes b v → IsBoundPart g.writes b o) → WriteRefused g mid new v e → WriteRefused (bound_write g) old new o e
       bound_unwritten can size texts u = part_unwritten laws 4 bound_tag (bound_part_write g) (bound_part_laws p model g l) o r
           (unwritten_map g (bound_part_write g) v o can size texts u)
 

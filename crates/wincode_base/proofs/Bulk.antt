@@ -7,8 +7,8 @@ use Rattle.wincode_io.specs.Bytes.{IsBytes}
 use Rattle.wincode_io.specs.Joins.{Joined, Each, total, AreItems}
 use Rattle.wincode_io.specs.Numbers.{le}
 use Rattle.wincode_io.specs.Places.{onward}
-use Rattle.wincode_io.specs.PlaceLaws.{kept_trans, known_kept, stays_onward}
-use Rattle.wincode_io.specs.Readers.{ReaderState, ReadRefusedFor, Stays, Loses, Takes, IsShown, IsShort}
+use Rattle.wincode_io.specs.PlaceLaws.{kept_trans, known_kept, sound_trans, stays_onward}
+use Rattle.wincode_io.specs.Readers.{ReaderState, BytesReadRefused, StaysSound, Loses, Takes, IsShown, IsShort}
 use Rattle.wincode_io.specs.Writers.{WriterState, WriterLaws, Added, BytesWriteRefused}
 use Rattle.wincode_base.specs.AsForms.{BulkReadRefused}
 use Rattle.wincode_base.specs.Grammar.{WriteGrammar}
@@ -32,26 +32,28 @@ went_well (Err x) e q = absurd (cc)
 -- ---- reading
 
 -- bytes that were shown, and then consumed
-pub shown_takes : (n : ℕ) (old mid new : ReaderState) (bytes : List ℕ) → length bytes ≡ n → IsShown n old bytes → Stays old mid → Loses n mid new
+pub shown_takes : (n : ℕ) (old mid new : ReaderState) (bytes : List ℕ) → length bytes ≡ n → IsShown n old bytes → StaysSound old mid → Loses n mid new
     → Takes n old new bytes
 shown_takes n old mid new bytes size shown stays loses = record {
   loses = record {
-    kept = kept_trans stays.kept loses.kept;
-    rest = λ t. subst (λ b. (n ≤ length b) × (b ≡ take n b ++ new.rest)) (stays.rest t) (loses.rest (known_kept stays.kept t));
-    ready = let a = stays.ready in let b = loses.ready in omega arith;
-    place = loses.place ∙ ap (onward n) stays.place;
+    kept = kept_trans stays.0.kept loses.kept;
+    rest = λ t. subst (λ b. (n ≤ length b) × (b ≡ take n b ++ new.rest)) (stays.0.rest t) (loses.rest (known_kept stays.0.kept t));
+    ready = let a = stays.0.ready in let b = loses.ready in omega arith;
+    place = loses.place ∙ ap (onward n) stays.0.place;
+    sound = sound_trans stays.1 loses.sound;
   };
   size = size;
   front = λ t. shown.1 t;
 }
 
 -- memory was refused before anything was taken
-pub wanted_refuses : {V : Type 0} (reads : List ℕ → V → Type 0) (borrow : ℕ) (old new : ReaderState) → Stays old new
+pub wanted_refuses : {V : Type 0} (reads : List ℕ → V → Type 0) (borrow : ℕ) (old new : ReaderState) → StaysSound old new
     → ReadRefused reads borrow false old new reading.OutOfMemory
 wanted_refuses reads borrow old new s = record {
-  kept = s.kept;
-  left = λ t. record { front = []; joins = sym (s.rest t) };
-  place = stays_onward old new s;
+  kept = s.0.kept;
+  left = λ t. record { front = []; joins = sym (s.0.rest t) };
+  place = stays_onward old new s.0;
+  device = s.1;
   due = none_spared new.never_fails;
 }
 
@@ -60,7 +62,7 @@ unfolding le
 byte_encoding v small = ap (λ b. b ∷ []) (omega arith)
 
 -- bytes are the encodings of as many numbers of one byte
-bytes_read : (bytes : List ℕ) → IsBytes bytes → Joined (λ v t. (number_read 1 true).reads t v) bytes bytes
+bytes_read : (bytes : List ℕ) → IsBytes bytes → Joined (number_read 1 true).reads bytes bytes
 bytes_read [] all = refl
 bytes_read (b ∷ bytes) all =
     let small : b < 256 = All-head (λ x. x < 256) b bytes all in
@@ -69,7 +71,7 @@ bytes_read (b ∷ bytes) all =
 bytes_sized : (n : ℕ) (b vs : List ℕ) → AreItems n (number_read 1 true).reads b vs → length b ≡ n
 unfolding le
 bytes_sized n b vs r = sized vs b r.1 ∙ r.0 where
-  sized : (vs b : List ℕ) → Joined (λ v t. (number_read 1 true).reads t v) vs b → length b ≡ length vs
+  sized : (vs b : List ℕ) → Joined (number_read 1 true).reads vs b → length b ≡ length vs
   sized [] b j = ap length j
   sized (v ∷ vs) b j = ap length j.4 ∙ ap (λ x. length (x ++ j.1)) j.2.1 ∙ ap suc (sized vs j.1 j.3)
 
@@ -77,7 +79,7 @@ pub mapped : {X : Type 0} (xs : List X) → map (λ v. v) xs ≡ xs
 mapped [] = refl
 mapped (x ∷ xs) = ap (λ ys. x ∷ ys) (mapped xs)
 
-pub bytes_added : (n : ℕ) (old mid new : ReaderState) (bytes before after : List ℕ) → AreSmall bytes → length bytes ≡ n → IsShown n old bytes → Stays old mid
+pub bytes_added : (n : ℕ) (old mid new : ReaderState) (bytes before after : List ℕ) → AreSmall bytes → length bytes ≡ n → IsShown n old bytes → StaysSound old mid
     → Loses n mid new
     → after ≡ before ++ bytes → Adds n (number_read 1 true).reads (λ v. v) old new before after
 bytes_added n old mid new bytes before after small size shown stays loses e = record {
@@ -88,19 +90,19 @@ bytes_added n old mid new bytes before after small size shown stays loses e = re
       (size, bytes_read bytes (are_bytes bytes small)));
 }
 
-pub bytes_refused : (n : ℕ) (old new : ReaderState) (e : IoReadError) → Stays old new → ReadRefusedFor (IsShort n old) ⊥ n new e
+pub bytes_refused : (n : ℕ) (old new : ReaderState) (e : IoReadError) → BytesReadRefused (IsShort n old) ⊥ n old new e
     → ReadRefused (AreItems n (number_read 1 true).reads) 0 false old new (reading.Io e)
-bytes_refused n old new e s d = denied_refuses (AreItems n (number_read 1 true).reads) n (bytes_sized n) 0 false old new (reading.Io e) (s, d)
+bytes_refused n old new e d = denied_refuses (AreItems n (number_read 1 true).reads) n (bytes_sized n) 0 false old new (reading.Io e) d
 
 -- at once they were refused by the reader
-pub bytes_denied : (n : ℕ) (old new : ReaderState) (e : IoReadError) → Stays old new → ReadRefusedFor (IsShort n old) ⊥ n new e
+pub bytes_denied : (n : ℕ) (old new : ReaderState) (e : IoReadError) → BytesReadRefused (IsShort n old) ⊥ n old new e
     → BulkReadRefused (n * 1) old new (reading.Io e)
-bytes_denied n old new e s d =
+bytes_denied n old new e d =
     let one : n ≡ n * 1 = omega arith in
-    subst (λ k. BulkReadRefused k old new (reading.Io e)) one (s, d)
+    subst (λ k. BulkReadRefused k old new (reading.Io e)) one d
 
 -- at once they are there, and memory for them was refused
-pub bytes_wanted : (n : ℕ) (old new : ReaderState) (bytes : List ℕ) → Stays old new → length bytes ≡ n → IsShown n old bytes
+pub bytes_wanted : (n : ℕ) (old new : ReaderState) (bytes : List ℕ) → StaysSound old new → length bytes ≡ n → IsShown n old bytes
     → BulkReadRefused (n * 1) old new reading.OutOfMemory
 bytes_wanted n old new bytes s size shown = (s, λ known. omega (arith, size, ap length (shown.1 known), length-take n old.rest))
 

@@ -21,7 +21,7 @@ module _ {V : Type 0} (reads : List ℕ → V → Type 0) where
     front = so.front ++ next;
     are = (
       length-append vs (v ∷ []) ∙ ap (λ k. k + 1) so.are.0,
-      joined_append (λ w x. reads x w) vs (v ∷ []) so.front next so.are.1 (next, [], r, refl, sym (append-nil next)),
+      joined_append reads vs (v ∷ []) so.front next so.are.1 (next, [], r, refl, sym (append-nil next)),
     );
     joins = so.joins ∙ ap (λ t. so.front ++ t) (sym (ap (λ t. t ++ left) is_next ∙ ap (λ t. take size rest ++ t) is_left ∙ take-append-drop size rest))
         ∙ sym (append_assoc so.front next left);
@@ -30,7 +30,7 @@ module _ {V : Type 0} (reads : List ℕ → V → Type 0) where
   read_all_of : (bytes rest : List ℕ) (i n : ℕ) (vs : List V) → ReadSoFar reads bytes rest i vs → i ≡ n → length rest ≡ 0 → AreItems n reads bytes vs
   read_all_of bytes rest i n vs so e none = (
     so.are.0 ∙ e,
-    subst (Joined (λ w x. reads x w) vs)
+    subst (Joined reads vs)
         (sym (so.joins ∙ ap (λ t. so.front ++ t) (nothing rest none) ∙ append-nil so.front)) so.are.1,
   ) where
     nothing : (t : List ℕ) → length t ≡ 0 → t ≡ []

@@ -12,7 +12,7 @@ map_values see value s zero b = refl
 map_values see value s (suc n) b = ap (λ xs. see (value (take s b)) ∷ xs) (map_values see value s n (drop s b))
 
 module _ {V : Type 0} (reads : List ℕ → V → Type 0) (value : List ℕ → V) (s : ℕ) (one : (b : List ℕ) → IsBytes b → length b ≡ s → reads b (value b)) where
-  joined : (n : ℕ) (b : List ℕ) → IsBytes b → length b ≡ n * s → Joined (λ v t. reads t v) (values value s n b) b
+  joined : (n : ℕ) (b : List ℕ) → IsBytes b → length b ≡ n * s → Joined reads (values value s n b) b
   unfolding values
   joined zero b all long = nil_from_length b (omega (arith, long))
   joined (suc n) b all long = (

@@ -9,9 +9,9 @@ use Rattle.wincode_io.specs.Forms.{IsByteForm, values}
 use Rattle.wincode_io.specs.FormCalls.{FormWriteRefused}
 use Rattle.wincode_io.specs.JoinedForms.{length-joined, length-values, All-values, joined-values}
 use Rattle.wincode_io.specs.Joins.{Joined, Each, total, AreItems}
-use Rattle.wincode_io.specs.PlaceLaws.{still}
-use Rattle.wincode_io.specs.Readers.{ReaderState, ReadRefusedFor, Stays, Loses, IsShown, IsShort}
-use Rattle.wincode_io.specs.Writers.{WriterState, WriterLaws, Added, IsUnmoved, WriteRefusedFor, BytesWriteRefused, byte_limit}
+use Rattle.wincode_io.specs.PlaceLaws.{still, sound_refl}
+use Rattle.wincode_io.specs.Readers.{ReaderState, BytesReadRefused, StaysSound, Loses, IsShown, IsShort}
+use Rattle.wincode_io.specs.Writers.{WriterState, WriterLaws, Added, IsUnmoved, IsSoundWriter, WriterTells, WriteRefusedFor, BytesWriteRefused, byte_limit}
 use Rattle.wincode_base.specs.AsForms.{reads_form, writes_form}
 use Rattle.wincode_base.specs.Grammar.{WriteGrammar}
 use Rattle.wincode_base.specs.Lists.{items_write, ItemsWriteRefused}
@@ -35,7 +35,7 @@ module _ {X : Type 0} {is_valid : X → Type 0} {s : ℕ} {form : X → List ℕ
   abbrev reads : List ℕ → X → Type 0
   reads = reads_form is_valid form
 
-  are_joined : (vs : List X) → All is_valid vs → Joined (λ v t. reads t v) vs (flat_map form vs)
+  are_joined : (vs : List X) → All is_valid vs → Joined reads vs (flat_map form vs)
   are_joined [] all = refl
   are_joined (v ∷ vs) all = (form v, flat_map form vs, (All-head is_valid v vs all, refl), are_joined vs (All-tail is_valid v vs all), refl)
 
@@ -43,18 +43,18 @@ module _ {X : Type 0} {is_valid : X → Type 0} {s : ℕ} {form : X → List ℕ
   forms_read n bytes all size =
       let vs = values value s n bytes in
       let joined = are_joined vs (All-values value s is_valid law.valid_value n bytes all size) in
-      (length-values value s n bytes, subst (λ b. Joined (λ v t. reads t v) vs b) (joined-values value s form law.form_value n bytes all size) joined)
+      (length-values value s n bytes, subst (λ b. Joined reads vs b) (joined-values value s form law.form_value n bytes all size) joined)
 
   pub forms_sized : (n : ℕ) (b : List ℕ) (vs : List X) → AreItems n reads b vs → length b ≡ n * s
   forms_sized n b vs r = sized vs b r.1 ∙ ap (λ m. m * s) r.0 where
-    sized : (vs : List X) (b : List ℕ) → Joined (λ v t. reads t v) vs b → length b ≡ length vs * s
+    sized : (vs : List X) (b : List ℕ) → Joined reads vs b → length b ≡ length vs * s
     sized [] b j = ap length j ∙ omega arith
     sized (v ∷ vs) b j =
         let here : length j.0 ≡ s = ap length j.2.1 ∙ law.long v j.2.0 in
         ap length j.4 ∙ length-append j.0 j.1 ∙ omega (arith, here, sized vs j.1 j.3)
 
   pub forms_added : (n : ℕ) (old mid new : ReaderState) (bytes : List ℕ) (before after : List X) → IsBytes bytes → length bytes ≡ n * s
-      → IsShown (n * s) old bytes → Stays old mid → Loses (n * s) mid new
+      → IsShown (n * s) old bytes → StaysSound old mid → Loses (n * s) mid new
       → after ≡ before ++ values value s n bytes → Adds n reads (λ v. v) old new before after
   forms_added n old mid new bytes before after all size shown stays loses e = let vs = values value s n bytes in record {
     items = vs;
@@ -63,15 +63,16 @@ module _ {X : Type 0} {is_valid : X → Type 0} {s : ℕ} {form : X → List ℕ
         (takes_gives (AreItems n reads) (n * s) old new bytes vs (shown_takes (n * s) old mid new bytes size shown stays loses) (forms_read n bytes all size));
   }
 
-  pub forms_refused : (n : ℕ) (old new : ReaderState) (e : IoReadError) → Stays old new → ReadRefusedFor (IsShort (n * s) old) ⊥ (n * s) new e
+  pub forms_refused : (n : ℕ) (old new : ReaderState) (e : IoReadError) → BytesReadRefused (IsShort (n * s) old) ⊥ (n * s) old new e
       → ReadRefused (AreItems n reads) 0 false old new (reading.Io e)
-  forms_refused n old new e stays d = denied_refuses (AreItems n reads) (n * s) (forms_sized n) 0 false old new (reading.Io e) (stays, d)
+  forms_refused n old new e d = denied_refuses (AreItems n reads) (n * s) (forms_sized n) 0 false old new (reading.Io e) d
 
   pub forms_vast : (n : ℕ) (old : ReaderState) (t : _) → byte_limit < n * s → ReadRefused (AreItems n reads) 0 false old old (reading.LengthEncodingOverflow t)
   forms_vast n old t vast = record {
     kept = record { lends = refl; never_fails = refl; counts_windows = refl; is_known = refl };
     left = λ told. record { front = []; joins = refl };
     place = λ told. still old;
+    device = sound_refl old;
     due = λ a. let f = a.front.found in absurd (omega (
       arith,
       vast,
@@ -97,6 +98,7 @@ module _ {X : Type 0} {is_valid : X → Type 0} {s : ℕ} {form : X → List ℕ
     kept = record { lends = refl; never_fails = refl; counts_windows = refl; is_known = refl };
     left = λ told. record { front = []; joins = refl };
     place = λ told. still old;
+    device = sound_refl old;
     due = λ a. let f = a.front.found in absurd (omega (
       arith,
       vast,
@@ -118,8 +120,8 @@ all_each P (x ∷ xs) all = (All-head P x xs all, all_each P xs (All-tail P x xs
 pub record WritesForms {X V : Type 0} (is_valid : X → Type 0) (s : ℕ) (form : X → List ℕ) (model : X → V) (g : WriteGrammar V) : Type 0 where
   pub can : (v : X) → g.can (model v)
   pub size : (v : X) → g.size (model v) ≡ s
-  pub has_encoding : (v : X) → (b : List ℕ) × g.writes (model v) b
-  pub is_encoding : (v : X) → is_valid v → g.writes (model v) (form v)
+  pub has_encoding : (v : X) → (b : List ℕ) × g.writes b (model v)
+  pub is_encoding : (v : X) → is_valid v → g.writes (form v) (model v)
 
 pub form_writes : {X : Type 0} (is_valid : X → Type 0) (s : ℕ) (form : X → List ℕ) → WritesForms is_valid s form (λ v. v) (writes_form s form)
 form_writes is_valid s form = record { can = λ v. tt; size = λ v. refl; has_encoding = λ v. (form v, refl); is_encoding = λ v p. refl }
@@ -171,9 +173,9 @@ module _ {X V : Type 0} {is_valid : X → Type 0} {s : ℕ} {form : X → List �
     due writer.OutOfMemory d = d
 
     -- nothing was written
-    none : WriterLaws put room → IsUnmoved old new → (e : IoWriteError) → WriterDue Able new e
+    none : WriterLaws put room → IsUnmoved old new → (e : IoWriteError) → WriterTells old new e → WriterDue Able new e
         → WriteRefused (items_write g) old new (map model vs) (writing.Io e)
-    none laws unmoved e d = let encoding = has_encoding vs in record {
+    none laws unmoved e device d = let encoding = has_encoding vs in record {
       same = unmoved.same;
       began = λ c. record {
         front = [];
@@ -183,23 +185,24 @@ module _ {X V : Type 0} {is_valid : X → Type 0} {s : ℕ} {form : X → List �
         added =
             unmoved.content ∙ sym (laws.nil old.content);
       };
+      device = device;
       due = d;
     }
 
     pub forms_unwritten : WriterLaws put room → (e : IoWriteError) → (length vs * s ≤ byte_limit → BytesWriteRefused (length vs * s) old new e)
-        → (byte_limit < length vs * s → (e ≡ writer.WriteSizeLimit byte_limit) × IsUnmoved old new)
+        → (byte_limit < length vs * s → (e ≡ writer.WriteSizeLimit byte_limit) × IsUnmoved old new × IsSoundWriter old new)
         → WriteRefused (items_write g) old new (map model vs) (writing.Io e)
     forms_unwritten laws e refused vast = elim (cases_lt byte_limit (length vs * s)) [
       | inl over ↦
           let v = vast over in
           let d : WriterDue Able new (writer.WriteSizeLimit byte_limit) = λ able. let fits = able.1 in omega (arith, sizes vs, over) in
-          none laws v.1 e (subst (λ x. WriterDue Able new x) (sym v.0) d)
-      | inr within ↦ let r = refused within in none laws r.0 e (due e r.1)
+          none laws v.1 e (subst (λ x. WriterTells old new x) (sym v.0) v.2) (subst (λ x. WriterDue Able new x) (sym v.0) d)
+      | inr within ↦ let r = refused within in none laws r.0 e r.1 (due e r.2)
     ]
 
     -- at once they were refused: nothing was added, by a piece of all their bytes, or by one past `usize::MAX`
     pub forms_halted : WriterLaws put room → (e : IoWriteError) → (length vs * s ≤ byte_limit → BytesWriteRefused (length vs * s) old new e)
-        → (byte_limit < length vs * s → (e ≡ writer.WriteSizeLimit byte_limit) × IsUnmoved old new)
+        → (byte_limit < length vs * s → (e ≡ writer.WriteSizeLimit byte_limit) × IsUnmoved old new × IsSoundWriter old new)
         → (AtOnce (length vs * s) (room old.content) e → ItemsWriteRefused g (map model vs) (room old.content) [] (writing.Io e))
         → Stopped (items_write g) old new (map model vs) (writing.Io e)
     forms_halted laws e refused vast so = elim (cases_lt byte_limit (length vs * s)) [
@@ -229,17 +232,18 @@ pods_refused is_valid s form any prealloc (v ∷ vs) room e some (inr d) = λ dy
 -- of so many bytes at once the writer refused all, and holds what it held
 pub at_once : {S K : Type 0} {put : S → List ℕ → S} {room : S → ℕ} (n : ℕ) (old new : WriterState put room K) (e : IoWriteError)
     → (n ≤ byte_limit → BytesWriteRefused n old new e)
-    → (byte_limit < n → (e ≡ writer.WriteSizeLimit byte_limit) × IsUnmoved old new) → FormWriteRefused n old new e
+    → (byte_limit < n → (e ≡ writer.WriteSizeLimit byte_limit) × IsUnmoved old new × IsSoundWriter old new) → FormWriteRefused n old new e
 at_once {S} {K} {put = put} {room = room} n old new e refused vast = elim (cases_lt byte_limit n) [
   | inl over ↦
       let v = vast over in
       let most : byte_limit ≡ min n byte_limit = omega arith in
       let Q : IoWriteError → Type 0 = λ x. WriteRefusedFor (room old.content ≤ byte_limit → room old.content < n) (min n byte_limit) new x in
-      (v.1, subst Q (sym v.0) ((λ few. omega (arith, few, over)), most))
+      let T : IoWriteError → Type 0 = λ x. WriterTells old new x in
+      (v.1, subst T (sym v.0) v.2, subst Q (sym v.0) ((λ few. omega (arith, few, over)), most))
   | inr within ↦
       let r = refused within in
       let least : n ≡ min n byte_limit = omega arith in
-      (r.0, by new e least r.1)
+      (r.0, r.1, by new e least r.2)
 ] where
   by : (new : WriterState put room K) (e : IoWriteError) → n ≡ min n byte_limit → WriteRefusedFor (room old.content < n) n new e
       → WriteRefusedFor (room old.content ≤ byte_limit → room old.content < n) (min n byte_limit) new e

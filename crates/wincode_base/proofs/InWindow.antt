@@ -1,7 +1,7 @@
 -- What is read from, or written to, a window of the right size is read from, or written to, what is below.
 use Rattle.std.proofs.Common.{◌≡◌, ◌∙◌, sym, subst, ℕ, ◌<◌, ◌&&◌, not, Bool, true, false, List, [], ◌++◌, length, refl, arith, append-nil, IsTrue}
 use Rattle.std.proofs.Common.{inl, inr, ◌-◌, ap}
-use Rattle.wincode_io.specs.Readers.{ReaderState, Windowed, is_steady}
+use Rattle.wincode_io.specs.Readers.{ReaderState, Windowed, IsSound, is_steady}
 use Rattle.wincode_io.specs.PlaceLaws.{loses_onward}
 use Rattle.wincode_io.specs.Writers.{WriterState, WriterLaws, BytesWriteRefused}
 use Rattle.wincode_base.specs.Grammar.{ReadRefusal, WriteGrammar, WriteLaws, IsReadStatic, IsWriteStatic}
@@ -9,7 +9,7 @@ use Rattle.wincode_base.specs.LeafLaws.{same_front}
 use Rattle.wincode_base.specs.InWindow.{WindowWriteRefused, windowed_write, WindowReadRefused, StaticReadRefused}
 use Rattle.wincode_base.specs.Lists.{item_write, items_write, ItemsWriteRefused}
 use Rattle.wincode_base.specs.WriteSequences.{wrote_map, unwritten_map, stopped_map, nothing_stopped, piece_denied}
-use Rattle.wincode_base.specs.Outcomes.{ReadDue, ReaderDue, Accepts, ReadRefused, Wrote, WriteRefused, Stopped, WriterDue, IsAble, Gives}
+use Rattle.wincode_base.specs.Outcomes.{ReadDue, ReaderDue, ReadTells, Accepts, ReadRefused, Wrote, WriteRefused, Stopped, WriterDue, IsAble, Gives}
 use Rattle.wincode_base.specs.declared.meta.TypeMeta.{TypeMeta}
 use Rattle.wincode_base.specs.declared.meta.TypeMeta.TheVariants.{Static, Dynamic}
 use Rattle.wincode_base.specs.declared.error.ReadError.{ReadError}
@@ -51,6 +51,15 @@ due_inside f f' borrow takes_no_memory inner outer m l s c (reading.Io e) d = re
 due_inside f f' borrow takes_no_memory inner outer m l s c reading.OutOfMemory d = no_memory_alone inner.never_fails outer.never_fails takes_no_memory s d
 due_inside f f' borrow takes_no_memory inner outer m l s c _ d = λ x. d (m x)
 
+-- what is refused inside a window, which has no device, tells that the device did not fail
+window_tells : (f : Type 0) (borrow : ℕ) (takes_no_memory : Bool) (old new inner : ReaderState) (e : ReadError) → inner.never_fails ≡ true → IsSound old new
+    → ReadDue f borrow takes_no_memory inner e → ReadTells old new e
+window_tells f borrow takes_no_memory old new inner (reading.Io (reader.ReadSizeLimit n)) never sound d = sound
+window_tells f borrow takes_no_memory old new inner (reading.Io reader.UnsupportedZeroCopy) never sound d = sound
+window_tells f borrow takes_no_memory old new inner (reading.Io reader.OutOfMemory) never sound d = sound
+window_tells f borrow takes_no_memory old new inner (reading.Io (reader.Io e)) never sound d = let h : true ≡ false = sym never ∙ d.0 in absurd (cc)
+window_tells f borrow takes_no_memory old new inner _ never sound d = sound
+
 -- reading by a relation whose encodings have n bytes
 module _ {V : Type 0} (reads : List ℕ → V → Type 0) (n : ℕ) (sized : (b : List ℕ) (v : V) → reads b v → length b ≡ n) where
   -- a front of the reader is all of the window
@@ -75,6 +84,7 @@ module _ {V : Type 0} (reads : List ℕ → V → Type 0) (n : ℕ) (sized : (b 
   pub window_gives : (old new window after : ReaderState) (v : V) → Windowed n old new window → Gives reads window after v → Gives reads old new v
   window_gives old new window after v w r = record {
     kept = w.takes.loses.kept;
+    sound = w.takes.loses.sound;
     found = λ k.
         let told : IsTrue window.is_known = w.is_known in
         let f = r.found told in
@@ -90,6 +100,7 @@ module _ {V : Type 0} (reads : List ℕ → V → Type 0) (n : ℕ) (sized : (b 
     kept = w.takes.loses.kept;
     left = λ t. record { front = window.rest; joins = takes_joins w.takes t };
     place = loses_onward n old new w.takes.loses;
+    device = window_tells (Accepts reads window) borrow takes_no_memory old new after e (r.kept.never_fails ∙ w.never_fails) w.takes.loses.sound r.due;
     due = due_inside (Accepts reads window) (Accepts reads old) borrow takes_no_memory after new (narrow old new window w)
         (r.kept.lends ∙ w.lends ∙ sym w.takes.loses.kept.lends) (r.kept.never_fails ∙ w.never_fails)
         (r.kept.counts_windows ∙ w.counts_windows ∙ sym w.takes.loses.kept.counts_windows) e r.due;
@@ -115,9 +126,9 @@ written_size is_valid model can size m s z l e = let h = subst (IsWriteStatic is
 
 module _ {S K V : Type 0} {put : S → List ℕ → S} {room : S → ℕ} (g : WriteGrammar V) (v : V) (n : ℕ) (sized : g.can v → g.size v ≡ n) where
   room_due : (old new : WriterState put room K) (e : IoWriteError) → BytesWriteRefused n old new e → WriterDue (IsAble g old v) new e
-  room_due old new (writer.WriteSizeLimit m) d = λ x. let k = d.1.0 in let s = sized x.0 in let f = x.1 in absurd (omega arith)
-  room_due old new (writer.Io e) d = d.1
-  room_due old new writer.OutOfMemory d = d.1
+  room_due old new (writer.WriteSizeLimit m) d = λ x. let k = d.2.0 in let s = sized x.0 in let f = x.1 in absurd (omega arith)
+  room_due old new (writer.Io e) d = d.2
+  room_due old new writer.OutOfMemory d = d.2
 
   -- room for n bytes was refused
   pub room_unwritten : {X : Type 0} (is_valid : X → Type 0) (model : X → V) → WriterLaws put room → WriteLaws is_valid model g
@@ -133,6 +144,7 @@ module _ {S K V : Type 0} {put : S → List ℕ → S} {room : S → ℕ} (g : W
       added =
           d.0.content ∙ sym (laws.nil old.content);
     };
+    device = d.1;
     due = room_due old new e d;
   }
 

@@ -7,7 +7,7 @@ use Rattle.wincode_io.specs.Bytes.{IsBytes}
 use Rattle.wincode_io.specs.Numbers.{le}
 use Rattle.wincode_io.specs.NumberLaws.{le-from_le_bytes, from_le_bytes-worth, worth_below, to_le_bytes-le, length-le}
 use Rattle.wincode_io.specs.Readers.{ReaderState, Takes, TakesNumber}
-use Rattle.wincode_io.specs.PlaceLaws.{still, loses_onward}
+use Rattle.wincode_io.specs.PlaceLaws.{sound_refl, still, loses_onward}
 use Rattle.wincode_io.specs.Writers.{WriterState, WriterLaws, Added, BytesWriteRefused}
 use Rattle.wincode_base.specs.Leaves.{number_read, number_write, signed_read, signed_write, bool_byte, bool_read, unit_read}
 use Rattle.wincode_base.specs.LeafLaws.{signed_of, as_unsigned}
@@ -135,6 +135,7 @@ module _ {S K : Type 0} {put : S → List ℕ → S} {room : S → ℕ} (w : Wid
 pub unit_puts : {X : Type 0} (s : ReaderState) (x : X) → Puts unit_read.reads (λ _. tt) s s (Some x)
 unit_puts s x = record {
   kept = record { lends = refl; never_fails = refl; counts_windows = refl; is_known = refl };
+  sound = sound_refl s;
   found =
       λ t. record { encoding = []; is_read = refl; joins = refl };
   place = λ t. still s;
@@ -170,6 +171,7 @@ bool_refuses old new v big t =
       kept = t.loses.kept;
       left = λ told. record { front = v ∷ []; joins = takes_joins t told };
       place = loses_onward 1 old new t.loses;
+      device = t.loses.sound;
       due =
           not_bool old new v big t;
     }

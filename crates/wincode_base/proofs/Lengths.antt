@@ -48,6 +48,7 @@ module _ (limit p : ℕ) where
     kept = t.1.loses.kept;
     left = λ told. record { front = le 8 n; joins = takes_joins t.1 told };
     place = loses_onward 8 old new t.1.loses;
+    device = t.1.loses.sound;
     due = none_accepted old new n t over;
   }
 

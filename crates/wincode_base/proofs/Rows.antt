@@ -62,7 +62,7 @@ nested_reads = (
   ),
 )
 
-pub nested_writes : (list_write (bincode limit) 24 numbers_write).writes nested nested_encoding
+pub nested_writes : (list_write (bincode limit) 24 numbers_write).writes nested_encoding nested
 unfolding le
 nested_writes = (
   2 ∷ zeros,
@@ -127,11 +127,11 @@ pub error_reads : (result_read 4 (number_read 1 true) (number_read 1 true)).read
 unfolding le
 error_reads = (9 ∷ [], (lit< tt, refl), refl)
 
-pub some_writes : (option_write 1 (number_write 1 true)).writes (Some 7) (1 ∷ 7 ∷ [])
+pub some_writes : (option_write 1 (number_write 1 true)).writes (1 ∷ 7 ∷ []) (Some 7)
 unfolding le
 some_writes = (7 ∷ [], refl, refl)
 
-pub error_writes : (result_write 4 (number_write 1 true) (number_write 1 true)).writes (Err 9) (1 ∷ 0 ∷ 0 ∷ 0 ∷ 9 ∷ [])
+pub error_writes : (result_write 4 (number_write 1 true) (number_write 1 true)).writes (1 ∷ 0 ∷ 0 ∷ 0 ∷ 9 ∷ []) (Err 9)
 unfolding le
 error_writes = (9 ∷ [], refl, refl)
 
@@ -144,7 +144,7 @@ pub error_behind_two : (result_read 2 (number_read 2 true) (number_read 2 true))
 unfolding le
 error_behind_two = (5 ∷ 0 ∷ [], (lit< tt, refl), refl)
 
-pub tag_of_two_bytes : (number_write 2 true).writes 300 (44 ∷ 1 ∷ [])
+pub tag_of_two_bytes : (number_write 2 true).writes (44 ∷ 1 ∷ []) 300
 unfolding le
 tag_of_two_bytes = refl
 

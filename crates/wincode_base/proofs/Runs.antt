@@ -7,19 +7,20 @@ use Rattle.std.specs.Borrow.{GName}
 use Rattle.std.proofs.lemmas.Bool.{lt-ltb, ltb-true}
 use Rattle.std.proofs.lemmas.Option.{cond_some}
 use Rattle.wincode_io.specs.Joins.{Joined, Each, total, AreItems}
-use Rattle.wincode_io.specs.PlaceLaws.{still, loses_onward}
+use Rattle.wincode_io.specs.PlaceLaws.{still, sound_refl, loses_onward}
 use Rattle.wincode_io.specs.Readers.{ReaderState, Windowed, Stays}
-use Rattle.wincode_io.specs.Writers.{WriterState, WriterLaws, IsSameWriter, HasRoom, BytesWriteRefused}
+use Rattle.wincode_io.specs.Writers.{WriterState, WriterLaws, IsSameWriter, IsSoundWriter, HasRoom, BytesWriteRefused}
 use Rattle.wincode_io.specs.WriteWindows.{window_of, window_room}
 use Rattle.wincode_base.specs.Grammar.{ReadGrammar, WriteGrammar, WriteLaws, IsReadStatic, IsWriteStatic}
 use Rattle.wincode_base.specs.InWindow.{WindowReadRefused}
 use Rattle.wincode_base.specs.LeafLaws.{same_front}
 use Rattle.wincode_base.specs.Lengths.{Scheme, HasEncoding, LengthSizeRefused, encoding_len}
 use Rattle.wincode_base.specs.Lists.{parts_write, list_write_of, list_bytes, PartsWriteRefused, ListWriteRefused, WholeWriteRefused}
-use Rattle.wincode_base.specs.Lists.{InnerWriteRefused, SpanWriteRefused, ItemsReadRefused, RunReadRefused}
-use Rattle.wincode_base.specs.Outcomes.{Gives, ReadRefused, Wrote, WriteRefused, Stopped, WriteDue, IsAble, IsOfValueAlone, past_usize}
-use Rattle.wincode_base.specs.ItemSizes.{item_size, is_known, run_size, behind_size, IsReadItemSize, IsWriteItemSize}
-use Rattle.wincode_base.specs.WriteSequences.{same_trans, wrote_map, unwritten_map, stopped_map, nothing_stopped, piece_denied}
+use Rattle.wincode_base.specs.Lists.{InnerWriteRefused, SpanWriteRefused, ItemReadRefused, ItemsReadRefused, RunReadRefused, AreThere}
+use Rattle.wincode_base.specs.Outcomes.{Gives, ReadRefused, Wrote, WriteRefused, Stopped, WriteDue, WriteTells, IsAble, IsOfValueAlone, past_usize}
+use Rattle.wincode_base.specs.ItemSizes.{item_size, is_known, run_size, behind_size, MayBeOf, IsReadItemSize, IsWriteItemSize}
+use Rattle.wincode_io.specs.WriterLaws.{same_refl, same_trans, writer_sound_refl}
+use Rattle.wincode_base.specs.WriteSequences.{wrote_map, unwritten_map, stopped_map, nothing_stopped, piece_denied}
 use Rattle.wincode_base.specs.declared.error.ReadError.{ReadError}
 use Rattle.wincode_base.specs.declared.error.ReadError.TheVariants as reading
 use Rattle.wincode_base.specs.declared.error.WriteError.{WriteError}
@@ -35,16 +36,16 @@ use Rattle.wincode_base.specs.FixedSizeLaws.{takes_joins}
 -- ---- the size of n items
 
 joined_size : {V : Type 0} (reads : List ℕ → V → Type 0) (s : ℕ) → ((b : List ℕ) (v : V) → reads b v → length b ≡ s) → (vs : List V) (b : List ℕ)
-    → Joined (λ v t. reads t v) vs b → length b ≡ length vs * s
+    → Joined reads vs b → length b ≡ length vs * s
 joined_size reads s h [] b j = ap length j ∙ omega arith
 joined_size reads s h (v ∷ vs) b j = omega (arith, ap length j.4, length-append j.0 j.1, h j.0 v j.2, joined_size reads s h vs j.1 j.3)
 
 joined_vast : {V : Type 0} (reads : List ℕ → V → Type 0) → ((b : List ℕ) (v : V) → reads b v → 2 ^ 64 ≤ length b) → (vs : List V) (b : List ℕ) → 0 < length vs
-    → Joined (λ v t. reads t v) vs b → 2 ^ 64 ≤ length b
+    → Joined reads vs b → 2 ^ 64 ≤ length b
 joined_vast reads h [] b l j = absurd (omega arith)
 joined_vast reads h (v ∷ vs) b l j = omega (arith, ap length j.4, length-append j.0 j.1, h j.0 v j.2)
 
-joined_none : {V : Type 0} (reads : List ℕ → V → Type 0) → (vs : List V) (b : List ℕ) → length vs ≡ 0 → Joined (λ v t. reads t v) vs b → length b ≡ 0
+joined_none : {V : Type 0} (reads : List ℕ → V → Type 0) → (vs : List V) (b : List ℕ) → length vs ≡ 0 → Joined reads vs b → length b ≡ 0
 joined_none reads [] b l j = ap length j
 joined_none reads (v ∷ vs) b l j = absurd (omega arith)
 
@@ -77,14 +78,14 @@ module _ {V : Type 0} (g : ReadGrammar V) (n : ℕ) where
   -- the encodings of n items have the size that they have together
   pub run_encoding : (size : ItemSize) (t : ℕ) → IsReadItemSize g size → run_size n size ≡ Some t → (b : List ℕ) (vs : List V) → AreItems n g.reads b vs
       → length b ≡ t
-  run_encoding (Bytes s) t h e b vs r = joined_size g.reads s h vs b r.1 ∙ ap (λ k. k * s) r.0 ∙ (cond_some (nat_lt (n * s) (2 ^ 64)) (n * s) t e).1
+  run_encoding (Bytes s) t h e b vs r = joined_size g.reads s h.0 vs b r.1 ∙ ap (λ k. k * s) r.0 ∙ (cond_some (nat_lt (n * s) (2 ^ 64)) (n * s) t e).1
   run_encoding Vast t h e b vs r = let z = vast_some n t (nat_lt 0 n) refl e in joined_none g.reads vs b (r.0 ∙ z.0) r.1 ∙ sym z.1
   run_encoding Unknown t h e b vs r = absurd (true≢false (sym (ap is_some e)))
 
   run_vast : (size : ItemSize) → IsTrue (is_known size) → IsReadItemSize g size → run_size n size ≡ None → (b : List ℕ) (vs : List V) → AreItems n g.reads b vs
       → 2 ^ 64 ≤ length b
   run_vast (Bytes s) k h e b vs r = let l = not_lt (n * s) (2 ^ 64) (cond_none (nat_lt (n * s) (2 ^ 64)) (n * s) e) in
-      omega (arith, l, joined_size g.reads s h vs b r.1 ∙ ap (λ k. k * s) r.0)
+      omega (arith, l, joined_size g.reads s h.0 vs b r.1 ∙ ap (λ k. k * s) r.0)
   run_vast Vast k h e b vs r = let l = vast_none n (nat_lt 0 n) refl e in joined_vast g.reads h vs b (omega (arith, l, r.0)) r.1
   run_vast Unknown k h e b vs r = absurd (true≢false (sym k))
 
@@ -94,6 +95,7 @@ module _ {V : Type 0} (g : ReadGrammar V) (n : ℕ) where
       → Windowed t old new window → Gives (AreItems n g.reads) window after vs → Gives (AreItems n g.reads) old new vs
   run_gives t sized old new window after vs w r = record {
     kept = w.takes.loses.kept;
+    sound = w.takes.loses.sound;
     found = λ k.
         let told : IsTrue window.is_known = w.is_known in
         let f = r.found told in
@@ -103,16 +105,39 @@ module _ {V : Type 0} (g : ReadGrammar V) (n : ℕ) where
     place = loses_onward t old new w.takes.loses;
   }
 
-  pub run_placed : (size : ItemSize) (t : ℕ) → run_size n size ≡ Some t → (old new : ReaderState) (e : ReadError)
+  -- a window of all of them has their bytes
+  there_by : (m : TypeMeta) (size : ItemSize) (t : ℕ) → g.meta ≡ m → IsReadItemSize g size → run_size n size ≡ Some t → (old new window : ReaderState)
+      → Windowed t old new window → AreThere n m window
+  there_by Dynamic size t e h r old new window w = tt
+  there_by (Static k z) (Bytes s) t e h r old new window w =
+      let c = cond_some (nat_lt (n * s) (2 ^ 64)) (n * s) t r in
+      let same : k ≡ s = subst (λ m. MayBeOf m s) e h.1 in
+      let few = ltb-true (n * s) (2 ^ 64) c.0 in
+      let bytes : n * k ≡ n * s = ap (λ i. n * i) same in
+      (w.never_fails, w.is_known, omega (arith, w.takes.size, c.1, bytes), omega (arith, w.takes.size, c.1, few))
+  there_by (Static k z) Vast t e h r old new window w =
+      let v = vast_some n t (nat_lt 0 n) refl r in
+      let none : n * k ≡ 0 * k = ap (λ i. i * k) v.0 in
+      (w.never_fails, w.is_known, omega (arith, w.takes.size, none), omega (arith, w.takes.size, v.1))
+  there_by (Static k z) Unknown t e h r old new window w = absurd (true≢false (sym (ap is_some r)))
+
+  inside_exact : (size : ItemSize) (t : ℕ) → IsReadItemSize g size → run_size n size ≡ Some t → (old new : ReaderState) (e : ReadError)
+      → WindowReadRefused t (ItemsReadRefused n g) old new e → WindowReadRefused t (ItemReadRefused n g) old new e
+  inside_exact size t h r old new e w = elim w [
+    | inl d ↦ inl d
+    | inr d ↦ inr (d.0, d.1, d.2, d.3 (there_by g.meta size t refl h r old new d.0 d.2))
+  ]
+
+  pub run_placed : (size : ItemSize) (t : ℕ) → IsReadItemSize g size → run_size n size ≡ Some t → (old new : ReaderState) (e : ReadError)
       → WindowReadRefused t (ItemsReadRefused n g) old new e → RunReadRefused n size g old new e
-  run_placed (Bytes s) t h old new e w = rw h w
-  run_placed Vast t h old new e w = rw h w
-  run_placed Unknown t h old new e w = absurd (true≢false (sym (ap is_some h)))
+  run_placed (Bytes s) t k h old new e w = let x = inside_exact (Bytes s) t k h old new e w in rw h x
+  run_placed Vast t k h old new e w = let x = inside_exact Vast t k h old new e w in rw h x
+  run_placed Unknown t k h old new e w = absurd (true≢false (sym (ap is_some h)))
 
   -- nothing is known of the size
   pub run_each : (size : ItemSize) → size ≡ Unknown → IsReadItemSize g size → (old new : ReaderState) (e : ReadError) → ItemsReadRefused n g old new e
       → RunReadRefused n size g old new e
-  run_each Unknown is dynamic old new e d = d dynamic
+  run_each Unknown is dynamic old new e d = d (subst (λ m. AreThere n m old) (sym dynamic) tt)
   run_each (Bytes s) is dynamic old new e d = absurd (cc)
   run_each Vast is dynamic old new e d = absurd (cc)
 
@@ -127,8 +152,8 @@ module _ {V : Type 0} (g : ReadGrammar V) (n : ℕ) where
   -- they are past `usize::MAX` together
   pub run_long : (size : ItemSize) → IsTrue (is_known size) → run_size n size ≡ None → (s : ReaderState) (e : ReadError) (x : Bor (List ℕ)) → x.now
       ≡ past_usize → e ≡ reading.LengthEncodingOverflow x → RunReadRefused n size g s s e
-  run_long (Bytes k) known h s e x text is = rw h (rw is (stays_here s, text))
-  run_long Vast known h s e x text is = rw h (rw is (stays_here s, text))
+  run_long (Bytes k) known h s e x text is = rw h (rw is ((stays_here s, sound_refl s), text))
+  run_long Vast known h s e x text is = rw h (rw is ((stays_here s, sound_refl s), text))
   run_long Unknown known h s e x text is = absurd (true≢false (sym known))
 
   pub too_long : (size : ItemSize) → IsTrue (is_known size) → IsReadItemSize g size → run_size n size ≡ None
@@ -137,6 +162,7 @@ module _ {V : Type 0} (g : ReadGrammar V) (n : ℕ) where
     kept = (stays_here s).kept;
     left = λ t. record { front = []; joins = refl };
     place = λ t. still s;
+    device = sound_refl s;
     due = λ a. let f = a.front.found in let l = run_vast size known h none f.encoding a.front.value f.is_read in
         absurd (omega (arith, l, a.fits, ap length f.joins, length-append f.encoding a.front.rest));
   })
@@ -146,7 +172,7 @@ pub encoding_size : {V : Type 0} (g : ReadGrammar V) → IsReadStatic g.reads g.
 encoding_size {V} g statics = by g.meta statics refl where
   by : (m : TypeMeta) → IsReadStatic g.reads m → g.meta ≡ m → IsReadItemSize g (item_size m)
   by Dynamic s e = e
-  by (Static k z) s e = s.0
+  by (Static k z) s e = (s.0, subst (λ m. MayBeOf m k) (sym e) refl)
 
 pub value_size : {X V : Type 0} (is_valid : X → Type 0) (model : X → V) (g : WriteGrammar V) (m : TypeMeta) → IsWriteStatic is_valid model g.can g.size m
     → IsWriteItemSize g (item_size m)
@@ -213,12 +239,19 @@ module _ {S K V : Type 0} {put : S → List ℕ → S} {room : S → ℕ} (g : W
   faultless_due able new writing.OutOfMemory f h = absurd f
   faultless_due able new _ f h = h
 
+  faultless_tells : (old new : WriterState put room K) (e : WriteError) → IsOfValueAlone e → IsSoundWriter old new → WriteTells old new e
+  faultless_tells old new (writing.Io (writer.WriteSizeLimit m)) f h = h
+  faultless_tells old new (writing.Io (writer.Io e)) f h = absurd f
+  faultless_tells old new (writing.Io writer.OutOfMemory) f h = h
+  faultless_tells old new _ f h = h
+
   -- nothing was written of what can't be written within `usize`
   pub unfit_unwritten : {X : Type 0} {is_valid : X → Type 0} {model : X → V} → WriterLaws put room → WriteLaws is_valid model g
       → (old : WriterState put room K) (e : WriteError) → IsOfValueAlone e → (g.can v → 2 ^ 64 ≤ g.size v) → WriteRefused g old old v e
   unfit_unwritten laws l old e f over = record {
-    same = record { kept = refl; never_fails = refl };
+    same = same_refl old;
     began = λ c. let t = l.has_encoding v c in record { front = []; more = t.0; is_encoding = t.1; within = omega arith; added = sym (laws.nil old.content) };
+    device = faultless_tells old old e f (writer_sound_refl old);
     due = faultless_due (IsAble g old v) old e f (λ a. let k = over a.0 in let h = a.1 in absurd (omega (arith, k, h)));
   }
 
@@ -251,8 +284,13 @@ module _ {S K V : Type 0} {put : S → List ℕ → S} {room : S → ℕ} (g : W
   pub window_unwritten : WriteRefused g old after v e
   window_unwritten = record {
     same = same_trans (subst (λ s. IsSameWriter old s) (sym same) has.unmoved.same)
-        (record { kept = ap (λ k. k.target) u.same.kept; never_fails = ap (λ k. k.never_fails) u.same.kept });
+        (record { kept = ap (λ k. k.target) u.same.kept; never_fails = ap (λ k. k.never_fails) u.same.kept; finishes = ap (λ k. k.finishes) u.same.kept });
     began = λ c. absurd (window_cannot c);
+    device = faultless_tells g v old after e (due_faultless g v (IsAble g (window_of below name left) v) (window_of after name' left') e refl u.due)
+        (record {
+          failures = ap (λ k. k.failures) u.same.kept ∙ ap (λ s. s.failures) same ∙ has.sound.failures;
+          has_failed = ap (λ k. k.has_failed) u.same.kept ∙ ap (λ s. s.has_failed) same ∙ has.sound.has_failed;
+        });
     due = faultless_due g v (IsAble g old v) after e (due_faultless g v (IsAble g (window_of below name left) v) (window_of after name' left') e refl u.due)
         (λ a. window_cannot a.0);
   }

@@ -4,8 +4,8 @@ use Rattle.std.proofs.Math.Seq.{take-append_seam}
 use Rattle.wincode_io.specs.ShortNumbers.{short_encoding, BeginsShort, BeginsNoShort}
 use Rattle.wincode_io.specs.ShortNumberLaws.{short_shown, short_whole}
 use Rattle.wincode_io.specs.Places.{onward}
-use Rattle.wincode_io.specs.PlaceLaws.{kept_trans, known_kept, stays_onward, unsteady}
-use Rattle.wincode_io.specs.Readers.{ReaderState, Stays, Loses, IsShown, ReadRefusedFor, BytesReadRefused, nothing}
+use Rattle.wincode_io.specs.PlaceLaws.{kept_trans, known_kept, sound_trans, stays_onward, unsteady}
+use Rattle.wincode_io.specs.Readers.{ReaderState, StaysSound, Loses, IsShown, ReadRefusedFor, BytesReadRefused, nothing}
 use Rattle.wincode_io.specs.Writers.{WriterState, WriterLaws, Added, BytesWriteRefused}
 use Rattle.wincode_base.specs.Lengths.{HasEncoding, encoding_len, length_write}
 use Rattle.wincode_base.specs.Short.{short_read, short_scheme}
@@ -24,13 +24,14 @@ use Rattle.wincode_io.specs.declared.error.WriteError.{WriteError as IoWriteErro
 accepts_short : (old : ReaderState) → (a : Accepts short_read.reads old) → BeginsShort old.rest a.front.value
 accepts_short old a = let f = a.front.found in (f.is_read.0, (a.front.rest, f.joins ∙ ap (λ t. t ++ a.front.rest) f.is_read.1))
 
-module _ {old mid : ReaderState} {bytes : List ℕ} (stays : Stays old mid) (shown : IsShown 3 old bytes) where
+module _ {old mid : ReaderState} {bytes : List ℕ} (stays : StaysSound old mid) (shown : IsShown 3 old bytes) where
   -- the bytes that were shown begin with no short number
   pub short_overflow : (s : Bor (List ℕ)) → BeginsNoShort bytes → ReadRefused short_read.reads 0 true old mid (reading.LengthEncodingOverflow s)
   short_overflow s none = record {
-    kept = stays.kept;
-    left = λ t. record { front = []; joins = sym (stays.rest t) };
-    place = stays_onward old mid stays;
+    kept = stays.0.kept;
+    left = λ t. record { front = []; joins = sym (stays.0.rest t) };
+    place = stays_onward old mid stays.0;
+    device = stays.1;
     due = λ a. none a.front.value (subst (λ b. BeginsShort b a.front.value) (sym (shown.1 a.is_known))
         (short_shown old.rest a.front.value (accepts_short old a)));
   }
@@ -39,11 +40,12 @@ module _ {old mid : ReaderState} {bytes : List ℕ} (stays : Stays old mid) (sho
   pub short_given : (new : ReaderState) (n : ℕ) → BeginsShort bytes n → Loses (length (short_encoding n)) mid new → Gives short_read.reads old new n
   short_given new n b l = takes_gives short_read.reads (length (short_encoding n)) old new (short_encoding n) n record {
     loses = record {
-      kept = kept_trans stays.kept l.kept;
-      rest = λ t. subst (λ r. (length (short_encoding n) ≤ length r) × (r ≡ take (length (short_encoding n)) r ++ new.rest)) (stays.rest t)
-          (l.rest (known_kept stays.kept t));
-      ready = let a = stays.ready in let b = l.ready in omega arith;
-      place = l.place ∙ ap (onward (length (short_encoding n))) stays.place;
+      kept = kept_trans stays.0.kept l.kept;
+      rest = λ t. subst (λ r. (length (short_encoding n) ≤ length r) × (r ≡ take (length (short_encoding n)) r ++ new.rest)) (stays.0.rest t)
+          (l.rest (known_kept stays.0.kept t));
+      ready = let a = stays.0.ready in let b = l.ready in omega arith;
+      place = l.place ∙ ap (onward (length (short_encoding n))) stays.0.place;
+      sound = sound_trans stays.1 l.sound;
     };
     size = refl;
     front = λ t. let w = short_whole old.rest n (subst (λ r. BeginsShort r n) (shown.1 t) b) in
@@ -63,7 +65,8 @@ short_denied old new e d = (
     kept = d.0.kept;
     left = λ t. record { front = []; joins = sym (d.0.rest t) };
     place = stays_onward old new d.0;
-    due = denied_due (Accepts short_read.reads old) new e d.1;
+    device = d.1;
+    due = denied_due (Accepts short_read.reads old) new e d.2;
   },
   d,
 )

@@ -7,7 +7,7 @@ use Rattle.std.proofs.Math.Seq.{take-append_seam}
 use Rattle.std.proofs.Math.Utf8.{scalar, scalars, scalar_cases, encode, next}
 use Rattle.std.proofs.lemmas.Bool.{lt-ltb, le-ltb, ltb-true, ltb-false}
 use Rattle.std.proofs.lemmas.Str.{encode_ascii, IsUtf8-encode, cons_from_encodes}
-use Rattle.wincode_io.specs.Readers.{ReaderState, Stays, Loses, Takes, IsShort, IsShown, IsPeeked, ReadRefusedFor, BytesReadRefused}
+use Rattle.wincode_io.specs.Readers.{ReaderState, Stays, StaysSound, Loses, Takes, IsShort, IsShown, IsPeeked, ReadRefusedFor, BytesReadRefused}
 use Rattle.wincode_io.specs.Writers.{WriterState, WriterLaws, Added, BytesWriteRefused}
 use Rattle.wincode_base.specs.Grammar.{WriteGrammar, WriteLaws}
 use Rattle.wincode_base.specs.ListLaws.{none_spared}
@@ -35,7 +35,7 @@ use Rattle.wincode_base.specs.declared.error.ReadError.TheVariants as reading
 use Rattle.wincode_io.specs.declared.error.ReadError.{ReadError as IoReadError}
 use Rattle.wincode_io.specs.declared.error.ReadError.TheVariants as reader
 use Rattle.wincode_io.specs.Texts.{IsUtf8Fault}
-use Rattle.wincode_io.specs.PlaceLaws.{unsteady, kept_trans, known_kept, stays_trans, stays_onward, loses_onward, onward_trans}
+use Rattle.wincode_io.specs.PlaceLaws.{unsteady, kept_trans, known_kept, stays_trans, sound_trans, tells_on, stays_onward, loses_onward, onward_trans}
 
 -- ---- characters
 
@@ -175,12 +175,13 @@ char_refuses old new e r = record {
   kept = r.0.kept;
   left = λ t. record { front = []; joins = sym (r.0.rest t) };
   place = stays_onward old new r.0;
-  due = char_due old new e r.1;
+  device = r.1;
+  due = char_due old new e r.2;
 }
 
 -- no byte is left
 pub char_denied : (old new : ReaderState) (e : ReadError) → PieceReadRefused 1 old new e → CharReadRefused old new e
-char_denied old new (reading.Io e) d = (d.0, inl d.1)
+char_denied old new (reading.Io e) d = (d.0, d.1, inl d.2)
 char_denied old new _ d = absurd d
 
 short_before : (n : ℕ) {old mid : ReaderState} → Stays old mid → (new : ReaderState) (e : IoReadError) → ReadRefusedFor (IsShort n mid) ⊥ n new e
@@ -191,11 +192,11 @@ short_before n s new reader.OutOfMemory d = d
 short_before n s new (reader.Io e) d = d
 
 -- too few are left of the bytes that the first announces
-pub char_cut : (old mid new : ReaderState) (lead n : ℕ) (e : IoReadError) → n ≡ announced lead → Stays old mid → IsPeeked old lead → Stays mid new
-    → ReadRefusedFor (IsShort n mid) ⊥ n new e → CharReadRefused old new (reading.Io e)
-char_cut old mid new lead n e is s p t d =
+pub char_cut : (old mid new : ReaderState) (lead n : ℕ) (e : IoReadError) → n ≡ announced lead → StaysSound old mid → IsPeeked old lead
+    → BytesReadRefused (IsShort n mid) ⊥ n mid new e → CharReadRefused old new (reading.Io e)
+char_cut old mid new lead n e is s p d =
     let P : ℕ → Type 0 = λ k. ReadRefusedFor (IsShort k old) ⊥ k new e in
-    (stays_trans s t, inr (lead, p, subst P is (short_before n s new e d)))
+    (stays_trans s.0 d.0, tells_on old mid new e s.1 d.1, inr (lead, p, subst P is (short_before n s.0 new e d.2)))
 
 shown_before : (n : ℕ) {old mid : ReaderState} (bytes : List ℕ) → Stays old mid → IsShown n mid bytes → IsTrue old.is_known → bytes ≡ take n old.rest
 shown_before n bytes s shown told = shown.1 (known_kept s.kept told) ∙ ap (take n) (s.rest told)
@@ -204,13 +205,13 @@ take_within : (n : ℕ) (xs bytes : List ℕ) → bytes ≡ take n xs → length
 take_within n xs bytes e size = omega (arith, ap length e, length-take n xs)
 
 -- the bytes that the first announces are not UTF-8
-pub char_not : (old mid new : ReaderState) (lead n : ℕ) (bytes : List ℕ) (u : Utf8Error) → n ≡ announced lead → Stays old mid → IsPeeked old lead
-    → Stays mid new → length bytes ≡ n → IsShown n mid bytes → IsUtf8Fault bytes u
+pub char_not : (old mid new : ReaderState) (lead n : ℕ) (bytes : List ℕ) (u : Utf8Error) → n ≡ announced lead → StaysSound old mid → IsPeeked old lead
+    → StaysSound mid new → length bytes ≡ n → IsShown n mid bytes → IsUtf8Fault bytes u
     → CharReadRefused old new (reading.InvalidUtf8Encoding u)
 char_not old mid new lead n bytes u is s p t size shown not =
     let P : ℕ → Type 0 = λ k. (k ≤ length old.rest) × IsUtf8Fault (take k old.rest) u in
     let Q : List ℕ → Type 0 = λ b. IsUtf8Fault b u in
-    (stays_trans s t, (lead, p, λ told. let e = shown_before n bytes s shown told in subst P is (take_within n old.rest bytes e size, subst Q e not)))
+    (stays_trans s.0 t.0, sound_trans s.1 t.1, (lead, p, λ told. let e = shown_before n bytes s.0 shown told in subst P is (take_within n old.rest bytes e size, subst Q e not)))
 
 first_true : (a b : Bool) → (a && b) ≡ true → a ≡ true
 first_true true b e = refl
@@ -227,16 +228,17 @@ none_more xs [] e = append-nil xs
 none_more xs (y ∷ ys) e = absurd (omega (arith, e, length-append xs (y ∷ ys)))
 
 -- a character was shown, and then consumed
-pub char_gives : (old mid shown_by new : ReaderState) (lead n c : ℕ) (bytes more : List ℕ) → n ≡ announced lead → Stays old mid → IsPeeked old lead
-    → Stays mid shown_by → length bytes ≡ n → IsShown n mid bytes → IsUtf8 bytes
+pub char_gives : (old mid shown_by new : ReaderState) (lead n c : ℕ) (bytes more : List ℕ) → n ≡ announced lead → StaysSound old mid → IsPeeked old lead
+    → StaysSound mid shown_by → length bytes ≡ n → IsShown n mid bytes → IsUtf8 bytes
     → bytes ≡ encode_utf8 c ++ more → Loses n shown_by new → Gives char_read.reads old new c
 char_gives old mid shown_by new lead n c bytes more is s p t size shown u e l =
-    let two = stays_trans s t in
+    let two = stays_trans s.0 t.0 in
     let sc = scalar_of bytes more c u e in
     record {
       kept = kept_trans two.kept l.kept;
+      sound = sound_trans s.1 (sound_trans t.1 l.sound);
       found = λ told.
-          let front = shown_before n bytes s shown told in
+          let front = shown_before n bytes s.0 shown told in
           let rest : shown_by.rest ≡ old.rest = two.rest told in
           let split : old.rest ≡ bytes ++ new.rest = sym rest ∙ (l.rest (known_kept two.kept told)).1 ∙ ap (λ r. take n r ++ new.rest) rest
           ∙ ap (λ b. b ++ new.rest) (sym front) in
@@ -279,18 +281,21 @@ body_refuses unlent owned n borrow takes_no_memory old new (reading.Io e) lent b
   kept = d.0.kept;
   left = λ t. record { front = []; joins = sym (d.0.rest t) };
   place = stays_onward old new d.0;
-  due = body_due unlent n borrow old new e lent d.1;
+  device = d.1;
+  due = body_due unlent n borrow old new e lent d.2;
 }
 body_refuses unlent owned n borrow takes_no_memory old new reading.OutOfMemory lent builtin d = record {
-  kept = d.1.kept;
-  left = λ t. record { front = []; joins = sym (d.1.rest t) };
-  place = stays_onward old new d.1;
+  kept = d.1.0.kept;
+  left = λ t. record { front = []; joins = sym (d.1.0.rest t) };
+  place = stays_onward old new d.1.0;
+  device = d.1.1;
   due = subst (λ s. (new.never_fails && s) ≡ false) (sym (builtin d.0)) (none_spared new.never_fails);
 }
 body_refuses unlent owned n borrow takes_no_memory old new (reading.InvalidUtf8Encoding e) lent builtin d = record {
   kept = d.1.loses.kept;
   left = λ t. record { front = d.0; joins = takes_joins d.1 t };
   place = loses_onward n old new d.1.loses;
+  device = d.1.loses.sound;
   due = body_not n old new d.0 d.1 d.2.0;
 }
 body_refuses unlent owned n borrow takes_no_memory old new _ lent builtin d = absurd d
@@ -304,6 +309,7 @@ borrow_refuses n old new e d = body_refuses (old.lends < 1) ⊥ n 1 true old new
 pub body_gives : (n : ℕ) (old new : ReaderState) (bytes v : List ℕ) → Takes n old new bytes → v ≡ bytes → IsUtf8 v → Gives (IsStrBytes n) old new v
 body_gives n old new bytes v t e u = record {
   kept = t.loses.kept;
+  sound = t.loses.sound;
   found = λ told. record { encoding = bytes; is_read = (ap length e ∙ t.size, u, sym e); joins = takes_joins t told };
   place = loses_onward n old new t.loses;
 }
@@ -332,7 +338,7 @@ module _ (prealloc borrow : ℕ) (takes_no_memory : Bool) where
 -- bytes alone, as something to write
 abbrev bytes_write : WriteGrammar (List ℕ)
 bytes_write = record {
-  writes = λ v b. b ≡ v;
+  writes = λ b v. b ≡ v;
   can = λ v. Unit {0};
   size = λ v. length v;
   fits = λ v. Unit {0};
@@ -343,7 +349,7 @@ bytes_write = record {
 }
 
 bytes_laws : WriteLaws (λ v. Unit {0}) (λ v. v) bytes_write
-bytes_laws = record { has_encoding = λ v c. (v, refl); encoding_size = λ v b t. ap length t; can_fit = λ v f. f; statics = tt }
+bytes_laws = record { has_encoding = λ v c. (v, refl); encoding_can = λ v b t. tt; encoding_size = λ v b t. ap length t; can_fit = λ v f. f; statics = tt }
 
 text_can : (v : List ℕ) → length v < 2 ^ 64 → HasEncoding (bincode preallocation_limit) (length v)
 text_can v small = (le 8 (length v), bincode_encoding preallocation_limit (length v) small)
@@ -354,8 +360,11 @@ length_size n small = sym (ap encoding_len (bincode_encoding preallocation_limit
 abbrev in_two : WriteGrammar (ℕ × List ℕ)
 in_two = pair_write (length_write (bincode preallocation_limit)) bytes_write
 
-two_encodings : (prealloc : ℕ) (v b : List ℕ) → in_two.writes (length v, v) b → (str_write prealloc).writes v b
-two_encodings prealloc v b w = w.4 ∙ ap (λ x. x ++ w.1) (bincode_encoding_is preallocation_limit (length v) w.0 w.2).1 ∙ ap (λ y. le 8 (length v) ++ y) w.3
+two_encodings : (prealloc : ℕ) (v : List ℕ) → length v < 2 ^ 64 → (b : List ℕ) → in_two.writes b (length v, v) → (str_write prealloc).writes b v
+two_encodings prealloc v small b w = (
+  small,
+  w.4 ∙ ap (λ x. x ++ w.1) (bincode_encoding_is preallocation_limit (length v) w.0 w.2).1 ∙ ap (λ y. le 8 (length v) ++ y) w.3,
+)
 
 two_size : (prealloc : ℕ) (v : List ℕ) → length v < 2 ^ 64 → (str_write prealloc).size v ≡ in_two.size (length v, v)
 two_size prealloc v small = ap (λ n. n + length v) (length_size (length v) small)
@@ -368,7 +377,7 @@ eight_refused n small v room added e (inr d) = absurd (d.1.0 (le 8 n, bincode_en
 
 -- a character was refused in one piece
 pub char_halted : {S K : Type 0} {put : S → List ℕ → S} {room : S → ℕ} {old new : WriterState put room K} (laws : WriterLaws put room) (c : ℕ) (bytes : List ℕ)
-    (is : char_write.writes c bytes) (size : length bytes ≡ len_utf8 c) (e : IoWriteError)
+    (is : char_write.writes bytes c) (size : length bytes ≡ len_utf8 c) (e : IoWriteError)
     → BytesWriteRefused (length bytes) old new e → Stopped char_write old new c (writing.Io e)
 char_halted {room = room} {old = old} {new = new} laws c bytes is size e d =
     sequence.encoding_stopped char_write c bytes is size laws old new e d (λ x. subst (λ n. PieceWriteRefused n (room old.content) [] (writing.Io e)) size x)
@@ -394,7 +403,7 @@ module _ {S K : Type 0} {put : S → List ℕ → S} {room : S → ℕ} (laws : 
       → Wrote (str_write prealloc) old new v
   encoding_wrote {old} {mid} {new} v n bytes small e f r d =
       let fits : length v < 2 ^ 64 = subst (λ k. k < 2 ^ 64) e small in
-      sequence.wrote_map in_two (str_write prealloc) (length v, v) v (λ c. fits) (two_size prealloc v fits) (two_encodings prealloc v)
+      sequence.wrote_map in_two (str_write prealloc) (length v, v) v (λ c. fits) (two_size prealloc v fits) (two_encodings prealloc v fits)
       (sequence.pair_wrote (length_write_laws (bincode preallocation_limit)) bytes_laws laws
       (subst (λ k. Wrote (length_write (bincode preallocation_limit)) old mid k) e r)
       (sequence.encoding_wrote bytes_write v bytes f (ap length f) mid new tt d))
@@ -403,7 +412,7 @@ module _ {S K : Type 0} {put : S → List ℕ → S} {room : S → ℕ} (laws : 
       → WriteRefused (length_write (bincode preallocation_limit)) old new n e → WriteRefused (str_write prealloc) old new v e
   text_unwritten_first {old} {new} v n {e} small is u =
       let fits : length v < 2 ^ 64 = subst (λ k. k < 2 ^ 64) is small in
-      sequence.unwritten_map in_two (str_write prealloc) (length v, v) v (λ c. (text_can v fits, tt)) (two_size prealloc v fits) (two_encodings prealloc v)
+      sequence.unwritten_map in_two (str_write prealloc) (length v, v) v (λ c. (text_can v fits, tt)) (two_size prealloc v fits) (two_encodings prealloc v fits)
       (sequence.pair_unwritten_first (length_write_laws (bincode preallocation_limit)) bytes_laws v
       (subst (λ k. WriteRefused (length_write (bincode preallocation_limit)) old new k e) is u))
 
@@ -412,7 +421,7 @@ module _ {S K : Type 0} {put : S → List ℕ → S} {room : S → ℕ} (laws : 
       → BytesWriteRefused (length bytes) mid new e → WriteRefused (str_write prealloc) old new v (writing.Io e)
   text_unwritten_second {old} {mid} {new} v n bytes {e} small is f r d =
       let fits : length v < 2 ^ 64 = subst (λ k. k < 2 ^ 64) is small in
-      sequence.unwritten_map in_two (str_write prealloc) (length v, v) v (λ c. (text_can v fits, tt)) (two_size prealloc v fits) (two_encodings prealloc v)
+      sequence.unwritten_map in_two (str_write prealloc) (length v, v) v (λ c. (text_can v fits, tt)) (two_size prealloc v fits) (two_encodings prealloc v fits)
       (sequence.pair_unwritten_second (length_write_laws (bincode preallocation_limit)) bytes_laws laws
       (subst (λ k. Wrote (length_write (bincode preallocation_limit)) old mid k) is r)
       (sequence.encoding_unwritten bytes_write v bytes f (ap length f) laws mid new e d))

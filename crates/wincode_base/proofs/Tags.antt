@@ -15,8 +15,8 @@ use Rattle.wincode_base.specs.Sequences.{gives_map, refuses_map}
 use Rattle.wincode_base.specs.WriteSequences.{stopped_map, stopped_behind, wrote_map, unwritten_map, pair_wrote, pair_unwritten_first, pair_unwritten_second}
 use Rattle.wincode_base.proofs.Integers.{AreSmall, number_taken, number_gives, number_refuses}
 use Rattle.wincode_base.specs.Outcomes.{Gives, ReadRefused, PieceReadRefused, Wrote, WriteRefused, Stopped, SchemaReadRefused}
-use Rattle.wincode_base.specs.Tags.{tagged_write, option_tag, OptionReads, option_part_read, option_read, option_part_write, option_write, result_tag}
-use Rattle.wincode_base.specs.Tags.{SidesRead, sides_read, result_read, sides_write, result_write}
+use Rattle.wincode_base.specs.Tags.{tagged_write, option_tag, IsOptionPart, option_part_read, option_read, option_part_write, option_write, result_tag}
+use Rattle.wincode_base.specs.Tags.{IsSidePart, sides_read, result_read, sides_write, result_write}
 use Rattle.wincode_base.specs.TagLaws.{IsCase, tagged_gives, case_refused, bad_tag, option_small, option_part_laws, result_small, sides_laws}
 use Rattle.wincode_base.specs.declared.error.ReadError.{ReadError}
 use Rattle.wincode_base.specs.declared.error.ReadError.TheVariants as reading
@@ -46,9 +46,9 @@ module _ {V : Type 0} (k : ℕ) (some : 1 ≤ k) (g : ReadGrammar V) where
   pub some_gives : (old mid new : ReaderState) (v : V) (t : ℕ) → t ≡ 1 → Gives (number_read k true).reads old mid t → Gives g.reads mid new v
       → Gives (option_read k g).reads old new (Some v)
   some_gives old mid new v t i r s = tagged_gives k option_tag (option_small k some) (option_part_read g) old mid new t (Some v) (sym i) r
-      (gives_map g.reads (OptionReads g.reads) mid new v (Some v) (λ b w. w) s)
+      (gives_map g.reads (IsOptionPart g.reads) mid new v (Some v) (λ b w. w) s)
 
-  of_some : (t : ℕ) → t ≡ 1 → (b : List ℕ) (o : Option V) → IsCase option_tag (OptionReads g.reads) t b o → (v : V) × g.reads b v
+  of_some : (t : ℕ) → t ≡ 1 → (b : List ℕ) (o : Option V) → IsCase option_tag (IsOptionPart g.reads) t b o → (v : V) × g.reads b v
   of_some t i b None r = absurd (omega (arith, r.0))
   of_some t i b (Some v) r = (v, r.1)
 
@@ -56,7 +56,7 @@ module _ {V : Type 0} (k : ℕ) (some : 1 ≤ k) (g : ReadGrammar V) where
       → ReadRefused g.reads g.borrow g.takes_no_memory mid new e → ReadRefused (option_read k g).reads g.borrow g.takes_no_memory old new e
   some_refused old mid new t e i r u =
       case_refused k option_tag (option_small k some) (option_part_read g) g.borrow g.takes_no_memory old mid new t e (omega arith) (λ x. x) r
-      (refuses_map g.reads (IsCase option_tag (OptionReads g.reads) t) g.borrow g.takes_no_memory mid new e (of_some t i) u)
+      (refuses_map g.reads (IsCase option_tag (IsOptionPart g.reads) t) g.borrow g.takes_no_memory mid new e (of_some t i) u)
 
   no_option : (t : ℕ) → 2 ≤ t → (o : Option V) → option_tag o ≡ t → ⊥
   no_option t l None e = omega arith
@@ -68,17 +68,17 @@ module _ {V : Type 0} (k : ℕ) (some : 1 ≤ k) (g : ReadGrammar V) where
 
 module _ {V W : Type 0} (k : ℕ) (some : 1 ≤ k) (g : ReadGrammar V) (h : ReadGrammar W) where
   abbrev Side : ℕ → List ℕ → Result V W → Type 0
-  Side = IsCase result_tag (SidesRead g.reads h.reads)
+  Side = IsCase result_tag (IsSidePart g.reads h.reads)
 
   pub ok_gives : (old mid new : ReaderState) (v : V) (t : ℕ) → t ≡ 0 → Gives (number_read k true).reads old mid t → Gives g.reads mid new v
       → Gives (result_read k g h).reads old new (Ok v)
   ok_gives old mid new v t i r s = tagged_gives k result_tag (result_small k some) (sides_read g h) old mid new t (Ok v) (sym i) r
-      (gives_map g.reads (SidesRead g.reads h.reads) mid new v (Ok v) (λ b w. w) s)
+      (gives_map g.reads (IsSidePart g.reads h.reads) mid new v (Ok v) (λ b w. w) s)
 
   pub err_gives : (old mid new : ReaderState) (w : W) (t : ℕ) → t ≡ 1 → Gives (number_read k true).reads old mid t → Gives h.reads mid new w
       → Gives (result_read k g h).reads old new (Err w)
   err_gives old mid new w t i r s = tagged_gives k result_tag (result_small k some) (sides_read g h) old mid new t (Err w) (sym i) r
-      (gives_map h.reads (SidesRead g.reads h.reads) mid new w (Err w) (λ b t. t) s)
+      (gives_map h.reads (IsSidePart g.reads h.reads) mid new w (Err w) (λ b t. t) s)
 
   of_ok : (t : ℕ) → t ≡ 0 → (b : List ℕ) (o : Result V W) → Side t b o → (v : V) × g.reads b v
   of_ok t i b (Ok v) r = (v, r.1)
@@ -117,11 +117,11 @@ module _ {V W : Type 0} (k : ℕ) (some : 1 ≤ k) (g : ReadGrammar V) (h : Read
 abbrev tag_and_part : {V : Type 0} → ℕ → WriteGrammar V → WriteGrammar (ℕ × V)
 tag_and_part k part = pair_write (number_write k true) part
 
-tagged_encodings : {V : Type 0} (k : ℕ) (tag : V → ℕ) (part : WriteGrammar V) (v : V) (b : List ℕ) → (tag_and_part k part).writes (tag v, v) b
-    → (tagged_write k tag part).writes v b
+tagged_encodings : {V : Type 0} (k : ℕ) (tag : V → ℕ) (part : WriteGrammar V) (v : V) (b : List ℕ) → (tag_and_part k part).writes b (tag v, v)
+    → (tagged_write k tag part).writes b v
 tagged_encodings k tag part v b w = (w.1, w.3, w.4 ∙ ap (λ x. x ++ w.1) w.2)
 
-none_texts : {V : Type 0} (k : ℕ) (g : WriteGrammar V) (b : List ℕ) → (number_write k true).writes 0 b → (option_write k g).writes None b
+none_texts : {V : Type 0} (k : ℕ) (g : WriteGrammar V) (b : List ℕ) → (number_write k true).writes b 0 → (option_write k g).writes b None
 none_texts k g b w = ([], refl, w ∙ sym (append-nil (le k 0)))
 
 module _ {S K : Type 0} {put : S → List ℕ → S} {room : S → ℕ} (laws : WriterLaws put room) where

@@ -22,7 +22,7 @@ use Rattle.wincode_base.specs.Lengths.{bincode}
 use Rattle.wincode_base.specs.ItemSizes.{item_size}
 use Rattle.wincode_base.specs.Lists.{items_write, parts_write, list_bytes, ItemsWriteRefused, ListWriteRefused, WholeWriteRefused, InnerWriteRefused}
 use Rattle.wincode_base.specs.Lists.{SpanWriteRefused, SizesRefused, reads_list}
-use Rattle.wincode_base.specs.Outcomes.{Gives, Accepts, ReadRefused, ReaderDue, ReadDue, PieceReadRefused, Wrote, WriteRefused, Stopped}
+use Rattle.wincode_base.specs.Outcomes.{Gives, Accepts, ReadRefused, ReaderDue, ReadDue, ReadTells, PieceReadRefused, Wrote, WriteRefused, Stopped}
 use Rattle.wincode_base.specs.Outcomes.{PieceWriteRefused, IsSizeError}
 use Rattle.wincode_base.specs.AsForms.{reads_form}
 use Rattle.wincode_base.specs.Sequences.{Then, gives_map, refuses_map, then_gives, then_first, then_second}
@@ -54,6 +54,9 @@ nothing_left (c ∷ b) e = absurd (omega (arith, e))
 pub form_is_sized : (s : ℕ) (any : Bool) → s ≤ byte_limit → form_meta s any ≡ Dynamic → ⊥
 form_is_sized s any within is = let l : nat_lt s (2 ^ 64) ≡ true = lt-ltb s (2 ^ 64) (omega (arith, within)) in absurd (cc (rw l at is))
 
+pub form_is_static : (s : ℕ) (any : Bool) → s ≤ byte_limit → form_meta s any ≡ Static s any
+form_is_static s any within = rw (lt-ltb s (2 ^ 64) (omega (arith, within))) refl
+
 -- ---- a borrow of what has n bytes
 
 module _ {V : Type 0} (reads : List ℕ → V → Type 0) (n : ℕ) (sized : (b : List ℕ) (v : V) → reads b v → length b ≡ n) where
@@ -84,7 +87,7 @@ pub form_denied : (borrow s : ℕ) (old new : ReaderState) (e : IoReadError) →
     → ViewReadRefused borrow s old new (reading.Io e)
 form_denied borrow s old new e within d =
     let same : s ≡ min s byte_limit = omega (arith, within) in
-    (d.0, subst (λ m. ReadRefusedFor (IsShortOfForm s old) (old.lends < borrow) m new e) same (short_of_form s s (old.lends < borrow) old new e d.1))
+    (d.0, d.1, subst (λ m. ReadRefusedFor (IsShortOfForm s old) (old.lends < borrow) m new e) same (short_of_form s s (old.lends < borrow) old new e d.2))
 
 counts_within : (n s : ℕ) → n ≤ byte_limit → n * s ≤ byte_limit → n * max s 1 ≤ byte_limit
 counts_within n zero few within = omega (arith, few)
@@ -108,13 +111,14 @@ module _ {X : Type 0} {is_valid : X → Type 0} {s : ℕ} {form : X → List ℕ
     kept = d.0.kept;
     left = λ t. record { front = []; joins = sym (d.0.rest t) };
     place = stays_onward old new d.0;
-    due = lend_due (reads_form is_valid form) s (λ b v r. ap length r.1 ∙ law.long v r.0) borrow (min s byte_limit) old new e d.0 d.1;
+    device = d.1;
+    due = lend_due (reads_form is_valid form) s (λ b v r. ap length r.1 ∙ law.long v r.0) borrow (min s byte_limit) old new e d.0 d.2;
   }
   form_refuses borrow old new _ d = absurd d
 
   -- ---- forms one after another
 
-  items_of : (n : ℕ) (b : List ℕ) → IsBytes b → length b ≡ n * s → Joined (λ v t. (form_item_read is_valid s form).reads t v) (values value s n b) b
+  items_of : (n : ℕ) (b : List ℕ) → IsBytes b → length b ≡ n * s → Joined (form_item_read is_valid s form).reads (values value s n b) b
   unfolding values
   items_of zero b all e = nothing_left b (omega (arith, e))
   items_of (suc n) b all e =
@@ -128,7 +132,7 @@ module _ {X : Type 0} {is_valid : X → Type 0} {s : ℕ} {form : X → List ℕ
         sym (take-append-drop s b),
       )
 
-  items_sized : (vs : List X) (b : List ℕ) → Joined (λ v t. (form_item_read is_valid s form).reads t v) vs b → length b ≡ length vs * s
+  items_sized : (vs : List X) (b : List ℕ) → Joined (form_item_read is_valid s form).reads vs b → length b ≡ length vs * s
   items_sized [] b j = omega (arith, ap length j)
   items_sized (v ∷ vs) b j =
       let one = ap length j.2.1 ∙ law.long v j.2.0 in
@@ -148,14 +152,19 @@ module _ {X : Type 0} {is_valid : X → Type 0} {s : ℕ} {form : X → List ℕ
       → ReadDue (Accepts (IsLentRun (form_item_read is_valid s form) n) old) borrow true new e
   run_due borrow n old new (reading.Io e) d =
       lend_due (IsLentRun (form_item_read is_valid s form) n) (n * s) (run_sized n) borrow (n * s) old new e d.0
-      (short_of_form (n * s) (n * s) (old.lends < borrow) old new e d.1)
+      (short_of_form (n * s) (n * s) (old.lends < borrow) old new e d.2)
   run_due borrow n old new (reading.LengthEncodingOverflow t) d = λ a. counts_over n s d.1 a.front.found.is_read.0
   run_due borrow n old new _ d = absurd d
 
   run_stays : (borrow n : ℕ) (old new : ReaderState) (e : ReadError) → LentRunReadRefused borrow s n old new e → Stays old new
   run_stays borrow n old new (reading.Io e) d = d.0
-  run_stays borrow n old new (reading.LengthEncodingOverflow t) d = d.0
+  run_stays borrow n old new (reading.LengthEncodingOverflow t) d = d.0.0
   run_stays borrow n old new _ d = absurd d
+
+  run_tells : (borrow n : ℕ) (old new : ReaderState) (e : ReadError) → LentRunReadRefused borrow s n old new e → ReadTells old new e
+  run_tells borrow n old new (reading.Io e) d = d.1
+  run_tells borrow n old new (reading.LengthEncodingOverflow t) d = d.0.1
+  run_tells borrow n old new _ d = absurd d
 
   pub run_refuses : (borrow n : ℕ) (old new : ReaderState) (e : ReadError) → LentRunReadRefused borrow s n old new e
       → ReadRefused (IsLentRun (form_item_read is_valid s form) n) borrow true old new e
@@ -165,6 +174,7 @@ module _ {X : Type 0} {is_valid : X → Type 0} {s : ℕ} {form : X → List ℕ
         kept = stays.kept;
         left = λ t. record { front = []; joins = sym (stays.rest t) };
         place = stays_onward old new stays;
+        device = run_tells borrow n old new e d;
         due =
             run_due borrow n old new e d;
       }
@@ -250,7 +260,7 @@ module _ {X : Type 0} {is_valid : X → Type 0} {s : ℕ} {form : X → List ℕ
     (prealloc : ℕ) where
   -- ---- one form
 
-  form_is : (b : List ℕ) → IsBytes b → length b ≡ s → (form_write is_valid s form any prealloc).writes (value b) b
+  form_is : (b : List ℕ) → IsBytes b → length b ≡ s → (form_write is_valid s form any prealloc).writes b (value b)
   form_is b all e = (e, λ p. sym (law.form_value b all e))
 
   module _ {S K : Type 0} {put : S → List ℕ → S} {room : S → ℕ} {old new : WriterState put room K} (b : List ℕ) (all : IsBytes b) (e : length b ≡ s) where
@@ -300,8 +310,8 @@ module _ {X : Type 0} {is_valid : X → Type 0} {s : ℕ} {form : X → List ℕ
       → SizesRefused before (form_write is_valid s form any prealloc) (map (λ v. v) (values value s n b)) x
   forms_over before n b x e over unfit = (λ c small. absurd (omega (arith, e, over, small, forms_size n b)), unfit)
 
-  joined : (n : ℕ) (b : List ℕ) → IsBytes b → length b ≡ n * s → Forms.writes (map (λ v. v) (values value s n b)) b
-  joined n b all e = subst (λ vs. Forms.writes vs b) (sym (same_items (values value s n b))) (forms_are n b all e)
+  joined : (n : ℕ) (b : List ℕ) → IsBytes b → length b ≡ n * s → Forms.writes b (map (λ v. v) (values value s n b))
+  joined n b all e = subst (λ vs. Forms.writes b vs) (sym (same_items (values value s n b))) (forms_are n b all e)
 
   module _ {S K : Type 0} {put : S → List ℕ → S} {room : S → ℕ} {old new : WriterState put room K} (n : ℕ) (b : List ℕ) (all : IsBytes b)
       (e : length b ≡ n * s) where
@@ -319,7 +329,8 @@ module _ {X : Type 0} {is_valid : X → Type 0} {s : ℕ} {form : X → List ℕ
           fits = omega (arith, ap length empty);
           took =
               record {
-                same = record { kept = ap (λ w. w.kept) same; never_fails = ap (λ w. w.never_fails) same };
+                same = record { kept = ap (λ w. w.kept) same; never_fails = ap (λ w. w.never_fails) same; finishes = ap (λ w. w.finishes) same };
+                sound = record { failures = ap (λ w. w.failures) same; has_failed = ap (λ w. w.has_failed) same };
                 content =
                     ap (λ w. w.content) same ∙ sym (ap (put old.content) empty ∙ laws.nil old.content);
               };
@@ -409,9 +420,9 @@ bytes_given borrow old new n b e g = subst (Gives (lent_read borrow 1 (number_re
 
 -- ---- one form, copied
 
-pub fill_denied : (s : ℕ) (old new : ReaderState) (e : IoReadError) → s ≤ byte_limit → Stays old new → ReadRefusedFor (IsShort s old) ⊥ s new e
+pub fill_denied : (s : ℕ) (old new : ReaderState) (e : IoReadError) → s ≤ byte_limit → BytesReadRefused (IsShort s old) ⊥ s old new e
     → ViewReadRefused 0 s old new (reading.Io e)
-fill_denied s old new e within stays d = form_denied 0 s old new e within (stays, never_unlent e d) where
+fill_denied s old new e within d = form_denied 0 s old new e within (d.0, d.1, never_unlent e d.2) where
   never_unlent : (e : IoReadError) → ReadRefusedFor (IsShort s old) ⊥ s new e → ReadRefusedFor (IsShort s old) (old.lends < 0) s new e
   never_unlent (reader.ReadSizeLimit k) d = d
   never_unlent reader.UnsupportedZeroCopy d = absurd d

@@ -14,13 +14,13 @@ module _ {A S K V : Type 0} {put : S → List ℕ → S} {room : S → ℕ} (g :
       → WriteOutcome g old new v is_valid r
   write_refused (Ok x) e h u s = absurd h.1
   write_refused (Err x) e h u s = let P : WriteError → Type 0 = λ w. WriteRefused g old new v w × Stopped g old new v w in let k = subst P (sym h.1) (u, s) in
-      record { ok = tt; value = tt; refused = k.0; place = k.1 }
+      record { ok = tt; value = tt; refused = k }
 
   pub write_map : {W : Type 0} (h : WriteGrammar W) {start : WriterState put room K} (w : W) (q : Type 0) (r : Result A WriteError)
       → (Wrote g old new v → Wrote h start new w) → (is_valid → q) → ((e : WriteError) → WriteRefused g old new v e → WriteRefused h start new w e)
       → ((e : WriteError) → Stopped g old new v e → Stopped h start new w e) → WriteOutcome g old new v is_valid r → WriteOutcome h start new w q r
-  write_map h w q (Ok x) m p n s o = record { ok = m o.ok; value = p o.value; refused = tt; place = tt }
-  write_map h w q (Err e) m p n s o = record { ok = tt; value = tt; refused = n e o.refused; place = s e o.place }
+  write_map h w q (Ok x) m p n s o = record { ok = m o.ok; value = p o.value; refused = tt }
+  write_map h w q (Err e) m p n s o = record { ok = tt; value = tt; refused = (n e o.refused.0, s e o.refused.1) }
 
   -- what refers to a value, or holds it, is written as the value
   pub reference_outcome : (r : Result A WriteError) → WriteOutcome g old new v is_valid r → WriteOutcome (reference_write g) old new v is_valid r

@@ -13,7 +13,7 @@ use Rattle.wincode_io.specs.Joins.{Joined, Each, AreItems, total}
 use Rattle.wincode_io.specs.JoinLaws.{items_one}
 
 module _ {V : Type 0} (reads : List ℕ → V → Type 0) (s : ℕ) where
-  joined_size : ((b : List ℕ) (v : V) → reads b v → length b ≡ s) → (vs : List V) (b : List ℕ) → Joined (λ v t. reads t v) vs b → length b ≡ length vs * s
+  joined_size : ((b : List ℕ) (v : V) → reads b v → length b ≡ s) → (vs : List V) (b : List ℕ) → Joined reads vs b → length b ≡ length vs * s
   joined_size size [] b p = ap length p ∙ omega arith
   joined_size size (v ∷ vs) b p =
       let one = size p.0 v p.2 in
@@ -78,6 +78,7 @@ pub array_write_laws : {X V : Type 0} (n : ℕ) (is_valid : X → Type 0) (model
 array_write_laws n is_valid model g laws =
     let items = items_write_laws is_valid model g laws in record {
       has_encoding = λ vs c. let r = items.has_encoding vs c.1 in (r.0, (c.0, r.1));
+      encoding_can = λ vs b w. (w.0, items.encoding_can vs b w.1);
       encoding_size = λ vs b w. items.encoding_size vs b w.1;
       can_fit = λ vs f. (f.0, items.can_fit vs f.1);
       statics = write_statics n is_valid model g.can g.size g.meta laws.statics;

@@ -39,7 +39,7 @@ ArrayWriteRefused n g vs room added e = times_meta n g.meta ≡ Dynamic → Item
 -- Writing an array: an encoding of each of n items, one after another, with no length before them.
 abbrev pub array_write : {V : Type 0} → ℕ → WriteGrammar V → WriteGrammar (List V)
 array_write n g = record {
-  writes = λ vs b. (length vs ≡ n) × Joined g.writes vs b;
+  writes = λ b vs. (length vs ≡ n) × Joined g.writes vs b;
   can = λ vs. IsArray n g.can vs;
   size = λ vs. total g.size vs;
   fits = λ vs. IsArray n g.fits vs;

@@ -1,7 +1,7 @@
 -- Many values at once, as their byte forms.
 use Rattle.std.specs.Prelude.{◌≡◌, ℕ, ◌*◌, ◌^◌, ◌≤◌, true, IsTrue, List, length, Result, IfErr}
 use Rattle.wincode_io.specs.FormCalls.{FormWriteRefused}
-use Rattle.wincode_io.specs.Readers.{ReaderState, Stays, IsShort, BytesReadRefused}
+use Rattle.wincode_io.specs.Readers.{ReaderState, StaysSound, IsShort, BytesReadRefused}
 use Rattle.wincode_io.specs.Writers.{WriterState}
 use Rattle.wincode_base.specs.Grammar.{ReadGrammar, WriteGrammar, ReadRefusal}
 use Rattle.wincode_base.specs.Lists.{AddOutcome, items_write}
@@ -19,7 +19,7 @@ reads_form is_valid form b v = is_valid v × (b ≡ form v)
 -- A value as its form, of s bytes, in one piece.
 abbrev pub writes_form : {X : Type 0} → ℕ → (X → List ℕ) → WriteGrammar X
 writes_form s form = record {
-  writes = λ v b. b ≡ form v;
+  writes = λ b v. b ≡ form v;
   can = λ v. Unit {0};
   size = λ v. s;
   fits = λ v. Unit {0};
@@ -33,8 +33,8 @@ writes_form s form = record {
 -- are more than `usize::MAX`.
 abbrev pub BulkReadRefused : ℕ → ReadRefusal
 BulkReadRefused n old new (reading.Io e) = BytesReadRefused (IsShort n old) ⊥ n old new e
-BulkReadRefused n old new reading.OutOfMemory = Stays old new × (IsTrue old.is_known → n ≤ length old.rest)
-BulkReadRefused n old new (reading.LengthEncodingOverflow t) = Stays old new × (2 ^ 64 ≤ n) × (t.now ≡ past_usize)
+BulkReadRefused n old new reading.OutOfMemory = StaysSound old new × (IsTrue old.is_known → n ≤ length old.rest)
+BulkReadRefused n old new (reading.LengthEncodingOverflow t) = StaysSound old new × (2 ^ 64 ≤ n) × (t.now ≡ past_usize)
 BulkReadRefused n old new _ = ⊥
 
 -- What a read of n values at once, in n * s bytes, answers: what reading them one after another does; refused, all bytes stay.

@@ -55,7 +55,7 @@ module _ {X E V W U : Type 0} (s : Scheme) (scheme : SchemeLaws s) (size : ItemS
     (w : WriteGrammar W) (rs : E → V) (r : ReadGrammar V) (law : ReadsBack P ws w rs r)
     (written_size : ItemSize) (made : List E → List E → Type 0) (show : List E → U)
     (admitted : (ds : List E) (x : X) (p : ℕ) → Made made show ds (show (items x)) → s.admits (length ds) p → s.admits (length (items x)) p)
-    (holds : (ds : List E) (x : X) (b : List ℕ) → Joined (λ v t. r.reads t v) (map rs ds) b → Made made show ds (show (items x))
+    (holds : (ds : List E) (x : X) (b : List ℕ) → Joined r.reads (map rs ds) b → Made made show ds (show (items x))
     → Each w.fits (map ws (items x))) where
   lists : ReadsBack (λ es. Each P es) (λ es. map ws es) (list_write s 24 w) (λ es. map rs es) (list_read s 24 r)
   lists = list_reads_back s scheme 24 (λ es. es) P ws w rs r law
@@ -83,7 +83,7 @@ module _ {X E V W U : Type 0} (s : Scheme) (scheme : SchemeLaws s) (size : ItemS
   scattered_reads_back builtin = record {
     back = λ x b h j f.
         let o = order_model ws (items x) j.0 j.1 in
-        let t = subst (λ us. (list_write s 24 w).writes us b) o.2 j.2 in
+        let t = subst (λ us. (list_write s 24 w).writes b us) o.2 j.2 in
         let g = fits_permutation s w (map ws (items x)) (map ws o.0) (IsPermutation-map ws (items x) o.0 o.1) f in
         (o.0, lists.back o.0 b (each_permutation P (items x) o.0 o.1 h.1) t g, (items x, builtin x o.0 h.0 o.1, refl));
     within = all_within;
@@ -94,14 +94,14 @@ module _ {X E V W U : Type 0} (s : Scheme) (scheme : SchemeLaws s) (size : ItemS
 -- ---- what a list that was read says of each value of which the same is seen
 
 key_within : {K A A' : Type 0} (p : K → Type 0) (wf : K → A') (w : WriteGrammar A') (rf : K → A) (r : ReadGrammar A) → ReadsBack p wf w rf r
-    → (vs : List A) (b : List ℕ) → Joined (λ v t. r.reads t v) vs b
+    → (vs : List A) (b : List ℕ) → Joined r.reads vs b
     → Each (λ v. (k : K) → v ≡ rf k → w.fits (wf k)) vs
 key_within p wf w rf r a [] b j = tt
 key_within p wf w rf r a (v ∷ vs) b j = (λ k s. a.within j.0 k (subst (λ u. r.reads j.0 u) s j.2), key_within p wf w rf r a vs j.1 j.3)
 
 pair_within : {K X A B A' B' : Type 0} (p : K → Type 0) (q : X → Type 0) (wf : K → A') (w : WriteGrammar A') (rf : K → A) (r : ReadGrammar A) (wg : X → B')
     (x : WriteGrammar B') (rg : X → B) (t : ReadGrammar B)
-    → ReadsBack p wf w rf r → ReadsBack q wg x rg t → (vs : List (A × B)) (b : List ℕ) → Joined (λ v t'. (pair_read r t).reads t' v) vs b
+    → ReadsBack p wf w rf r → ReadsBack q wg x rg t → (vs : List (A × B)) (b : List ℕ) → Joined (pair_read r t).reads vs b
     → Each (λ v. ((k : K) → v.0 ≡ rf k → w.fits (wf k)) × ((y : X) → v.1 ≡ rg y → x.fits (wg y))) vs
 pair_within p q wf w rf r wg x rg t a c [] b j = tt
 pair_within p q wf w rf r wg x rg t a c (v ∷ vs) b j = (

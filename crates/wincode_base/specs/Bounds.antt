@@ -14,15 +14,15 @@ bound_tag (Included v) = 1
 bound_tag (Excluded v) = 2
 
 -- behind the tag: nothing, or a value
-abbrev pub BoundReads : {V : Type 0} → (List ℕ → V → Type 0) → List ℕ → Bound V → Type 0
-BoundReads reads b Unbounded = b ≡ []
-BoundReads reads b (Included v) = reads b v
-BoundReads reads b (Excluded v) = reads b v
+abbrev pub IsBoundPart : {V : Type 0} → (List ℕ → V → Type 0) → List ℕ → Bound V → Type 0
+IsBoundPart reads b Unbounded = b ≡ []
+IsBoundPart reads b (Included v) = reads b v
+IsBoundPart reads b (Excluded v) = reads b v
 
 -- an end without its tag
 abbrev pub bound_part_read : {V : Type 0} → ReadGrammar V → ReadGrammar (Bound V)
 bound_part_read g = record {
-  reads = BoundReads g.reads;
+  reads = IsBoundPart g.reads;
   meta = Dynamic;
   prealloc = g.prealloc;
   borrow = g.borrow;
@@ -37,12 +37,6 @@ BoundReadRefused g old new e = TagReadRefused 4 (λ t. 3 ≤ t) old new e ⊎ (P
 -- `Unbounded` is the tag 0, `Included` the tag 1 and then its value, and `Excluded` the tag 2 and then its value.
 abbrev pub bound_read : {V : Type 0} → ReadGrammar V → ReadGrammar (Bound V)
 bound_read g = tagged_read 4 bound_tag (BoundReadRefused g) (bound_part_read g)
-
--- behind the tag: nothing, or an encoding of the value
-abbrev pub BoundWrites : {V : Type 0} → (V → List ℕ → Type 0) → Bound V → List ℕ → Type 0
-BoundWrites writes Unbounded b = b ≡ []
-BoundWrites writes (Included v) b = writes v b
-BoundWrites writes (Excluded v) b = writes v b
 
 -- what holds of the value, if there is one
 abbrev pub IfBound : {V : Type 0} → (V → Type 0) → Bound V → Type 0
@@ -65,7 +59,7 @@ BoundWriteRefused refused (Excluded v) room added e = refused v room added e
 -- an end without its tag, written
 abbrev pub bound_part_write : {V : Type 0} → WriteGrammar V → WriteGrammar (Bound V)
 bound_part_write g = record {
-  writes = BoundWrites g.writes;
+  writes = IsBoundPart g.writes;
   can = IfBound g.can;
   size = bound_size g.size;
   fits = IfBound g.fits;

@@ -19,7 +19,7 @@ pub boxed_write_laws : {X Y V : Type 0} (is_valid : X → Type 0) (model : X →
     → WriteLaws (λ y. is_valid (value y)) (λ y. model (value y)) (boxed_write g)
 boxed_write_laws is_valid model value g l =
     let r = reference_write_laws is_valid model value g l in
-    record { has_encoding = r.has_encoding; encoding_size = r.encoding_size; can_fit = r.can_fit; statics = r.statics }
+    record { has_encoding = r.has_encoding; encoding_can = r.encoding_can; encoding_size = r.encoding_size; can_fit = r.can_fit; statics = r.statics }
 
 pub boxed_reads_back : {X Y V W : Type 0} (value : Y → X) (p : X → Type 0) (ws : X → W) (w : WriteGrammar W) (rs : X → V) (r : ReadGrammar V)
     → ReadsBack p ws w rs r → ReadsBack (λ y. p (value y)) (λ y. ws (value y)) (boxed_write w) (λ y. rs (value y)) (boxed_read r)

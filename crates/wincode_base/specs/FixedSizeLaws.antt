@@ -1,8 +1,8 @@
 -- Reading encodings that all have one size.
 use Rattle.std.proofs.Common.{◌≡◌, ◌∙◌, sym, ap, subst, ℕ, ◌≤◌, Bool, List, [], ◌++◌, length, take, arith, length-append, IsTrue, Some}
 use Rattle.wincode_io.specs.Places.{onward}
-use Rattle.wincode_io.specs.Readers.{ReaderState, Stays, Loses, Takes, IsShort, ReadRefusedFor, WindowRefusedFor, Arrays}
-use Rattle.wincode_io.specs.PlaceLaws.{kept_trans, known_kept, unsteady, stays_onward, loses_onward}
+use Rattle.wincode_io.specs.Readers.{ReaderState, Stays, ReaderTells, Loses, Takes, IsShort, ReadRefusedFor, WindowRefusedFor, Arrays}
+use Rattle.wincode_io.specs.PlaceLaws.{kept_trans, known_kept, sound_trans, unsteady, stays_onward, loses_onward}
 use Rattle.wincode_base.specs.Outcomes.{Gives, Puts, Accepts, ReadRefused, ReaderDue, PieceReadRefused, NoWindow}
 use Rattle.wincode_base.specs.declared.error.ReadError.{ReadError}
 use Rattle.wincode_base.specs.declared.error.ReadError.TheVariants as reading
@@ -27,25 +27,26 @@ module _ {V : Type 0} (reads : List ℕ → V → Type 0) (n : ℕ) (sized : (b 
   window_due borrow old new reader.OutOfMemory d = d
   window_due borrow old new (reader.Io e) d = d
 
-  stayed_refuses : (borrow : ℕ) (takes_no_memory : Bool) (old new : ReaderState) (e : IoReadError) → Stays old new → ReaderDue (Accepts reads old) borrow new e
-      → ReadRefused reads borrow takes_no_memory old new (reading.Io e)
-  stayed_refuses borrow takes_no_memory old new e stays due = record {
+  stayed_refuses : (borrow : ℕ) (takes_no_memory : Bool) (old new : ReaderState) (e : IoReadError) → Stays old new → ReaderTells old new e
+      → ReaderDue (Accepts reads old) borrow new e → ReadRefused reads borrow takes_no_memory old new (reading.Io e)
+  stayed_refuses borrow takes_no_memory old new e stays device due = record {
     kept = stays.kept;
     left = λ t. record { front = []; joins = sym (stays.rest t) };
     place = stays_onward old new stays;
+    device = device;
     due = due;
   }
 
   -- the reader refused n bytes
   pub denied_refuses : (borrow : ℕ) (takes_no_memory : Bool) (old new : ReaderState) (e : ReadError) → PieceReadRefused n old new e
       → ReadRefused reads borrow takes_no_memory old new e
-  denied_refuses borrow takes_no_memory old new (reading.Io e) d = stayed_refuses borrow takes_no_memory old new e d.0 (denied_due borrow old new e d.1)
+  denied_refuses borrow takes_no_memory old new (reading.Io e) d = stayed_refuses borrow takes_no_memory old new e d.0 d.1 (denied_due borrow old new e d.2)
   denied_refuses borrow takes_no_memory old new _ d = absurd d
 
   -- the reader refused a window of n bytes
   pub window_denied_refuses : (borrow : ℕ) (takes_no_memory : Bool) (old new : ReaderState) (e : ReadError) → NoWindow n old new e
       → ReadRefused reads borrow takes_no_memory old new e
-  window_denied_refuses borrow takes_no_memory old new (reading.Io e) d = stayed_refuses borrow takes_no_memory old new e d.0 (window_due borrow old new e d.1)
+  window_denied_refuses borrow takes_no_memory old new (reading.Io e) d = stayed_refuses borrow takes_no_memory old new e d.0 d.1 (window_due borrow old new e d.2)
   window_denied_refuses borrow takes_no_memory old new _ d = absurd d
 
 -- bytes that were shown as an array, and then consumed
@@ -56,6 +57,7 @@ arrays_takes n old mid new a s l = record {
     rest = λ t. subst (λ b. (n ≤ length b) × (b ≡ take n b ++ new.rest)) (s.stays.rest t) (l.rest (known_kept s.stays.kept t));
     ready = let a = s.stays.ready in let b = l.ready in omega arith;
     place = l.place ∙ ap (onward n) s.stays.place;
+    sound = sound_trans s.sound l.sound;
   };
   size = s.size;
   front = λ t. (s.front t).1;
@@ -70,6 +72,7 @@ pub takes_gives : {V : Type 0} (reads : List ℕ → V → Type 0) (n : ℕ) (ol
     → Gives reads old new v
 takes_gives reads n old new bytes v t r = record {
   kept = t.loses.kept;
+  sound = t.loses.sound;
   found = λ told. record { encoding = bytes; is_read = r; joins = takes_joins t told };
   place = loses_onward n old new t.loses;
 }

@@ -22,7 +22,7 @@ gathered_read {D} see makes s size g = record {
 -- Some order of the items, of this size, is written as a list. Refused, the list of some order was.
 abbrev pub scattered_write_of : {V : Type 0} → Scheme → ItemSize → WriteGrammar V → WriteGrammar (List V)
 scattered_write_of {V} s size g = record {
-  writes = λ vs b. (us : List V) × IsPermutation vs us × (list_write_of s 24 size g).writes us b;
+  writes = λ b vs. (us : List V) × IsPermutation vs us × (list_write_of s 24 size g).writes b us;
   can = (list_write_of s 24 size g).can;
   size = (list_write_of s 24 size g).size;
   fits = (list_write_of s 24 size g).fits;

@@ -35,7 +35,7 @@ never_refused v room added e = ⊥
 -- the limit by which it is read. `builtin` says that all parts are this crate's own, and `refused` what holds of a refused
 -- write, also of what can't be written.
 pub record WriteGrammar (V : Type 0) : Type 1 where
-  pub writes : V → List ℕ → Type 0
+  pub writes : List ℕ → V → Type 0
   pub can : V → Type 0
   pub size : V → ℕ
   pub fits : V → Type 0
@@ -63,17 +63,20 @@ pub record ReadLaws {V : Type 0} (is_valid : V → Type 0) (g : ReadGrammar V) :
   pub statics : IsReadStatic g.reads g.meta
   pub prealloc : 1 ≤ g.prealloc
 
--- A value is an X, and contracts see it by `model`.
+-- The laws of writing, `write_laws` of a schema: exactly what can be written has an encoding, each of its size; what is within
+-- its limits can be written; and a size that is announced is that of all that can be. A value is an X, and contracts see it
+-- by `model`.
 pub record WriteLaws {X V : Type 0} (is_valid : X → Type 0) (model : X → V) (g : WriteGrammar V) : Type 0 where
-  pub has_encoding : (v : V) → g.can v → (b : List ℕ) × g.writes v b
-  pub encoding_size : (v : V) (b : List ℕ) → g.writes v b → length b ≡ g.size v
+  pub has_encoding : (v : V) → g.can v → (b : List ℕ) × g.writes b v
+  pub encoding_can : (v : V) (b : List ℕ) → g.writes b v → g.can v
+  pub encoding_size : (v : V) (b : List ℕ) → g.writes b v → length b ≡ g.size v
   pub can_fit : (v : V) → g.fits v → g.can v
   pub statics : IsWriteStatic is_valid model g.can g.size g.meta
 
 -- An encoding of a value within its limits reads as it, and what was read is within them. The value is an X, which writing
 -- sees by `ws` and reading by `rs`.
 pub record ReadsBack {X V W : Type 0} (is_valid : X → Type 0) (ws : X → W) (w : WriteGrammar W) (rs : X → V) (r : ReadGrammar V) : Type 0 where
-  pub back : (x : X) (b : List ℕ) → is_valid x → w.writes (ws x) b → w.fits (ws x) → r.reads b (rs x)
+  pub back : (x : X) (b : List ℕ) → is_valid x → w.writes b (ws x) → w.fits (ws x) → r.reads b (rs x)
   pub within : (b : List ℕ) (x : X) → r.reads b (rs x) → w.fits (ws x)
   pub same_prealloc : w.prealloc ≡ r.prealloc
   pub same_meta : w.meta ≡ r.meta

@@ -34,9 +34,14 @@ abbrev pub behind_size : ℕ → Option ℕ → Option ℕ
 behind_size before None = None
 behind_size before (Some t) = if nat_lt (before + t) (2 ^ 64) then Some (before + t) else None
 
--- every encoding of an item has the size, or nothing is known of it
+-- no other size is announced
+abbrev pub MayBeOf : TypeMeta → ℕ → Type 0
+MayBeOf Dynamic s = Unit {0}
+MayBeOf (Static k z) s = k ≡ s
+
+-- every encoding of an item has the size, which is announced or none is; or nothing is known of it
 abbrev pub IsReadItemSize : {V : Type 0} → ReadGrammar V → ItemSize → Type 0
-IsReadItemSize {V} g (Bytes s) = (b : List ℕ) (v : V) → g.reads b v → length b ≡ s
+IsReadItemSize {V} g (Bytes s) = ((b : List ℕ) (v : V) → g.reads b v → length b ≡ s) × MayBeOf g.meta s
 IsReadItemSize {V} g Vast = (b : List ℕ) (v : V) → g.reads b v → 2 ^ 64 ≤ length b
 IsReadItemSize g Unknown = g.meta ≡ Dynamic
 

@@ -45,6 +45,7 @@ number_read_laws k any some = record {
 pub number_write_laws : (k : ℕ) (any : Bool) → WriteLaws (λ v. v < 256 ^ k) (λ v. v) (number_write k any)
 number_write_laws k any = record {
   has_encoding = λ v c. (le k v, refl);
+  encoding_can = λ v b w. tt;
   encoding_size = λ v b w. ap length w ∙ length-le k v;
   can_fit = λ v f. f;
   statics = (λ v p. tt, λ w c. refl);
@@ -93,6 +94,7 @@ module _ (w : Width) (pow : 256 ^ byte_len w ≡ 2 ^ bits w) where
 pub signed_write_laws : (w : Width) (any : Bool) → WriteLaws (FitsSigned w) (λ z. z) (signed_write w any)
 signed_write_laws w any = record {
   has_encoding = λ z c. (le (byte_len w) (cast_unsigned w z), refl);
+  encoding_can = λ z b t. tt;
   encoding_size = λ z b t. ap length t ∙ length-le (byte_len w) (cast_unsigned w z);
   can_fit = λ z f. f;
   statics = (λ z p. tt, λ w c. refl);
@@ -132,6 +134,7 @@ bool_read_laws = record {
 pub bool_write_laws : WriteLaws (λ v. Unit {0}) (λ v. v) bool_write
 bool_write_laws = record {
   has_encoding = λ v c. (bool_byte v ∷ [], refl);
+  encoding_can = λ v b t. tt;
   encoding_size = λ v b t. ap length t;
   can_fit = λ v f. f;
   statics = (λ v p. tt, λ w c. refl);
@@ -155,6 +158,7 @@ unit_read_laws = record {
 pub unit_write_laws : {X : Type 0} → WriteLaws {X = X} (λ x. Unit {0}) (λ x. tt) unit_write
 unit_write_laws = record {
   has_encoding = λ v c. ([], refl);
+  encoding_can = λ v b t. tt;
   encoding_size = λ v b t. ap length t;
   can_fit = λ v f. f;
   statics = (λ x p. tt, λ w c. refl);

@@ -23,7 +23,7 @@ number_read k any = record {
 -- the same, written
 abbrev pub number_write : ℕ → Bool → WriteGrammar ℕ
 number_write k any = record {
-  writes = λ v b. b ≡ le k v;
+  writes = λ b v. b ≡ le k v;
   can = λ v. Unit {0};
   size = λ v. k;
   fits = λ v. Unit {0};
@@ -47,7 +47,7 @@ signed_read w any = record {
 -- the same, written
 abbrev pub signed_write : Width → Bool → WriteGrammar ℤ
 signed_write w any = record {
-  writes = λ z b. b ≡ le (byte_len w) (cast_unsigned w z);
+  writes = λ b z. b ≡ le (byte_len w) (cast_unsigned w z);
   can = λ z. Unit {0};
   size = λ z. byte_len w;
   fits = λ z. Unit {0};
@@ -82,7 +82,7 @@ bool_read = record {
 -- the same, written
 abbrev pub bool_write : WriteGrammar Bool
 bool_write = record {
-  writes = λ v b. b ≡ bool_byte v ∷ [];
+  writes = λ b v. b ≡ bool_byte v ∷ [];
   can = λ v. Unit {0};
   size = λ v. 1;
   fits = λ v. Unit {0};
@@ -106,7 +106,7 @@ unit_read = record {
 -- the same, written
 abbrev pub unit_write : WriteGrammar Unit
 unit_write = record {
-  writes = λ v b. b ≡ [];
+  writes = λ b v. b ≡ [];
   can = λ v. Unit {0};
   size = λ v. 0;
   fits = λ v. Unit {0};

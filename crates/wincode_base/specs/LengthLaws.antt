@@ -31,6 +31,7 @@ encoding_of_len s n x e = sym (ap encoding_len e)
 pub length_write_laws : (s : Scheme) → WriteLaws (λ n. Unit {0}) (λ n. n) (length_write s)
 length_write_laws s = record {
   has_encoding = λ n c. c;
+  encoding_can = λ n b w. (b, w);
   encoding_size = λ n b w. encoding_of_len s n b w;
   can_fit = λ n f. f;
   statics = tt;

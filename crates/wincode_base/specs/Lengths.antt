@@ -53,7 +53,7 @@ length_read s p = record { reads = IsLength s p; meta = Dynamic; prealloc = 1; b
 -- a length alone, as something to write
 abbrev pub length_write : Scheme → WriteGrammar ℕ
 length_write s = record {
-  writes = λ n b. s.encoding n ≡ Some b;
+  writes = λ b n. s.encoding n ≡ Some b;
   can = λ n. HasEncoding s n;
   size = λ n. encoding_len (s.encoding n);
   fits = λ n. HasEncoding s n;

@@ -37,6 +37,7 @@ pub mod AsForms
 pub mod JoinedSizes
 pub mod Made
 pub mod MadeLaws
+pub mod SocketLaws
 pub mod FloatLaws
 pub mod Bounds
 pub mod BoundLaws

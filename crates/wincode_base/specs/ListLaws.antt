@@ -3,7 +3,7 @@ use Rattle.std.proofs.Common.{◌≡◌, ◌∙◌, sym, ap, subst, ℕ, ◌+◌
 use Rattle.std.proofs.Common.{arith, append_assoc, length-append}
 use Rattle.std.proofs.lemmas.List.{length-map}
 use Rattle.wincode_io.specs.Readers.{ReaderState}
-use Rattle.wincode_io.specs.PlaceLaws.{kept_trans, known_kept, still}
+use Rattle.wincode_io.specs.PlaceLaws.{kept_trans, known_kept, sound_refl, sound_trans, still}
 use Rattle.wincode_base.specs.Grammar.{ReadGrammar, WriteGrammar, ReadLaws, WriteLaws, ReadsBack}
 use Rattle.wincode_base.specs.Lengths.{Scheme, SchemeLaws, IsLength, encoding_len}
 use Rattle.wincode_base.specs.Lists.{items_write, reads_list, list_read, parts_write, list_write_of, list_write}
@@ -27,7 +27,7 @@ pub then_list : {V : Type 0} (s : Scheme) (g : ReadGrammar V) (b : List ℕ) (vs
     → reads_list s g b vs
 then_list s g b vs r = let P : ℕ → Type 0 = λ n. IsLength s g.prealloc r.x n in let h = subst P (sym r.two.0) r.one in (h.0, (r.x, r.y, h.1, r.two.1, r.joins))
 
-pub each_valid : {V : Type 0} (is_valid : V → Type 0) (g : ReadGrammar V) → ReadLaws is_valid g → (vs : List V) (b : List ℕ) → Joined (λ v t. g.reads t v) vs b
+pub each_valid : {V : Type 0} (is_valid : V → Type 0) (g : ReadGrammar V) → ReadLaws is_valid g → (vs : List V) (b : List ℕ) → Joined g.reads vs b
     → Each is_valid vs
 each_valid is_valid g laws [] b p = tt
 each_valid is_valid g laws (v ∷ vs) b p = (laws.reads_valid p.0 v p.2, each_valid is_valid g laws vs p.1 p.3)
@@ -48,6 +48,7 @@ module _ {V : Type 0} (reads : List ℕ → V → Type 0) where
   pub items_none : (s : ReaderState) → Gives (AreItems 0 reads) s s []
   items_none s = record {
     kept = record { lends = refl; never_fails = refl; counts_windows = refl; is_known = refl };
+    sound = sound_refl s;
     found = λ t. record { encoding = []; is_read = (refl, refl); joins = refl };
     place = λ t. still s;
   }
@@ -56,6 +57,7 @@ module _ {V : Type 0} (reads : List ℕ → V → Type 0) where
       → Gives (AreItems (i + 1) reads) old new (vs ++ (v ∷ []))
   items_more i old mid new vs v g h = record {
     kept = kept_trans g.kept h.kept;
+    sound = sound_trans g.sound h.sound;
     found = λ t. let f = g.found t in let k = h.found (known_kept g.kept t) in let l : length vs ≡ i = f.is_read.0 in record {
       encoding = f.encoding ++ k.encoding;
       is_read = (simp length-append (omega arith), joined_snoc reads vs v f.encoding k.encoding f.is_read.1 k.is_read);
@@ -65,12 +67,12 @@ module _ {V : Type 0} (reads : List ℕ → V → Type 0) where
   }
 
   abbrev AfterItem : V → List ℕ → List V → Type 0
-  AfterItem v b ws = Joined (λ u t. reads t u) ws b
+  AfterItem v b ws = Joined reads ws b
 
   abbrev FromItem : List V → List ℕ → List V → Type 0
   FromItem us = Then reads AfterItem
 
-  split : (i : ℕ) (vs : List V) (b : List ℕ) → i < length vs → Joined (λ u t. reads t u) vs b → (ws : List V) × Then (AreItems i reads) FromItem b ws
+  split : (i : ℕ) (vs : List V) (b : List ℕ) → i < length vs → Joined reads vs b → (ws : List V) × Then (AreItems i reads) FromItem b ws
   split i [] b h p = absurd (omega arith)
   split zero (v ∷ vs) b h p = (
     vs,
@@ -125,6 +127,7 @@ no_memory R S borrow old new u g = record {
   kept = g.kept;
   left = λ t. let f = g.found t in record { front = f.encoding; joins = f.joins };
   place = g.place;
+  device = g.sound;
   due = none_spared new.never_fails;
 }
 
@@ -150,12 +153,17 @@ module _ {V : Type 0} (s : Scheme) (g : ReadGrammar V) where
 
 -- ---- writing
 
-each_encoding : {V : Type 0} (g : WriteGrammar V) → ((v : V) → g.can v → (b : List ℕ) × g.writes v b) → (vs : List V) → Each g.can vs → (b : List ℕ)
+each_encoding : {V : Type 0} (g : WriteGrammar V) → ((v : V) → g.can v → (b : List ℕ) × g.writes b v) → (vs : List V) → Each g.can vs → (b : List ℕ)
     × Joined g.writes vs b
 each_encoding g encoding [] c = ([], refl)
 each_encoding g encoding (v ∷ vs) c = let h = encoding v c.0 in let r = each_encoding g encoding vs c.1 in (h.0 ++ r.0, (h.0, r.0, h.1, r.1, refl))
 
-each_size : {V : Type 0} (g : WriteGrammar V) → ((v : V) (b : List ℕ) → g.writes v b → length b ≡ g.size v) → (vs : List V) (b : List ℕ) → Joined g.writes vs b
+each_can : {V : Type 0} (g : WriteGrammar V) → ((v : V) (b : List ℕ) → g.writes b v → g.can v) → (vs : List V) (b : List ℕ) → Joined g.writes vs b
+    → Each g.can vs
+each_can g can [] b w = tt
+each_can g can (v ∷ vs) b w = (can v w.0 w.2, each_can g can vs w.1 w.3)
+
+each_size : {V : Type 0} (g : WriteGrammar V) → ((v : V) (b : List ℕ) → g.writes b v → length b ≡ g.size v) → (vs : List V) (b : List ℕ) → Joined g.writes vs b
     → length b ≡ total g.size vs
 each_size g size [] b w = ap length w
 each_size g size (v ∷ vs) b w = ap length w.4 ∙ length-append w.0 w.1 ∙ ap (λ n. n + length w.1) (size v w.0 w.2)
@@ -165,6 +173,7 @@ pub items_write_laws : {X V : Type 0} (is_valid : X → Type 0) (model : X → V
     → WriteLaws {X = List X} (Each is_valid) (map model) (items_write g)
 items_write_laws is_valid model g laws = record {
   has_encoding = λ vs c. each_encoding g laws.has_encoding vs c;
+  encoding_can = λ vs b w. each_can g laws.encoding_can vs b w;
   encoding_size = λ vs b w. each_size g laws.encoding_size vs b w;
   can_fit = λ vs f. each_map g.fits g.can laws.can_fit vs f;
   statics = tt;
@@ -175,6 +184,7 @@ pub list_write_laws_of : {X Y V : Type 0} (s : Scheme) (count : ℕ) (size : Ite
     (g : WriteGrammar V) → WriteLaws is_valid model g → WriteLaws (λ x. Each is_valid (items x)) (λ x. map model (items x)) (list_write_of s count size g)
 list_write_laws_of s count size items is_valid model g laws = record {
   has_encoding = λ vs c. let r = each_encoding g laws.has_encoding vs c.1 in (c.0.0 ++ r.0, (c.0.0, r.0, c.0.1, r.1, refl));
+  encoding_can = λ vs b w. ((w.0, w.2), each_can g laws.encoding_can vs w.1 w.3);
   encoding_size = λ vs b w. ap length w.4 ∙ length-append w.0 w.1 ∙ ap (λ n. n + length w.1) (encoding_of_len s (length vs) w.0 w.2)
       ∙ ap (λ n. encoding_len (s.encoding (length vs)) + n) (each_size g laws.encoding_size vs w.1 w.3);
   can_fit = λ vs f. (f.0, each_map g.fits g.can laws.can_fit vs f.2);
@@ -189,17 +199,17 @@ list_write_laws s count items is_valid model g laws = list_write_laws_of s count
 pub parts_write_laws : {X Y V : Type 0} (s : Scheme) (count : ℕ) (items : X → List Y) (is_valid : Y → Type 0) (model : Y → V) (g : WriteGrammar V)
     → WriteLaws is_valid model g → WriteLaws (λ x. Each is_valid (items x)) (λ x. map model (items x)) (parts_write s count g)
 parts_write_laws s count items is_valid model g laws = let l = list_write_laws_of s count Unknown items is_valid model g laws in
-    record { has_encoding = l.has_encoding; encoding_size = l.encoding_size; can_fit = l.can_fit; statics = tt }
+    record { has_encoding = l.has_encoding; encoding_can = l.encoding_can; encoding_size = l.encoding_size; can_fit = l.can_fit; statics = tt }
 
 -- ---- reading back what was written
 
 pub each_back : {X V W : Type 0} (is_valid : X → Type 0) (ws : X → W) (w : WriteGrammar W) (rs : X → V) (r : ReadGrammar V) → ReadsBack is_valid ws w rs r
-    → (xs : List X) (b : List ℕ) → Each is_valid xs → Joined w.writes (map ws xs) b → Each w.fits (map ws xs) → Joined (λ v t. r.reads t v) (map rs xs) b
+    → (xs : List X) (b : List ℕ) → Each is_valid xs → Joined w.writes (map ws xs) b → Each w.fits (map ws xs) → Joined r.reads (map rs xs) b
 each_back is_valid ws w rs r law [] b p j f = j
 each_back is_valid ws w rs r law (x ∷ xs) b p j f = (j.0, j.1, law.back x j.0 p.0 j.2 f.0, each_back is_valid ws w rs r law xs j.1 p.1 j.3 f.1, j.4)
 
 pub each_within : {X V W : Type 0} (is_valid : X → Type 0) (ws : X → W) (w : WriteGrammar W) (rs : X → V) (r : ReadGrammar V) → ReadsBack is_valid ws w rs r
-    → (xs : List X) (b : List ℕ) → Joined (λ v t. r.reads t v) (map rs xs) b → Each w.fits (map ws xs)
+    → (xs : List X) (b : List ℕ) → Joined r.reads (map rs xs) b → Each w.fits (map ws xs)
 each_within is_valid ws w rs r law [] b j = tt
 each_within is_valid ws w rs r law (x ∷ xs) b j = (law.within j.0 x j.2, each_within is_valid ws w rs r law xs j.1 j.3)
 

@@ -1,6 +1,7 @@
 -- Texts joined, and lists behind their length.
-use Rattle.std.specs.Prelude.{◌≡◌, ◌⊎◌, ℕ, ◌+◌, ◌-◌, ◌<◌, ◌≤◌, ◌^◌, false, ◌&&◌, List, [], ◌∷◌, ◌++◌, length, Option, Some, None, Result, OnOk, OnErr, IfErr}
-use Rattle.wincode_io.specs.Readers.{ReaderState, Stays}
+use Rattle.std.specs.Prelude.{◌≡◌, ◌⊎◌, ℕ, ◌+◌, ◌*◌, ◌-◌, ◌<◌, ◌≤◌, ◌^◌, true, false, ◌&&◌, IsTrue, List, [], ◌∷◌, ◌++◌, length, Option, Some, None, Result, OnOk, OnErr, IfErr}
+use Rattle.wincode_io.specs.Readers.{ReaderState, StaysSound}
+use Rattle.wincode_io.specs.Writers.{byte_limit}
 use Rattle.wincode_io.specs.Joins.{Joined, Each, total, AreItems}
 use Rattle.wincode_base.specs.Grammar.{ReadGrammar, WriteGrammar, WriteRefusal, ReadRefusal}
 use Rattle.wincode_base.specs.Lengths.{Scheme, HasEncoding, LengthSizeRefused, encoding_len, IsLength, length_write, length_read}
@@ -11,7 +12,8 @@ use Rattle.wincode_base.specs.ItemSizes.{item_size, run_size, behind_size}
 use Rattle.wincode_base.specs.declared.error.ReadError.{ReadError}
 use Rattle.wincode_base.specs.declared.error.ReadError.TheVariants as reading
 use Rattle.wincode_base.specs.declared.error.WriteError.{WriteError}
-use Rattle.wincode_base.specs.declared.meta.TypeMeta.TheVariants.{Dynamic}
+use Rattle.wincode_base.specs.declared.meta.TypeMeta.{TypeMeta}
+use Rattle.wincode_base.specs.declared.meta.TypeMeta.TheVariants.{Static, Dynamic}
 use Rattle.wincode_base.specs.declared.sizes.ItemSize.{ItemSize}
 use Rattle.wincode_base.specs.declared.sizes.ItemSize.TheVariants.{Bytes, Vast, Unknown}
 
@@ -38,7 +40,7 @@ item_write g = record g { refused = λ v room added e. g.meta ≡ Dynamic → g.
 -- items without their length, as something to write
 abbrev pub items_write : {V : Type 0} → WriteGrammar V → WriteGrammar (List V)
 items_write g = record {
-  writes = λ vs b. Joined g.writes vs b;
+  writes = λ b vs. Joined g.writes vs b;
   can = λ vs. Each g.can vs;
   size = λ vs. total g.size vs;
   fits = λ vs. Each g.fits vs;
@@ -53,12 +55,16 @@ abbrev pub each_write : {V : Type 0} → WriteGrammar V → WriteGrammar (List V
 each_write g = record (items_write g) { refused = ItemWriteRefused g }
 
 -- b is the encoding of the length of vs, and then their encodings joined
-abbrev pub IsListEncoding : {V : Type 0} → Scheme → (V → List ℕ → Type 0) → List V → List ℕ → Type 0
+abbrev pub IsListEncoding : {V : Type 0} → Scheme → (List ℕ → V → Type 0) → List V → List ℕ → Type 0
 IsListEncoding s R vs b = (x : List ℕ) × (y : List ℕ) × (s.encoding (length vs) ≡ Some x) × Joined R vs y × (b ≡ x ++ y)
 
 -- b reads as the list vs, whose length the scheme admits
 abbrev pub reads_list : {V : Type 0} → Scheme → ReadGrammar V → List ℕ → List V → Type 0
-reads_list s g b vs = s.admits (length vs) g.prealloc × IsListEncoding s (λ v x. g.reads x v) vs b
+reads_list s g b vs = s.admits (length vs) g.prealloc × IsListEncoding s g.reads vs b
+
+-- A list is within its limits: its length is read, of so much as an item counts, and each item is within its own.
+abbrev pub ListFits : {V : Type 0} → Scheme → WriteGrammar V → List V → Type 0
+ListFits s g vs = HasEncoding s (length vs) × s.admits (length vs) g.prealloc × Each g.fits vs
 
 -- its length was refused, or, behind its encoding, its items
 abbrev pub PartsWriteRefused : {V : Type 0} → Scheme → WriteGrammar V → WriteRefusal (List V)
@@ -67,10 +73,10 @@ PartsWriteRefused s g vs = PairWriteRefused (length_write s) (items_write g) (le
 -- A list that is written without a window.
 abbrev pub parts_write : {V : Type 0} → Scheme → ℕ → WriteGrammar V → WriteGrammar (List V)
 parts_write s count g = record {
-  writes = λ vs b. IsListEncoding s g.writes vs b;
+  writes = λ b vs. IsListEncoding s g.writes vs b;
   can = λ vs. HasEncoding s (length vs) × Each g.can vs;
   size = λ vs. encoding_len (s.encoding (length vs)) + total g.size vs;
-  fits = λ vs. HasEncoding s (length vs) × s.admits (length vs) g.prealloc × Each g.fits vs;
+  fits = ListFits s g;
   meta = Dynamic;
   prealloc = count;
   builtin = s.builtin && g.builtin;
@@ -125,13 +131,22 @@ pub record ItemReadRefused {V : Type 0} (n : ℕ) (g : ReadGrammar V) (old new :
   pub gives : Gives (AreItems count g.reads) old mid items
   pub stop : ((count < n) × SchemaReadRefused g mid new e) ⊎ ((count ≤ n) × (e ≡ reading.OutOfMemory) × (new ≡ mid))
 
--- So, of items that may differ in size. Items of one size may be read at once.
+-- n bytes are there in memory, of no more than `usize::MAX` that are left
+abbrev pub AreInMemory : ℕ → ReaderState → Type 0
+AreInMemory n s = (s.never_fails ≡ true) × IsTrue s.is_known × (n ≤ length s.rest) × (length s.rest ≤ byte_limit)
+
+-- the bytes of n items are there, where these have one size
+abbrev pub AreThere : ℕ → TypeMeta → ReaderState → Type 0
+AreThere n Dynamic s = Unit {0}
+AreThere n (Static k z) s = AreInMemory (n * k) s
+
+-- So, where the bytes of items of one size are there. Else such items may be refused all at once.
 abbrev pub ItemsReadRefused : {V : Type 0} → ℕ → ReadGrammar V → ReadRefusal
-ItemsReadRefused n g old new e = g.meta ≡ Dynamic → ItemReadRefused n g old new e
+ItemsReadRefused n g old new e = AreThere n g.meta old → ItemReadRefused n g old new e
 
 -- the reader stays, and a size overflows
 abbrev pub TotalReadRefused : ReadRefusal
-TotalReadRefused old new (reading.LengthEncodingOverflow t) = Stays old new × (t.now ≡ past_usize)
+TotalReadRefused old new (reading.LengthEncodingOverflow t) = StaysSound old new × (t.now ≡ past_usize)
 TotalReadRefused old new _ = ⊥
 
 -- So many bytes go through one window of them; where they are past `usize::MAX`, none is taken.
@@ -142,8 +157,8 @@ SpanReadRefused (Some n) inside = WindowReadRefused n inside
 -- n items of this size were refused
 abbrev pub RunReadRefused : {V : Type 0} → ℕ → ItemSize → ReadGrammar V → ReadRefusal
 RunReadRefused n Unknown g = ItemReadRefused n g
-RunReadRefused n (Bytes s) g = SpanReadRefused (run_size n (Bytes s)) (ItemsReadRefused n g)
-RunReadRefused n Vast g = SpanReadRefused (run_size n Vast) (ItemsReadRefused n g)
+RunReadRefused n (Bytes s) g = SpanReadRefused (run_size n (Bytes s)) (ItemReadRefused n g)
+RunReadRefused n Vast g = SpanReadRefused (run_size n Vast) (ItemReadRefused n g)
 
 -- n items, one after another
 abbrev pub items_read : {V : Type 0} → ℕ → ReadGrammar V → ReadGrammar (List V)
@@ -157,8 +172,7 @@ run_read n size g = record (items_read n g) { refused = RunReadRefused n size g 
 pub record AddOutcome {A D V : Type 0} (n : ℕ) (g : ReadGrammar V) (model : D → V) (old new : ReaderState) (before after : List D)
     (r : Result A ReadError) : Type 0 where
   pub ok : OnOk r (Adds n g.reads model old new before after)
-  pub refused : IfErr r (ReadRefused (AreItems n g.reads) g.borrow false old new)
-  pub place : IfErr r (ItemsReadRefused n g old new)
+  pub refused : IfErr r (SchemaReadRefused (items_read n g) old new)
   pub same : OnErr r (after ≡ before)
 
 -- A list of items of this size was refused: its length was, as the scheme says; or, behind it, its items were.

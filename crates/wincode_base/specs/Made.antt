@@ -2,7 +2,7 @@
 use lib.Ieee.{Format}
 use Rattle.std.specs.Duration.{as_nanos}
 use Rattle.std.specs.Net.Addr.{ipv4_octets, ipv6_octets}
-use Rattle.std.specs.Net.Socket.{v4_ip, v4_port, v6_ip, v6_port}
+use Rattle.std.specs.Net.Socket.{v4_ip, v4_port, v6_ip, v6_port, v6_flowinfo, v6_scope_id}
 use Rattle.std.specs.declared.net.ip_addr.IpAddr.{IpAddr}
 use Rattle.std.specs.declared.net.ip_addr.IpAddr.TheVariants as ip
 use Rattle.std.specs.declared.net.ipv4_addr.Ipv4Addr.{Ipv4Addr}
@@ -15,7 +15,7 @@ use Rattle.std.specs.Time.{system_time_nanos}
 use Rattle.std.specs.declared.time.Duration.{Duration}
 use Rattle.std.specs.declared.time.SystemTime.{SystemTime}
 use Rattle.std.specs.Prelude.{◌≡◌, ◌⊎◌, ◌+◌, ◌-◌, ◌*◌, ◌^◌, min, ◌/◌, ◌%◌, ◌<◌, List, ℕ, Result, Ok, Err, codes, to_bits, from_bits}
-use Rattle.wincode_base.specs.Grammar.{ReadGrammar, ReadRefusal}
+use Rattle.wincode_base.specs.Grammar.{ReadGrammar, ReadRefusal, WriteGrammar}
 use Rattle.wincode_base.specs.Outcomes.{Gives, SchemaReadRefused}
 use Rattle.wincode_base.specs.Strings.{reference_meta}
 use Rattle.wincode_base.specs.declared.error.ReadError.{ReadError}
@@ -98,9 +98,17 @@ ip_parts (ip.V6 a) = Err a
 abbrev pub socket_v4_parts : SocketAddrV4 → List ℕ × ℕ
 socket_v4_parts a = (ipv4_octets (v4_ip a), v4_port a)
 
--- The same. What else the address of a socket has isn't written.
+-- The same, which is what is written.
+abbrev pub socket_v6_written : SocketAddrV6 → List ℕ × ℕ
+socket_v6_written a = (ipv6_octets (v6_ip a), v6_port a)
+
+-- The same, where what isn't written, the flow label and the scope, stands above the two bytes of the port.
 abbrev pub socket_v6_parts : SocketAddrV6 → List ℕ × ℕ
-socket_v6_parts a = (ipv6_octets (v6_ip a), v6_port a)
+socket_v6_parts a = (ipv6_octets (v6_ip a), v6_port a + 256 ^ 2 * (v6_flowinfo a + v6_scope_id a))
+
+-- Written so, an address is within the limits of reading where it has no flow label and no scope, so that all of it is written.
+abbrev pub unscoped_write : WriteGrammar (List ℕ × ℕ) → WriteGrammar (List ℕ × ℕ)
+unscoped_write g = record g { fits = λ v. g.fits v × (v.1 < 256 ^ 2) }
 
 -- the address of either kind, and the port
 abbrev pub socket_parts : SocketAddr → Result SocketAddrV4 SocketAddrV6

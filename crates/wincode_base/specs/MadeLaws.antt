@@ -41,6 +41,7 @@ pub made_write_laws : {X Y V : Type 0} (sound : Y → Type 0) {is_valid : X → 
     → WriteLaws is_valid model g → WriteLaws (λ y. sound y × is_valid (parts y)) (λ y. model (parts y)) (reference_write g)
 made_write_laws sound {is_valid = is_valid} {model = model} parts {g = g} l = record {
   has_encoding = l.has_encoding;
+  encoding_can = l.encoding_can;
   encoding_size = l.encoding_size;
   can_fit = l.can_fit;
   statics = sound_static sound is_valid model parts g.can g.size g.meta l.statics;

@@ -104,6 +104,7 @@ pub pair_write_laws : {X Y V W : Type 0} {p : X → Type 0} {q : Y → Type 0} {
     → WriteLaws {X = X × Y} (λ t. p t.0 × q t.1) (λ t. (model t.0, model' t.1)) (pair_write g h)
 pair_write_laws {p = p} {q = q} {model = model} {model' = model'} {g = g} {h = h} l m = record {
   has_encoding = λ v c. let a = l.has_encoding v.0 c.0 in let b = m.has_encoding v.1 c.1 in (a.0 ++ b.0, (a.0, b.0, a.1, b.1, refl));
+  encoding_can = λ v b r. (l.encoding_can v.0 r.0 r.2, m.encoding_can v.1 r.1 r.3);
   encoding_size = λ v b r. ap length r.4 ∙ length-append r.0 r.1 ∙ ap (λ n. n + length r.1) (l.encoding_size v.0 r.0 r.2)
       ∙ ap (λ n. g.size v.0 + n) (m.encoding_size v.1 r.1 r.3);
   can_fit = λ v f. (l.can_fit v.0 f.0, m.can_fit v.1 f.1);
@@ -124,7 +125,13 @@ pair_reads_back {w = w} {r = r} {w' = w'} {r' = r'} a b = record {
 -- ---- through a window
 
 pub windowed_write_laws : {X V : Type 0} {p : X → Type 0} {model : X → V} {g : WriteGrammar V} → WriteLaws p model g → WriteLaws p model (windowed_write g)
-windowed_write_laws l = record { has_encoding = l.has_encoding; encoding_size = l.encoding_size; can_fit = l.can_fit; statics = l.statics }
+windowed_write_laws l = record {
+  has_encoding = l.has_encoding;
+  encoding_can = l.encoding_can;
+  encoding_size = l.encoding_size;
+  can_fit = l.can_fit;
+  statics = l.statics;
+}
 
 pub windowed_read_laws : {V : Type 0} {p : V → Type 0} {g : ReadGrammar V} → ReadLaws p g → ReadLaws p (windowed_read g)
 windowed_read_laws l = record { one_front = l.one_front; reads_valid = l.reads_valid; statics = l.statics; prealloc = l.prealloc }
@@ -144,6 +151,7 @@ pub write_laws_by : {X Y V : Type 0} (fields : X → Y) {p : Y → Type 0} {mode
     → WriteLaws (λ x. p (fields x)) (λ x. model (fields x)) g
 write_laws_by fields {p = p} {model = model} {g = g} l = record {
   has_encoding = l.has_encoding;
+  encoding_can = l.encoding_can;
   encoding_size = l.encoding_size;
   can_fit = l.can_fit;
   statics = statics_by fields p model g.can g.size g.meta l.statics;

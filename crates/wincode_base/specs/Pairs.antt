@@ -32,12 +32,12 @@ pair_read g h = record {
 -- the first part was refused, or, behind its encoding, the second
 abbrev pub PairWriteRefused : {V W : Type 0} → WriteGrammar V → WriteGrammar W → WriteRefusal (V × W)
 PairWriteRefused g h v room added e = g.refused v.0 room added e
-    ⊎ ((x : List ℕ) × (y : List ℕ) × g.writes v.0 x × (added ≡ x ++ y) × h.refused v.1 (room - length x) y e)
+    ⊎ ((x : List ℕ) × (y : List ℕ) × g.writes x v.0 × (added ≡ x ++ y) × h.refused v.1 (room - length x) y e)
 
 -- Writing two parts, one after the other.
 abbrev pub pair_write : {V W : Type 0} → WriteGrammar V → WriteGrammar W → WriteGrammar (V × W)
 pair_write g h = record {
-  writes = λ v b. (x : List ℕ) × (y : List ℕ) × g.writes v.0 x × h.writes v.1 y × (b ≡ x ++ y);
+  writes = λ b v. (x : List ℕ) × (y : List ℕ) × g.writes x v.0 × h.writes y v.1 × (b ≡ x ++ y);
   can = λ v. g.can v.0 × h.can v.1;
   size = λ v. g.size v.0 + h.size v.1;
   fits = λ v. g.fits v.0 × h.fits v.1;

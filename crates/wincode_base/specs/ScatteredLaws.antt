@@ -5,10 +5,10 @@ use Rattle.std.specs.List.Sorted.{IsPermutation, apply_swaps, SwapsInRange}
 use Rattle.std.proofs.lemmas.List.{length-map, map-set}
 use Rattle.std.proofs.lemmas.List.Sums.{sum_by-cons}
 use Rattle.std.proofs.lemmas.List.Elements.{All-nil, All-cons, All-head, All-tail}
-use Rattle.std.proofs.lemmas.List.Sorted.{IsPermutation-refl, length_permutation, sum_by-IsPermutation, All-permutation}
+use Rattle.std.proofs.lemmas.List.Sorted.{IsPermutation-refl, IsPermutation-sym, length_permutation, sum_by-IsPermutation, All-permutation}
 use Rattle.std.proofs.Math.ListN.{get_or-map}
 use Rattle.wincode_base.specs.Grammar.{WriteGrammar, WriteLaws, IsWriteStatic}
-use Rattle.wincode_base.specs.Lengths.{Scheme, encoding_len}
+use Rattle.wincode_base.specs.Lengths.{Scheme, HasEncoding, encoding_len}
 use Rattle.wincode_io.specs.Joins.{Each, total}
 use Rattle.wincode_io.specs.Writers.{WriterState}
 use Rattle.wincode_base.specs.Lists.{parts_write, list_write_of}
@@ -30,8 +30,13 @@ sound_statics sound p model can size (Static s z) h = (λ x y. h.0 x y.1, h.1)
 -- the laws hold where more is known of the values
 pub sounder_laws : {X V : Type 0} (sound : X → Type 0) {p : X → Type 0} {model : X → V} {g : WriteGrammar V} → WriteLaws p model g
     → WriteLaws (λ x. sound x × p x) model g
-sounder_laws sound {p = p} {model = model} {g = g} l = record
-    { has_encoding = l.has_encoding; encoding_size = l.encoding_size; can_fit = l.can_fit; statics = sound_statics sound p model g.can g.size g.meta l.statics }
+sounder_laws sound {p = p} {model = model} {g = g} l = record {
+  has_encoding = l.has_encoding;
+  encoding_can = l.encoding_can;
+  encoding_size = l.encoding_size;
+  can_fit = l.can_fit;
+  statics = sound_statics sound p model g.can g.size g.meta l.statics;
+}
 
 pub total-sum_by : {V : Type 0} (size : V → ℕ) (vs : List V) → total size vs ≡ sum_by size vs
 total-sum_by size [] = refl
@@ -62,6 +67,8 @@ pub scattered_write_laws_of : {X Y V : Type 0} (s : Scheme) (size : ItemSize) (i
 scattered_write_laws_of s size items {is_valid = is_valid} {model = model} {g = g} laws =
     let l = list_write_laws_of s 24 size items is_valid model g laws in record {
       has_encoding = λ vs c. let t = l.has_encoding vs c in (t.0, (vs, IsPermutation-refl vs, t.1));
+      encoding_can = λ vs b w. let us = w.0 in let c = l.encoding_can us b w.2 in let back = IsPermutation-sym vs us w.1 in
+          (subst (λ n. HasEncoding s n) (length_permutation vs us w.1) c.0, each_permutation g.can us vs back c.1);
       encoding_size = λ vs b w. l.encoding_size w.0 b w.2 ∙ scattered_size s g vs w.0 w.1;
       can_fit = l.can_fit;
       statics = tt;
@@ -85,8 +92,8 @@ module _ {S K V : Type 0} {put : S → List ℕ → S} {room : S → ℕ} (s : S
 
   pub scattered_outcome : {A : Type 0} {is_valid : Type 0} (r : Result A WriteError) → WriteOutcome (list_write_of s 24 size g) old new vs is_valid r
       → WriteOutcome (scattered_write_of s size g) old new vs is_valid r
-  scattered_outcome (Ok x) o = record { ok = scattered_wrote o.ok; value = o.value; refused = tt; place = tt }
-  scattered_outcome (Err e) o = record { ok = tt; value = tt; refused = scattered_unwritten o.refused; place = scattered_halted o.place }
+  scattered_outcome (Ok x) o = record { ok = scattered_wrote o.ok; value = o.value; refused = tt }
+  scattered_outcome (Err e) o = record { ok = tt; value = tt; refused = (scattered_unwritten o.refused.0, scattered_halted o.refused.1) }
 
 -- ---- an order of what is seen is what is seen of an order
 

@@ -1,9 +1,9 @@
 -- One encoding after another, and how what each call of a sequence answers makes what the whole answers.
 use Rattle.std.proofs.Common.{◌≡◌, ◌∙◌, sym, ap, ℕ, ◌<◌, ◌≤◌, Bool, true, false, ◌&&◌, List, ◌++◌, length, refl, arith, append_assoc, IsTrue, subst}
 use Rattle.std.proofs.Common.{◌^◌, length-append}
-use Rattle.wincode_io.specs.Readers.{ReaderState, IsOnward}
-use Rattle.wincode_io.specs.PlaceLaws.{kept_trans, known_kept, onward_trans}
-use Rattle.wincode_base.specs.Outcomes.{IsEnd, Gives, ReadDue, ReaderDue, Accepts, ReadRefused}
+use Rattle.wincode_io.specs.Readers.{ReaderState, IsOnward, IsSound}
+use Rattle.wincode_io.specs.PlaceLaws.{kept_trans, known_kept, sound_trans, tells_on, onward_trans}
+use Rattle.wincode_base.specs.Outcomes.{IsEnd, Gives, ReadDue, ReaderDue, ReadTells, Accepts, ReadRefused}
 use Rattle.wincode_base.specs.declared.error.ReadError.{ReadError}
 use Rattle.wincode_base.specs.declared.error.ReadError.TheVariants as reading
 use Rattle.wincode_io.specs.declared.error.ReadError.{ReadError as IoReadError}
@@ -45,11 +45,17 @@ due_map f f' borrow borrow' takes_no_memory takes_no_memory' new m a s (reading.
 due_map f f' borrow borrow' takes_no_memory takes_no_memory' new m a s reading.OutOfMemory d = weaken new.never_fails takes_no_memory takes_no_memory' s d
 due_map f f' borrow borrow' takes_no_memory takes_no_memory' new m a s _ d = λ x. d (m x)
 
+-- reading before, in which the device did not fail, changes nothing of what is told of it
+pub read_tells_on : (a b c : ReaderState) (e : ReadError) → IsSound a b → ReadTells b c e → ReadTells a c e
+read_tells_on a b c (reading.Io e) sound t = tells_on a b c e sound t
+read_tells_on a b c _ sound t = sound_trans sound t
+
 -- Reading by one relation is reading by another that has its encodings.
 pub gives_map : {U V : Type 0} (R : List ℕ → U → Type 0) (S : List ℕ → V → Type 0) (old new : ReaderState) (u : U) (v : V) → ((b : List ℕ) → R b u → S b v)
     → Gives R old new u → Gives S old new v
 gives_map R S old new u v m g = record {
   kept = g.kept;
+  sound = g.sound;
   found = λ t. let f = g.found t in record { encoding = f.encoding; is_read = m f.encoding f.is_read; joins = f.joins };
   place = g.place;
 }
@@ -61,6 +67,7 @@ refuses_map R S borrow takes_no_memory old new e m r = record {
   kept = r.kept;
   left = r.left;
   place = r.place;
+  device = r.device;
   due = due_map (Accepts R old) (Accepts S old) borrow borrow takes_no_memory takes_no_memory new
       (λ a. let f = a.front.found in let p = m f.encoding a.front.value f.is_read in
       record {
@@ -87,6 +94,7 @@ refuses_unspared {R = R} {borrow = borrow} {takes_no_memory = takes_no_memory} {
       kept = r.kept;
       left = r.left;
       place = r.place;
+      device = r.device;
       due =
           due_map (Accepts R old) (Accepts R old) borrow borrow takes_no_memory false new (λ x. x) (omega arith) (λ x. refl) e r.due;
     }
@@ -95,6 +103,7 @@ module _ {U V : Type 0} (R : List ℕ → U → Type 0) (S : U → List ℕ → 
   pub then_gives : (old mid new : ReaderState) (u : U) (v : V) → Gives R old mid u → Gives (S u) mid new v → Gives (Then R S) old new v
   then_gives old mid new u v g h = record {
     kept = kept_trans g.kept h.kept;
+    sound = sound_trans g.sound h.sound;
     found = λ t. let f = g.found t in let k = h.found (known_kept g.kept t) in record {
       encoding = f.encoding ++ k.encoding;
       is_read = record { before = u; x = f.encoding; y = k.encoding; one = f.is_read; two = k.is_read; joins = refl };
@@ -110,6 +119,7 @@ module _ {U V : Type 0} (R : List ℕ → U → Type 0) (S : U → List ℕ → 
     kept = r.kept;
     left = r.left;
     place = r.place;
+    device = r.device;
     due = due_map (Accepts R old) (Accepts (Then R S) old) borrow borrow' takes_no_memory takes_no_memory' new
         (λ x. let f = x.front.found in let p = f.is_read in record {
           is_known = x.is_known;
@@ -155,6 +165,7 @@ module _ {U V : Type 0} (R : List ℕ → U → Type 0) (S : U → List ℕ → 
     left = λ t. end_trans (let f = g.found t in record { front = f.encoding; joins = f.joins }) (r.left (known_kept g.kept t));
     place = λ t. let f = g.found t in let k = known_kept g.kept t in let l = r.left k in
         onward_trans old mid new f.encoding l.front f.joins l.joins (g.place t) (r.place k);
+    device = read_tells_on old mid new e g.sound r.device;
     due = due_map (Accepts (S u) mid) (Accepts (Then R S) old) borrow borrow' takes_no_memory takes_no_memory' new (strip unambiguous old mid u g) a s e r.due;
   }
 

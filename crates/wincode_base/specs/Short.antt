@@ -1,6 +1,6 @@
 -- Short numbers, as values and as lengths.
 use Rattle.std.specs.Prelude.{◌≡◌, ℕ, ◌<◌, ◌^◌, true, length, Some, None, nat_lt, if◌then◌else◌}
-use Rattle.wincode_io.specs.Readers.{Stays, BytesReadRefused, nothing}
+use Rattle.wincode_io.specs.Readers.{StaysSound, BytesReadRefused, nothing}
 use Rattle.wincode_io.specs.ShortNumbers.{short_encoding}
 use Rattle.wincode_base.specs.Grammar.{ReadGrammar, WriteGrammar, ReadRefusal}
 use Rattle.wincode_base.specs.Lengths.{Scheme}
@@ -12,7 +12,7 @@ use Rattle.wincode_base.specs.declared.error.ReadError.TheVariants as reading
 -- three; or no short number stands in front.
 abbrev pub ShortReadRefused : ReadRefusal
 ShortReadRefused old new (reading.Io e) = BytesReadRefused ⊥ ⊥ 3 old new e
-ShortReadRefused old new (reading.LengthEncodingOverflow t) = Stays old new × (t.now ≡ past_u16)
+ShortReadRefused old new (reading.LengthEncodingOverflow t) = StaysSound old new × (t.now ≡ past_u16)
 ShortReadRefused old new _ = ⊥
 
 -- Reading a short number as a value.
@@ -29,7 +29,7 @@ short_read = record {
 -- Writing a short number as a value.
 abbrev pub short_write : WriteGrammar ℕ
 short_write = record {
-  writes = λ n b. b ≡ short_encoding n;
+  writes = λ b n. b ≡ short_encoding n;
   can = λ n. Unit {0};
   size = λ n. length (short_encoding n);
   fits = λ n. Unit {0};

@@ -25,6 +25,7 @@ short_read_laws = record {
 pub short_write_laws : {X : Type 0} (is_valid : X → Type 0) (model : X → ℕ) → WriteLaws is_valid model short_write
 short_write_laws is_valid model = record {
   has_encoding = λ n c. (short_encoding n, refl);
+  encoding_can = λ n b t. tt;
   encoding_size = λ n b t. ap length t;
   can_fit = λ n f. f;
   statics = tt;

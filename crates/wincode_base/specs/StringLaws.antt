@@ -31,6 +31,7 @@ char_read_laws = record {
 pub char_write_laws : WriteLaws IsScalar (λ c. c) char_write
 char_write_laws = record {
   has_encoding = λ c h. (encode_utf8 c, refl);
+  encoding_can = λ c b t. tt;
   encoding_size = λ c b t. ap length t ∙ length-encode c;
   can_fit = λ c f. f;
   statics = tt;
@@ -88,8 +89,9 @@ encoding_size v b t = ap length t ∙ length-append (le 8 (length v)) v ∙ ap (
 
 pub str_write_laws : {X : Type 0} (prealloc : ℕ) (is_valid : X → Type 0) (bytes : X → List ℕ) → WriteLaws is_valid bytes (str_write prealloc)
 str_write_laws prealloc is_valid bytes = record {
-  has_encoding = λ v c. (le 8 (length v) ++ v, refl);
-  encoding_size = encoding_size;
+  has_encoding = λ v c. (le 8 (length v) ++ v, (c, refl));
+  encoding_can = λ v b t. t.0;
+  encoding_size = λ v b t. encoding_size v b t.1;
   can_fit = λ v f. omega arith;
   statics = tt;
 }
@@ -97,7 +99,7 @@ str_write_laws prealloc is_valid bytes = record {
 pub str_reads_back : {X : Type 0} (prealloc borrow : ℕ) (takes_no_memory : Bool) (bytes : X → List ℕ)
     → ReadsBack (λ x. IsUtf8 (bytes x)) bytes (str_write prealloc) bytes (str_read prealloc borrow takes_no_memory)
 str_reads_back prealloc borrow takes_no_memory bytes = record {
-  back = λ x b p t f. (f, p, t);
+  back = λ x b p t f. (f, p, t.1);
   within = λ b x r. r.0;
   same_prealloc = refl;
   same_meta = refl;
@@ -115,6 +117,7 @@ pub reference_write_laws : {X Y V : Type 0} (is_valid : X → Type 0) (model : X
     → WriteLaws (λ y. is_valid (value y)) (λ y. model (value y)) (reference_write g)
 reference_write_laws is_valid model value g laws = record {
   has_encoding = laws.has_encoding;
+  encoding_can = laws.encoding_can;
   encoding_size = laws.encoding_size;
   can_fit = laws.can_fit;
   statics = reference_static is_valid model value g.can g.size g.meta laws.statics;

@@ -2,12 +2,12 @@
 use Rattle.std.specs.Prelude.{◌≡◌, ◌⊎◌, ℕ, ◌+◌, ◌-◌, ◌<◌, ◌≤◌, ◌^◌, cond, true, false, Bool, List, [], ◌++◌, length, take, IsUtf8, encode_utf8}
 use Rattle.std.specs.Prelude.{nat_lt, IsTrue, ⊤, zero, suc}
 use Rattle.std.specs.Char.{IsScalar, len_utf8}
-use Rattle.wincode_io.specs.Readers.{ReaderState, Stays, Takes, IsShort, IsPeeked, ReadRefusedFor, BytesReadRefused, nothing}
+use Rattle.wincode_io.specs.Readers.{ReaderState, Stays, StaysSound, Takes, IsShort, IsPeeked, ReadRefusedFor, BytesReadRefused, nothing}
 use Rattle.wincode_io.specs.Numbers.{le}
 use Rattle.wincode_io.specs.Texts.{IsUtf8Fault}
 use Rattle.wincode_base.specs.Grammar.{ReadGrammar, WriteGrammar, WriteRefusal}
 use Rattle.wincode_base.specs.Lengths.{IsLength, bincode, LengthReadRefused, preallocation_limit}
-use Rattle.wincode_base.specs.Outcomes.{Gives, PieceWriteRefused}
+use Rattle.wincode_base.specs.Outcomes.{Gives, ReadTells, PieceWriteRefused}
 use Rattle.wincode_base.specs.declared.meta.TypeMeta.{TypeMeta}
 use Rattle.wincode_base.specs.declared.meta.TypeMeta.TheVariants.{Static, Dynamic}
 use Rattle.wincode_base.specs.declared.error.ReadError.{ReadError}
@@ -29,7 +29,7 @@ CharReadRefusedFor old new _ = ⊥
 
 -- a character was refused, and the reader has the bytes that it had
 abbrev pub CharReadRefused : ReaderState → ReaderState → ReadError → Type 0
-CharReadRefused old new e = Stays old new × CharReadRefusedFor old new e
+CharReadRefused old new e = Stays old new × ReadTells old new e × CharReadRefusedFor old new e
 
 -- A character is its bytes in UTF-8, the fewest that spell it.
 abbrev pub char_read : ReadGrammar ℕ
@@ -45,7 +45,7 @@ char_read = record {
 -- the same, written
 abbrev pub char_write : WriteGrammar ℕ
 char_write = record {
-  writes = λ c b. b ≡ encode_utf8 c;
+  writes = λ b c. b ≡ encode_utf8 c;
   can = λ c. Unit {0};
   size = λ c. len_utf8 c;
   fits = λ c. Unit {0};
@@ -59,7 +59,7 @@ char_write = record {
 -- are left; or, once they are gone, they are not UTF-8, with the error of exactly these bytes.
 abbrev pub StrBytesReadRefused : Type 0 → Type 0 → ℕ → ReaderState → ReaderState → ReadError → Type 0
 StrBytesReadRefused unlent owned n old new (reading.Io e) = BytesReadRefused (IsShort n old) unlent n old new e
-StrBytesReadRefused unlent owned n old new reading.OutOfMemory = owned × Stays old new × (IsTrue old.is_known → n ≤ length old.rest)
+StrBytesReadRefused unlent owned n old new reading.OutOfMemory = owned × StaysSound old new × (IsTrue old.is_known → n ≤ length old.rest)
 StrBytesReadRefused unlent owned n old new (reading.InvalidUtf8Encoding e) = (bytes : List ℕ) × Takes n old new bytes × IsUtf8Fault bytes e
 StrBytesReadRefused unlent owned n old new _ = ⊥
 
@@ -98,7 +98,7 @@ StrWriteRefused v room added e = PieceWriteRefused 8 room added e
 -- The same, written: at any length, and within the limits of reading up to 4194304 bytes.
 abbrev pub str_write : ℕ → WriteGrammar (List ℕ)
 str_write prealloc = record {
-  writes = λ v b. b ≡ le 8 (length v) ++ v;
+  writes = λ b v. (length v < 2 ^ 64) × (b ≡ le 8 (length v) ++ v);
   can = λ v. length v < 2 ^ 64;
   size = λ v. 8 + length v;
   fits = λ v. length v ≤ preallocation_limit;

@@ -13,9 +13,9 @@ use Rattle.wincode_base.specs.LeafLaws.{number_one}
 use Rattle.wincode_base.specs.Pairs.{pair_meta}
 use Rattle.wincode_base.specs.Sequences.{Then, then_gives, then_first, then_second, then_unambiguous, strip, gives_map, refuses_map}
 use Rattle.wincode_base.specs.Outcomes.{Gives, ReadRefused, unsaid}
-use Rattle.wincode_base.specs.Tags.{IsTagSize, tagged_read, tagged_write, counted_read, counted_write, option_tag, OptionReads, option_part_read}
-use Rattle.wincode_base.specs.Tags.{option_read, OptionReadRefused, OptionWrites, IfPart, option_size, option_part_write, option_write, sides_tag}
-use Rattle.wincode_base.specs.Tags.{result_tag, sides_meta, SidesRead, sides_read, result_read, SidesWrite, IfSide, sides_size, sides_write}
+use Rattle.wincode_base.specs.Tags.{IsTagSize, tagged_read, tagged_write, counted_read, counted_write, option_tag, IsOptionPart, option_part_read}
+use Rattle.wincode_base.specs.Tags.{option_read, OptionReadRefused, IfPart, option_size, option_part_write, option_write, sides_tag}
+use Rattle.wincode_base.specs.Tags.{result_tag, sides_meta, IsSidePart, sides_read, result_read, IfSide, sides_size, sides_write}
 use Rattle.wincode_base.specs.Tags.{result_write}
 use Rattle.wincode_base.specs.declared.meta.TypeMeta.{TypeMeta}
 use Rattle.wincode_base.specs.declared.meta.TypeMeta.TheVariants.{Static, Dynamic}
@@ -136,6 +136,7 @@ module _ {V : Type 0} (k : ℕ) (tag : V → ℕ) (small : (v : V) → tag v < 2
         kept = r.kept;
         left = λ told. let f = r.found told in record { front = f.encoding; joins = f.joins };
         place = r.place;
+        device = r.sound;
         due = λ a. let m = strip Tag Case (number_one k true) old new t r a in none m.front.value m.front.found.is_read.0;
       })
 
@@ -170,6 +171,7 @@ module _ {X V : Type 0} (p : X → Type 0) (model : X → V) (k : ℕ) (tag : V 
   pub tagged_write_laws : WriteLaws p model part → WriteLaws p model (tagged_write k tag part)
   tagged_write_laws l = record {
     has_encoding = λ v c. let a = l.has_encoding v c in (le k (tag v) ++ a.0, (a.0, a.1, refl));
+    encoding_can = λ v b r. l.encoding_can v r.0 r.1;
     encoding_size = λ v b r. ap length r.2 ∙ length-append (le k (tag v)) r.0 ∙ ap (λ n. n + length r.0) (length-le k (tag v))
         ∙ ap (λ n. k + n) (l.encoding_size v r.0 r.1);
     can_fit = l.can_fit;
@@ -193,13 +195,13 @@ pub option_small : {V : Type 0} (k : ℕ) → 1 ≤ k → (o : Option V) → opt
 option_small k some None = small_tag k some 0 (omega arith)
 option_small k some (Some v) = small_tag k some 1 (omega arith)
 
-option_one : {V : Type 0} (g : ReadGrammar V) → IsUnambiguous g.reads → (t : ℕ) → IsUnambiguous (IsCase option_tag (OptionReads g.reads) t)
+option_one : {V : Type 0} (g : ReadGrammar V) → IsUnambiguous g.reads → (t : ℕ) → IsUnambiguous (IsCase option_tag (IsOptionPart g.reads) t)
 option_one g one t a b x y None None p q e = (p.1 ∙ sym q.1, refl)
 option_one g one t a b x y None (Some w) p q e = absurd (omega (arith, p.0, q.0))
 option_one g one t a b x y (Some v) None p q e = absurd (omega (arith, p.0, q.0))
 option_one g one t a b x y (Some v) (Some w) p q e = let r = one a b x y v w p.1 q.1 e in (r.0, ap (λ u. Some u) r.1)
 
-option_valid : {V : Type 0} (p : V → Type 0) (g : ReadGrammar V) → ReadLaws p g → (b : List ℕ) (o : Option V) → OptionReads g.reads b o → IfPart p o
+option_valid : {V : Type 0} (p : V → Type 0) (g : ReadGrammar V) → ReadLaws p g → (b : List ℕ) (o : Option V) → IsOptionPart g.reads b o → IfPart p o
 option_valid p g l b None r = tt
 option_valid p g l b (Some v) r = l.reads_valid b v r
 
@@ -209,11 +211,15 @@ option_read_laws k some p g l =
     tt l.prealloc
 
 module _ {X V : Type 0} (p : X → Type 0) (model : X → V) (g : WriteGrammar V) (l : WriteLaws p model g) where
-  option_encoding : (o : Option V) → IfPart g.can o → (b : List ℕ) × OptionWrites g.writes o b
+  option_encoding : (o : Option V) → IfPart g.can o → (b : List ℕ) × IsOptionPart g.writes b o
   option_encoding None c = ([], refl)
   option_encoding (Some v) c = l.has_encoding v c
 
-  option_encoding_size : (o : Option V) (b : List ℕ) → OptionWrites g.writes o b → length b ≡ option_size g.size o
+  option_encoding_can : (o : Option V) (b : List ℕ) → IsOptionPart g.writes b o → IfPart g.can o
+  option_encoding_can None b t = tt
+  option_encoding_can (Some v) b t = l.encoding_can v b t
+
+  option_encoding_size : (o : Option V) (b : List ℕ) → IsOptionPart g.writes b o → length b ≡ option_size g.size o
   option_encoding_size None b t = ap length t
   option_encoding_size (Some v) b t = l.encoding_size v b t
 
@@ -223,19 +229,25 @@ module _ {X V : Type 0} (p : X → Type 0) (model : X → V) (g : WriteGrammar V
 
   -- an option without its tag
   pub option_part_laws : WriteLaws (IfPart p) (option_map model) (option_part_write g)
-  option_part_laws = record { has_encoding = option_encoding; encoding_size = option_encoding_size; can_fit = option_fit; statics = tt }
+  option_part_laws = record {
+    has_encoding = option_encoding;
+    encoding_can = option_encoding_can;
+    encoding_size = option_encoding_size;
+    can_fit = option_fit;
+    statics = tt;
+  }
 
 pub option_write_laws : {X V : Type 0} (k : ℕ) (p : X → Type 0) (model : X → V) (g : WriteGrammar V) → WriteLaws p model g
     → WriteLaws (IfPart p) (option_map model) (option_write k g)
 option_write_laws k p model g l = tagged_write_laws (IfPart p) (option_map model) k option_tag (option_part_write g) (option_part_laws p model g l)
 
 module _ {X V W : Type 0} (p : X → Type 0) (ws : X → W) (w : WriteGrammar W) (rs : X → V) (r : ReadGrammar V) (l : ReadsBack p ws w rs r) where
-  option_back : (o : Option X) (b : List ℕ) → IfPart p o → OptionWrites w.writes (option_map ws o) b → IfPart w.fits (option_map ws o)
-      → OptionReads r.reads b (option_map rs o)
+  option_back : (o : Option X) (b : List ℕ) → IfPart p o → IsOptionPart w.writes b (option_map ws o) → IfPart w.fits (option_map ws o)
+      → IsOptionPart r.reads b (option_map rs o)
   option_back None b c t f = t
   option_back (Some x) b c t f = l.back x b c t f
 
-  option_within : (b : List ℕ) (o : Option X) → OptionReads r.reads b (option_map rs o) → IfPart w.fits (option_map ws o)
+  option_within : (b : List ℕ) (o : Option X) → IsOptionPart r.reads b (option_map rs o) → IfPart w.fits (option_map ws o)
   option_within b None t = tt
   option_within b (Some x) t = l.within b x t
 
@@ -261,16 +273,16 @@ result_small k some (Err w) = small_tag k some 1 (omega arith)
 -- the encodings of both sides have one size
 side_sizes : {V W : Type 0} (g : ReadGrammar V) (h : ReadGrammar W) (a b : ℕ) → a ≡ b → ((t : List ℕ) (v : V) → g.reads t v → length t ≡ a)
     → ((t : List ℕ) (w : W) → h.reads t w → length t ≡ b)
-    → (t : List ℕ) (r : Result V W) → SidesRead g.reads h.reads t r → length t ≡ a
+    → (t : List ℕ) (r : Result V W) → IsSidePart g.reads h.reads t r → length t ≡ a
 side_sizes g h a b e i j t (Ok v) r = i t v r
 side_sizes g h a b e i j t (Err w) r = j t w r ∙ sym e
 
 pub sides_static : {V W : Type 0} (g : ReadGrammar V) (h : ReadGrammar W) (m n : TypeMeta) → IsReadStatic g.reads m → IsReadStatic h.reads n
-    → IsReadStatic (SidesRead g.reads h.reads) (sides_meta m n)
+    → IsReadStatic (IsSidePart g.reads h.reads) (sides_meta m n)
 sides_static g h Dynamic n i j = tt
 sides_static g h (Static a x) Dynamic i j = tt
 sides_static {V} {W} g h (Static a x) (Static b y) i j =
-    elim (nat_eq a b) as (λ t. (t ≡ true → a ≡ b) → IsReadStatic {V = Result V W} (SidesRead g.reads h.reads) (cond t (Static a false) Dynamic))
+    elim (nat_eq a b) as (λ t. (t ≡ true → a ≡ b) → IsReadStatic {V = Result V W} (IsSidePart g.reads h.reads) (cond t (Static a false) Dynamic))
     [ true ↦ (λ e. (side_sizes g h a b (e refl) i.0 j.0, λ z. absurd (cc z))) | false ↦ (λ e. tt) ] (eqb-true a b)
 
 module _ {V W : Type 0} {k : ℕ} {tag : V → ℕ} {other : W → ℕ} {p : V → Type 0} {q : W → Type 0} {g : ReadGrammar V} {h : ReadGrammar W}
@@ -279,13 +291,13 @@ module _ {V W : Type 0} {k : ℕ} {tag : V → ℕ} {other : W → ℕ} {p : V �
   sides_small (Ok v) = l.small v
   sides_small (Err w) = m.small w
 
-  sides_one : ((v : V) (w : W) → tag v ≡ other w → ⊥) → (t : ℕ) → IsUnambiguous (IsCase (sides_tag tag other) (SidesRead g.reads h.reads) t)
+  sides_one : ((v : V) (w : W) → tag v ≡ other w → ⊥) → (t : ℕ) → IsUnambiguous (IsCase (sides_tag tag other) (IsSidePart g.reads h.reads) t)
   sides_one apart t a b x y (Ok v) (Ok w) i j e = let r = l.one t a b x y v w i j e in (r.0, ap (λ u. Ok u) r.1)
   sides_one apart t a b x y (Ok v) (Err w) i j e = absurd (apart v w (i.0 ∙ sym j.0))
   sides_one apart t a b x y (Err v) (Ok w) i j e = absurd (apart w v (j.0 ∙ sym i.0))
   sides_one apart t a b x y (Err v) (Err w) i j e = let r = m.one t a b x y v w i j e in (r.0, ap (λ u. Err u) r.1)
 
-  sides_valid : (b : List ℕ) (r : Result V W) → SidesRead g.reads h.reads b r → IfSide p q r
+  sides_valid : (b : List ℕ) (r : Result V W) → IsSidePart g.reads h.reads b r → IfSide p q r
   sides_valid b (Ok v) r = l.reads_valid b v r
   sides_valid b (Err w) r = m.reads_valid b w r
 
@@ -330,11 +342,15 @@ sides_write_static p q model model' g h (Static a x) (Static b y) i j =
 
 module _ {X Y V W : Type 0} (p : X → Type 0) (q : Y → Type 0) (model : X → V) (model' : Y → W) (g : WriteGrammar V) (h : WriteGrammar W)
     (l : WriteLaws p model g) (m : WriteLaws q model' h) where
-  sides_encoding : (r : Result V W) → IfSide g.can h.can r → (b : List ℕ) × SidesWrite g.writes h.writes r b
+  sides_encoding : (r : Result V W) → IfSide g.can h.can r → (b : List ℕ) × IsSidePart g.writes h.writes b r
   sides_encoding (Ok v) c = l.has_encoding v c
   sides_encoding (Err w) c = m.has_encoding w c
 
-  sides_encoding_size : (r : Result V W) (b : List ℕ) → SidesWrite g.writes h.writes r b → length b ≡ sides_size g.size h.size r
+  sides_encoding_can : (r : Result V W) (b : List ℕ) → IsSidePart g.writes h.writes b r → IfSide g.can h.can r
+  sides_encoding_can (Ok v) b t = l.encoding_can v b t
+  sides_encoding_can (Err w) b t = m.encoding_can w b t
+
+  sides_encoding_size : (r : Result V W) (b : List ℕ) → IsSidePart g.writes h.writes b r → length b ≡ sides_size g.size h.size r
   sides_encoding_size (Ok v) b t = l.encoding_size v b t
   sides_encoding_size (Err w) b t = m.encoding_size w b t
 
@@ -346,6 +362,7 @@ module _ {X Y V W : Type 0} (p : X → Type 0) (q : Y → Type 0) (model : X →
   pub sides_laws : WriteLaws (IfSide p q) (result_map_both model model') (sides_write g h)
   sides_laws = record {
     has_encoding = sides_encoding;
+    encoding_can = sides_encoding_can;
     encoding_size = sides_encoding_size;
     can_fit = sides_fit;
     statics =
@@ -359,12 +376,12 @@ result_write_laws k p q model model' g h l m =
 
 module _ {X Y V V' W W' : Type 0} (p : X → Type 0) (q : Y → Type 0) (ws : X → V') (w : WriteGrammar V') (rs : X → V) (r : ReadGrammar V) (ws' : Y → W')
     (w' : WriteGrammar W') (rs' : Y → W) (r' : ReadGrammar W) (l : ReadsBack p ws w rs r) (m : ReadsBack q ws' w' rs' r') where
-  sides_back : (o : Result X Y) (b : List ℕ) → IfSide p q o → SidesWrite w.writes w'.writes (result_map_both ws ws' o) b
-      → IfSide w.fits w'.fits (result_map_both ws ws' o) → SidesRead r.reads r'.reads b (result_map_both rs rs' o)
+  sides_back : (o : Result X Y) (b : List ℕ) → IfSide p q o → IsSidePart w.writes w'.writes b (result_map_both ws ws' o)
+      → IfSide w.fits w'.fits (result_map_both ws ws' o) → IsSidePart r.reads r'.reads b (result_map_both rs rs' o)
   sides_back (Ok x) b c t f = l.back x b c t f
   sides_back (Err y) b c t f = m.back y b c t f
 
-  sides_within : (b : List ℕ) (o : Result X Y) → SidesRead r.reads r'.reads b (result_map_both rs rs' o) → IfSide w.fits w'.fits (result_map_both ws ws' o)
+  sides_within : (b : List ℕ) (o : Result X Y) → IsSidePart r.reads r'.reads b (result_map_both rs rs' o) → IfSide w.fits w'.fits (result_map_both ws ws' o)
   sides_within b (Ok x) t = l.within b x t
   sides_within b (Err y) t = m.within b y t
 
@@ -392,7 +409,13 @@ result_reads_back k p q ws w rs r ws' w' rs' r' l m =
 -- ---- counted otherwise against a limit
 
 pub counted_laws : {X V : Type 0} {p : X → Type 0} {model : X → V} {g : WriteGrammar V} (n : ℕ) → WriteLaws p model g → WriteLaws p model (counted_write n g)
-counted_laws n l = record { has_encoding = l.has_encoding; encoding_size = l.encoding_size; can_fit = l.can_fit; statics = l.statics }
+counted_laws n l = record {
+  has_encoding = l.has_encoding;
+  encoding_can = l.encoding_can;
+  encoding_size = l.encoding_size;
+  can_fit = l.can_fit;
+  statics = l.statics;
+}
 
 pub counted_reads_back : {X V W : Type 0} {p : X → Type 0} {ws : X → W} {w : WriteGrammar W} {rs : X → V} {r : ReadGrammar V} (n : ℕ) → ReadsBack p ws w rs r
     → ReadsBack p ws (counted_write n w) rs (counted_read n r)

@@ -39,7 +39,7 @@ TaggedWriteRefused k tag part v room added e = PieceWriteRefused k room added e
 -- The same, written.
 abbrev pub tagged_write : {V : Type 0} → ℕ → (V → ℕ) → WriteGrammar V → WriteGrammar V
 tagged_write k tag part = record {
-  writes = λ v b. (x : List ℕ) × part.writes v x × (b ≡ le k (tag v) ++ x);
+  writes = λ b v. (x : List ℕ) × part.writes x v × (b ≡ le k (tag v) ++ x);
   can = part.can;
   size = λ v. k + part.size v;
   fits = part.fits;
@@ -75,14 +75,14 @@ option_tag None = 0
 option_tag (Some v) = 1
 
 -- behind the tag: nothing, or a value
-abbrev pub OptionReads : {V : Type 0} → (List ℕ → V → Type 0) → List ℕ → Option V → Type 0
-OptionReads reads b None = b ≡ []
-OptionReads reads b (Some v) = reads b v
+abbrev pub IsOptionPart : {V : Type 0} → (List ℕ → V → Type 0) → List ℕ → Option V → Type 0
+IsOptionPart reads b None = b ≡ []
+IsOptionPart reads b (Some v) = reads b v
 
 -- an option without its tag
 abbrev pub option_part_read : {V : Type 0} → ReadGrammar V → ReadGrammar (Option V)
 option_part_read g = record {
-  reads = OptionReads g.reads;
+  reads = IsOptionPart g.reads;
   meta = Dynamic;
   prealloc = g.prealloc;
   borrow = g.borrow;
@@ -97,11 +97,6 @@ OptionReadRefused k g old new e = TagReadRefused k (λ t. 2 ≤ t) old new e ⊎
 -- None is the tag 0, in k bytes, and Some the tag 1 and then its value.
 abbrev pub option_read : {V : Type 0} → ℕ → ReadGrammar V → ReadGrammar (Option V)
 option_read k g = tagged_read k option_tag (OptionReadRefused k g) (option_part_read g)
-
--- behind the tag: nothing, or an encoding of the value
-abbrev pub OptionWrites : {V : Type 0} → (V → List ℕ → Type 0) → Option V → List ℕ → Type 0
-OptionWrites writes None b = b ≡ []
-OptionWrites writes (Some v) b = writes v b
 
 -- what holds of the value, if there is one
 abbrev pub IfPart : {V : Type 0} → (V → Type 0) → Option V → Type 0
@@ -121,7 +116,7 @@ OptionWriteRefused refused (Some v) room added e = refused v room added e
 -- an option without its tag, written
 abbrev pub option_part_write : {V : Type 0} → WriteGrammar V → WriteGrammar (Option V)
 option_part_write g = record {
-  writes = OptionWrites g.writes;
+  writes = IsOptionPart g.writes;
   can = IfPart g.can;
   size = option_size g.size;
   fits = IfPart g.fits;
@@ -153,14 +148,14 @@ sides_meta (Static a x) Dynamic = Dynamic
 sides_meta (Static a x) (Static b y) = if nat_eq a b then Static a false else Dynamic
 
 -- behind the tag: a value of the side that it names
-abbrev pub SidesRead : {V W : Type 0} → (List ℕ → V → Type 0) → (List ℕ → W → Type 0) → List ℕ → Result V W → Type 0
-SidesRead reads others b (Ok v) = reads b v
-SidesRead reads others b (Err w) = others b w
+abbrev pub IsSidePart : {V W : Type 0} → (List ℕ → V → Type 0) → (List ℕ → W → Type 0) → List ℕ → Result V W → Type 0
+IsSidePart reads others b (Ok v) = reads b v
+IsSidePart reads others b (Err w) = others b w
 
 -- a result without its tag
 abbrev pub sides_read : {V W : Type 0} → ReadGrammar V → ReadGrammar W → ReadGrammar (Result V W)
 sides_read g h = record {
-  reads = SidesRead g.reads h.reads;
+  reads = IsSidePart g.reads h.reads;
   meta = sides_meta g.meta h.meta;
   prealloc = max g.prealloc h.prealloc;
   borrow = max g.borrow h.borrow;
@@ -176,11 +171,6 @@ ResultReadRefused k g h old new e = TagReadRefused k (λ t. 2 ≤ t) old new e
 -- Ok is the tag 0, in k bytes, and then its value, and Err the tag 1 and then its error.
 abbrev pub result_read : {V W : Type 0} → ℕ → ReadGrammar V → ReadGrammar W → ReadGrammar (Result V W)
 result_read k g h = tagged_read k result_tag (ResultReadRefused k g h) (sides_read g h)
-
--- behind the tag: an encoding of the side that it names
-abbrev pub SidesWrite : {V W : Type 0} → (V → List ℕ → Type 0) → (W → List ℕ → Type 0) → Result V W → List ℕ → Type 0
-SidesWrite writes others (Ok v) b = writes v b
-SidesWrite writes others (Err w) b = others w b
 
 -- what holds of the side that is there
 abbrev pub IfSide : {V W : Type 0} → (V → Type 0) → (W → Type 0) → Result V W → Type 0
@@ -200,7 +190,7 @@ SidesWriteRefused refused others (Err w) room added e = others w room added e
 -- a result without its tag, written
 abbrev pub sides_write : {V W : Type 0} → WriteGrammar V → WriteGrammar W → WriteGrammar (Result V W)
 sides_write g h = record {
-  writes = SidesWrite g.writes h.writes;
+  writes = IsSidePart g.writes h.writes;
   can = IfSide g.can h.can;
   size = sides_size g.size h.size;
   fits = IfSide g.fits h.fits;

@@ -71,6 +71,7 @@ module _ {X : Type 0} {is_valid : X → Type 0} {s : ℕ} {form : X → List ℕ
   pub form_write_laws : {Y : Type 0} (of : Y → X) (any : Bool) (prealloc : ℕ) → WriteLaws (λ y. is_valid (of y)) of (form_write is_valid s form any prealloc)
   form_write_laws of any prealloc = record {
     has_encoding = λ v c. form_encoding v;
+    encoding_can = λ v b w. tt;
     encoding_size = λ v b w. w.0;
     can_fit = λ v f. f;
     statics = form_sized of (nat_lt s (2 ^ 64)) any;
@@ -102,7 +103,7 @@ pub lent_write_laws : {Y V : Type 0} (items : Y → List V) (is_valid : V → Ty
     → WriteLaws (λ y. Each is_valid (items y)) items (lent_write g)
 lent_write_laws items is_valid g laws =
     let l = list_write_laws (bincode byte_limit) 16 items is_valid (λ v. v) g laws in
-    record { has_encoding = l.has_encoding; encoding_size = l.encoding_size; can_fit = l.can_fit; statics = tt }
+    record { has_encoding = l.has_encoding; encoding_can = l.encoding_can; encoding_size = l.encoding_size; can_fit = l.can_fit; statics = tt }
 
 pub lent_reads_back : {Y V : Type 0} (borrow s : ℕ) (items : Y → List V) (is_valid : V → Type 0) (w : WriteGrammar V) (r : ReadGrammar V)
     → ReadsBack is_valid (λ v. v) w (λ v. v) r
@@ -112,7 +113,7 @@ lent_reads_back {Y} {V} borrow s items is_valid w r law =
     let g = lent_write w in let h = lent_read borrow s r in
     record {
       back = λ y b p t f. subst (h.reads b) (same_items (items y))
-          (l.back y b p (subst (λ vs. g.writes vs b) (sym (same_items (items y))) t) (subst g.fits (sym (same_items (items y))) f));
+          (l.back y b p (subst (λ vs. g.writes b vs) (sym (same_items (items y))) t) (subst g.fits (sym (same_items (items y))) f));
       within = λ b y t. subst g.fits (same_items (items y)) (l.within b y (subst (h.reads b) (sym (same_items (items y))) t));
       same_prealloc = refl;
       same_meta = refl;

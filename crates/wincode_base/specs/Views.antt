@@ -2,7 +2,7 @@
 use Rattle.std.specs.Prelude.{◌≡◌, ◌⊎◌, ℕ, ◌*◌, ◌<◌, ◌≤◌, ◌^◌, Bool, true, List, [], length, min, max, nat_lt, if◌then◌else◌, false}
 use Rattle.wincode_io.specs.Joins.{AreItems}
 use Rattle.wincode_io.specs.FormCalls.{IsShortOfForm}
-use Rattle.wincode_io.specs.Readers.{ReaderState, TakesNumber, Stays, IsShort, BytesReadRefused}
+use Rattle.wincode_io.specs.Readers.{ReaderState, TakesNumber, StaysSound, IsShort, BytesReadRefused}
 use Rattle.wincode_io.specs.Writers.{byte_limit}
 use Rattle.wincode_base.specs.Grammar.{ReadGrammar, WriteGrammar, WriteRefusal, ReadRefusal}
 use Rattle.wincode_base.specs.Lengths.{bincode}
@@ -27,7 +27,7 @@ ViewReadRefused borrow s old new _ = ⊥
 
 -- A form has more bytes than there can be, which many at once are refused for.
 abbrev pub VastReadRefused : ℕ → ReadRefusal
-VastReadRefused s old new (reading.LengthEncodingOverflow t) = Stays old new × (2 ^ 64 ≤ s) × (t.now ≡ past_usize)
+VastReadRefused s old new (reading.LengthEncodingOverflow t) = StaysSound old new × (2 ^ 64 ≤ s) × (t.now ≡ past_usize)
 VastReadRefused s old new _ = ⊥
 
 -- A form that no view is of was refused: by the reader, or as vast.
@@ -54,7 +54,7 @@ PodWriteRefused s v room added e = PieceWriteRefused s room added e
 -- s bytes, which are the form of each value of the type
 abbrev pub form_write : {X : Type 0} → (X → Type 0) → ℕ → (X → List ℕ) → Bool → ℕ → WriteGrammar X
 form_write is_valid s form any prealloc = record {
-  writes = λ v b. (length b ≡ s) × (is_valid v → b ≡ form v);
+  writes = λ b v. (length b ≡ s) × (is_valid v → b ≡ form v);
   can = λ v. Unit {0};
   size = λ v. s;
   fits = λ v. Unit {0};
@@ -82,7 +82,7 @@ view_read is_valid s form borrow = form_read is_valid s form false 8 borrow (Vie
 -- reader.
 abbrev pub LentRunReadRefused : ℕ → ℕ → ℕ → ReadRefusal
 LentRunReadRefused borrow s n old new (reading.Io e) = BytesReadRefused (IsShort (n * s) old) (old.lends < borrow) (n * s) old new e
-LentRunReadRefused borrow s n old new (reading.LengthEncodingOverflow t) = Stays old new × (2 ^ 64 ≤ n * s) × (t.now ≡ past_usize)
+LentRunReadRefused borrow s n old new (reading.LengthEncodingOverflow t) = StaysSound old new × (2 ^ 64 ≤ n * s) × (t.now ≡ past_usize)
 LentRunReadRefused borrow s n old new _ = ⊥
 
 -- A lent list of items of s bytes was refused: its number; or, once that is gone, its items.

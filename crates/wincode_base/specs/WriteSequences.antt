@@ -1,7 +1,8 @@
 -- How what each write of a sequence answers makes what the whole answers.
-use Rattle.std.proofs.Common.{◌≡◌, ◌∙◌, sym, ap, subst, ℕ, ◌+◌, ◌-◌, ◌<◌, ◌≤◌, List, [], ◌∷◌, ◌++◌, length, map, refl, inl, inr, arith, append_assoc}
+use Rattle.std.proofs.Common.{◌≡◌, ◌∙◌, sym, ap, subst, ℕ, ◌+◌, ◌-◌, ◌<◌, ◌≤◌, Bool, List, [], ◌∷◌, ◌++◌, length, map, refl, inl, inr, arith, append_assoc}
 use Rattle.std.proofs.Common.{append-nil, length-append}
-use Rattle.wincode_io.specs.Writers.{WriterState, WriterLaws, IsSameWriter, Added, WriteRefusedFor, BytesWriteRefused}
+use Rattle.wincode_io.specs.Writers.{WriterState, WriterLaws, IsUnmoved, IsSoundWriter, counted, finished, Added, WriteRefusedFor, BytesWriteRefused}
+use Rattle.wincode_io.specs.WriterLaws.{same_refl, same_trans, writer_sound_refl, writer_sound_trans, tells_on}
 use Rattle.wincode_io.specs.Joins.{Joined, Each}
 use Rattle.wincode_io.specs.JoinLaws.{joined_append, each_split, each_append, total-append}
 use Rattle.wincode_base.specs.Grammar.{WriteGrammar, WriteLaws}
@@ -10,7 +11,7 @@ use Rattle.wincode_base.specs.Lists.{item_write, items_write, each_write, parts_
 use Rattle.wincode_base.specs.ListLaws.{items_write_laws}
 use Rattle.wincode_base.specs.LengthLaws.{length_write_laws}
 use Rattle.wincode_base.specs.Pairs.{pair_write}
-use Rattle.wincode_base.specs.Outcomes.{Wrote, WriteRefused, WriteDue, WriterDue, IsAble, Stopped, PieceWriteRefused}
+use Rattle.wincode_base.specs.Outcomes.{Wrote, WriteRefused, WriteDue, WriterDue, WriteTells, IsAble, Stopped, PieceWriteRefused}
 use Rattle.wincode_base.specs.declared.error.WriteError.{WriteError}
 use Rattle.wincode_base.specs.declared.error.WriteError.TheVariants as writing
 use Rattle.wincode_io.specs.declared.error.WriteError.{WriteError as IoWriteError}
@@ -34,12 +35,14 @@ module _ {S K : Type 0} {put : S → List ℕ → S} {room : S → ℕ} where
   refusal_due n old new (writer.Io e) d = d
   refusal_due n old new writer.OutOfMemory d = d
 
-  pub same_trans : {a b c : WriterState put room K} → IsSameWriter a b → IsSameWriter b c → IsSameWriter a c
-  same_trans s t = record { kept = t.kept ∙ s.kept; never_fails = t.never_fails ∙ s.never_fails }
+  -- writing before, in which the device did not fail, changes nothing of what is told of it
+  pub write_tells_on : (a b c : WriterState put room K) (e : WriteError) → IsSoundWriter a b → WriteTells b c e → WriteTells a c e
+  write_tells_on a b c (writing.Io e) sound t = tells_on a b c e sound t
+  write_tells_on a b c _ sound t = writer_sound_trans sound t
 
   pub piece_denied : (n : ℕ) (old new : WriterState put room K) (e : IoWriteError) → BytesWriteRefused n old new e
       → PieceWriteRefused n (room old.content) [] (writing.Io e)
-  piece_denied n old new (writer.WriteSizeLimit m) d = (refl, d.1.0, d.1.1)
+  piece_denied n old new (writer.WriteSizeLimit m) d = (refl, d.2.0, d.2.1)
   piece_denied n old new (writer.Io e) d = refl
   piece_denied n old new writer.OutOfMemory d = refl
 
@@ -53,7 +56,7 @@ module _ {S K : Type 0} {put : S → List ℕ → S} {room : S → ℕ} where
       → ((added : List ℕ) → g.refused v (room old.content) added e → h.refused w (room old.content) added e) → Stopped g old new v e → Stopped h old new w e
   stopped_map g h v w m s = record { added = s.added; within = s.within; content = s.content; refused = m s.added s.refused }
 
-  module _ {V : Type 0} (g : WriteGrammar V) (v : V) (encoding : List ℕ) (is : g.writes v encoding) (size : length encoding ≡ g.size v) where
+  module _ {V : Type 0} (g : WriteGrammar V) (v : V) (encoding : List ℕ) (is : g.writes encoding v) (size : length encoding ≡ g.size v) where
     -- one call of the writer's wrote an encoding
     pub encoding_wrote : (old new : WriterState put room K) → g.can v → Added encoding old new → Wrote g old new v
     encoding_wrote old new can a = record { can = can; fits = let f = a.fits in omega (arith, size); encoding = encoding; is_encoding = is; took = a.took }
@@ -64,8 +67,9 @@ module _ {S K : Type 0} {put : S → List ℕ → S} {room : S → ℕ} where
     encoding_unwritten laws old new e d = record {
       same = d.0.same;
       began = λ c. record { front = []; more = encoding; is_encoding = is; within = omega arith; added = d.0.content ∙ sym (laws.nil old.content) };
+      device = d.1;
       due = writer_due_map (length encoding ≤ room old.content) (IsAble g old v) new (λ x. let f = x.1 in omega (arith, size)) e
-          (refusal_due (length encoding) old new e d.1);
+          (refusal_due (length encoding) old new e d.2);
     }
 
     -- that call added nothing
@@ -74,9 +78,28 @@ module _ {S K : Type 0} {put : S → List ℕ → S} {room : S → ℕ} where
         → Stopped g old new v (writing.Io e)
     encoding_stopped laws old new e d so = nothing_stopped laws old new (writing.Io e) d.0.content (so (piece_denied (length encoding) old new e d))
 
+  -- all was written, and then the piece of writing was ended
+  pub wrote_finished : {V : Type 0} {g : WriteGrammar V} {v : V} (buffers : Bool) {old mid new : WriterState put room K} → Wrote g old mid v
+      → IsUnmoved (finished buffers mid) new → IsSoundWriter mid new → Wrote g (finished buffers old) new v
+  wrote_finished buffers r u s = record {
+    can = r.can;
+    fits = r.fits;
+    encoding = r.encoding;
+    is_encoding = r.is_encoding;
+    took = record {
+      same = record {
+        kept = u.same.kept ∙ r.took.same.kept;
+        never_fails = u.same.never_fails ∙ r.took.same.never_fails;
+        finishes = u.same.finishes ∙ ap (λ n. n + counted buffers) r.took.same.finishes;
+      };
+      sound = record { failures = s.failures ∙ r.took.sound.failures; has_failed = s.has_failed ∙ r.took.sound.has_failed };
+      content = u.content ∙ r.took.content;
+    };
+  }
+
   -- what has the same encodings and size is written likewise
   pub wrote_map : {V W : Type 0} (g : WriteGrammar V) (h : WriteGrammar W) {old new : WriterState put room K} (v : V) (w : W) → (g.can v → h.can w) → h.size w
-      ≡ g.size v → ((b : List ℕ) → g.writes v b → h.writes w b)
+      ≡ g.size v → ((b : List ℕ) → g.writes b v → h.writes b w)
       → Wrote g old new v → Wrote h old new w
   wrote_map g h v w can size encodings r = record {
     can = can r.can;
@@ -88,7 +111,7 @@ module _ {S K : Type 0} {put : S → List ℕ → S} {room : S → ℕ} where
   }
 
   pub unwritten_map : {V W : Type 0} (g : WriteGrammar V) (h : WriteGrammar W) {old new : WriterState put room K} (v : V) (w : W) {e : WriteError}
-      → (h.can w → g.can v) → h.size w ≡ g.size v → ((b : List ℕ) → g.writes v b → h.writes w b)
+      → (h.can w → g.can v) → h.size w ≡ g.size v → ((b : List ℕ) → g.writes b v → h.writes b w)
       → WriteRefused g old new v e → WriteRefused h old new w e
   unwritten_map g h {old} {new} v w {e} can size encodings u = record {
     same = u.same;
@@ -100,6 +123,7 @@ module _ {S K : Type 0} {put : S → List ℕ → S} {room : S → ℕ} where
           b.within;
       added = b.added;
     };
+    device = u.device;
     due = write_due_map (IsAble g old v) (IsAble h old w) new (λ x. (can x.0, let f = x.1 in omega (arith, size))) e u.due;
   }
 
@@ -117,6 +141,7 @@ module _ {S K : Type 0} {put : S → List ℕ → S} {room : S → ℕ} where
             within = b.within;
             added = b.added;
           };
+      device = u.device;
       due = write_due_map (IsAble g old v) (IsAble (pair_write g h) old (v, w)) new (λ x. (x.0.0, let f = x.1 in omega arith)) e u.due;
     }
 
@@ -140,6 +165,7 @@ module _ {S K : Type 0} {put : S → List ℕ → S} {room : S → ℕ} where
           is_encoding = (r.encoding, s.encoding, r.is_encoding, s.is_encoding, refl);
           took = record {
             same = same_trans r.took.same s.took.same;
+            sound = writer_sound_trans r.took.sound s.took.sound;
             content = s.took.content ∙ ap (λ t. put t s.encoding) r.took.content ∙ laws.join old.content r.encoding s.encoding both;
           };
         }
@@ -159,6 +185,7 @@ module _ {S K : Type 0} {put : S → List ℕ → S} {room : S → ℕ} where
                 within = simp length-append both;
                 added = b.added ∙ ap (λ t. put t b.front) r.took.content ∙ laws.join old.content r.encoding b.front both;
               };
+          device = write_tells_on old mid new e r.took.sound u.device;
           due = write_due_map (IsAble h mid w) (IsAble (pair_write g h) old (v, w)) new (λ x. (x.0.1, let f = x.1 in omega (arith, first.0, first.1))) e u.due;
         }
 
@@ -201,7 +228,7 @@ module _ {S K V X : Type 0} {put : S → List ℕ → S} {room : S → ℕ} (law
     fits = omega arith;
     encoding = [];
     is_encoding = refl;
-    took = record { same = record { kept = refl; never_fails = refl }; content = sym (laws.nil s.content) };
+    took = record { same = same_refl s; sound = writer_sound_refl s; content = sym (laws.nil s.content) };
   }
 
   pub items_wrote_more : {old mid new : WriterState put room K} (us : List V) (v : V) → Wrote (items_write g) old mid us → Wrote g mid new v

@@ -12,7 +12,7 @@ use Rattle.wincode_base.specs.PairLaws.{le_max_left, le_max_right, both_left, bo
 use Rattle.wincode_base.specs.PairSizeLaws.{unsized_first, unsized_second, unsized_part, overflow_unsized, overflow_unfit}
 use Rattle.wincode_base.specs.Sequences.{due_map, gives_map, refuses_map, then_gives, then_first, then_second}
 use Rattle.wincode_base.specs.TagLaws.{spares}
-use Rattle.wincode_base.specs.Tags.{sides_tag, SidesRead, sides_read, sides_write, tagged_write}
+use Rattle.wincode_base.specs.Tags.{sides_tag, IsSidePart, sides_read, sides_write, tagged_write}
 use Rattle.wincode_base.specs.WriteSequences.{nothing_stopped, stopped_map, wrote_map, unwritten_map}
 use Rattle.wincode_base.specs.declared.error.ReadError.{ReadError}
 use Rattle.wincode_base.specs.declared.error.WriteError.{WriteError}
@@ -29,6 +29,7 @@ wider R borrow borrow' takes_no_memory takes_no_memory' old new e a s r =
       kept = r.kept;
       left = r.left;
       place = r.place;
+      device = r.device;
       due =
           due_map (Accepts R old) (Accepts R old) borrow borrow' takes_no_memory takes_no_memory' new (λ x. x) a s e r.due;
     }
@@ -36,7 +37,7 @@ wider R borrow borrow' takes_no_memory takes_no_memory' old new e a s r =
 module _ {V W : Type 0} (n : ℕ) (tag : W → ℕ) (own : W → Type 0) (g : ReadGrammar V) (h : ReadGrammar W) (others : ℕ → ReadRefusal) (t : ℕ)
     (old new : ReaderState) where
   abbrev Whole : List ℕ → Result V W → Type 0
-  Whole = CaseReads (sides_tag (λ v. n) tag) (sides_own n tag own) (SidesRead g.reads h.reads) t
+  Whole = CaseReads (sides_tag (λ v. n) tag) (sides_own n tag own) (IsSidePart g.reads h.reads) t
 
   abbrev whole : ReadGrammar (Result V W)
   whole = case_read (sides_tag (λ v. n) tag) (sides_own n tag own) (sides_read g h) (CaseReadRefused n g others) t
@@ -147,16 +148,16 @@ module _ {S K : Type 0} {put : S → List ℕ → S} {room : S → ℕ} (laws : 
   module _ {old : WriterState put room K} where
     pub enum_wrote : {mid new : WriterState put room K} → IsTagged k tag own v → Wrote (number_write k true) old mid (tag v) → Wrote part mid new v
         → Wrote (enum_write k tag own part) old new v
-    enum_wrote i r s = wrote_map (tagged_write k tag part) (enum_write k tag own part) v v (λ c. (i, c)) refl (λ b t. t) (tagged_wrote laws k tag part l v r s)
+    enum_wrote i r s = wrote_map (tagged_write k tag part) (enum_write k tag own part) v v (λ c. (i, c)) refl (λ b t. (i, t)) (tagged_wrote laws k tag part l v r s)
 
-    pub enum_tag_unwritten : {new : WriterState put room K} {e : WriteError} → WriteRefused (number_write k true) old new (tag v) e
+    pub enum_tag_unwritten : {new : WriterState put room K} {e : WriteError} → IsTagged k tag own v → WriteRefused (number_write k true) old new (tag v) e
         → WriteRefused (enum_write k tag own part) old new v e
-    enum_tag_unwritten u = unwritten_map (tagged_write k tag part) (enum_write k tag own part) v v (λ c. c.1) refl (λ b t. t)
+    enum_tag_unwritten i u = unwritten_map (tagged_write k tag part) (enum_write k tag own part) v v (λ c. c.1) refl (λ b t. (i, t))
         (tag_unwritten laws k tag part l v u)
 
-    pub enum_part_unwritten : {mid new : WriterState put room K} {e : WriteError} → Wrote (number_write k true) old mid (tag v) → WriteRefused part mid new v e
-        → WriteRefused (enum_write k tag own part) old new v e
-    enum_part_unwritten r u = unwritten_map (tagged_write k tag part) (enum_write k tag own part) v v (λ c. c.1) refl (λ b t. t)
+    pub enum_part_unwritten : {mid new : WriterState put room K} {e : WriteError} → IsTagged k tag own v → Wrote (number_write k true) old mid (tag v)
+        → WriteRefused part mid new v e → WriteRefused (enum_write k tag own part) old new v e
+    enum_part_unwritten i r u = unwritten_map (tagged_write k tag part) (enum_write k tag own part) v v (λ c. c.1) refl (λ b t. (i, t))
         (part_unwritten laws k tag part l v r u)
 
     pub enum_tag_halted : {new : WriterState put room K} {e : WriteError} → Stopped (number_write k true) old new (tag v) e

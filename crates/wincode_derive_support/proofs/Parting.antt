@@ -5,7 +5,7 @@ use Rattle.wincode_base.specs.Grammar.{ReadGrammar, ReadRefusal}
 use Rattle.wincode_base.specs.Outcomes.{Gives, SchemaReadRefused}
 use Rattle.wincode_base.specs.PairLaws.{le_max_left, le_max_right, both_left, both_right}
 use Rattle.wincode_base.specs.Sequences.{gives_map, refuses_map}
-use Rattle.wincode_base.specs.Tags.{sides_tag, SidesRead, sides_read}
+use Rattle.wincode_base.specs.Tags.{sides_tag, IsSidePart, sides_read}
 use Rattle.wincode_base.specs.declared.error.ReadError.{ReadError}
 use Rattle.wincode_derive_support.specs.Sums.{CaseReads, case_read}
 use Rattle.wincode_derive_support.specs.Splits.{split_own, SplitReadRefused}
@@ -17,7 +17,7 @@ none_below a n t e s u = omega arith
 module _ {V W : Type 0} (n : ℕ) (tag : V → ℕ) (own : V → Type 0) (tag' : W → ℕ) (own' : W → Type 0) (g : ReadGrammar V) (h : ReadGrammar W)
     (first others : ℕ → ReadRefusal) (t : ℕ) (old new : ReaderState) where
   abbrev Whole : List ℕ → Result V W → Type 0
-  Whole = CaseReads (sides_tag tag tag') (split_own n tag own tag' own') (SidesRead g.reads h.reads) t
+  Whole = CaseReads (sides_tag tag tag') (split_own n tag own tag' own') (IsSidePart g.reads h.reads) t
 
   abbrev whole : ReadGrammar (Result V W)
   whole = case_read (sides_tag tag tag') (split_own n tag own tag' own') (sides_read g h) (SplitReadRefused n first others) t

@@ -4,7 +4,7 @@ use Rattle.std.specs.Result.{result_map_both}
 use Rattle.wincode_io.specs.Joins.{IsUnambiguous}
 use Rattle.wincode_base.specs.Grammar.{ReadGrammar, WriteGrammar}
 use Rattle.wincode_base.specs.TagLaws.{sides_static, sides_reads_back}
-use Rattle.wincode_base.specs.Tags.{sides_tag, IfSide, SidesRead, sides_read, sides_write}
+use Rattle.wincode_base.specs.Tags.{sides_tag, IfSide, IsSidePart, sides_read, sides_write}
 use Rattle.wincode_derive_support.specs.Sums.{WriteAnswer, sides_answer, IsAnswer, CaseReads}
 use Rattle.wincode_derive_support.specs.SumLaws.{CaseLaws, CasesBack, cases_answers}
 use Rattle.wincode_derive_support.specs.Splits.{split_own}
@@ -17,13 +17,13 @@ below_apart a b n t i s j u = omega arith
 
 module _ {V W : Type 0} (n : ℕ) {tag : V → ℕ} {own : V → Type 0} {tag' : W → ℕ} {own' : W → Type 0} {p : V → Type 0} {q : W → Type 0} {g : ReadGrammar V}
     {h : ReadGrammar W} (l : CaseLaws tag own p g) (m : CaseLaws tag' own' q h) where
-  split_one : (t : ℕ) → IsUnambiguous (CaseReads (sides_tag tag tag') (split_own n tag own tag' own') (SidesRead g.reads h.reads) t)
+  split_one : (t : ℕ) → IsUnambiguous (CaseReads (sides_tag tag tag') (split_own n tag own tag' own') (IsSidePart g.reads h.reads) t)
   split_one t a b x y (Ok v) (Ok w) i j e = let r = l.one t a b x y v w (i.0, i.1.0, i.2) (j.0, j.1.0, j.2) e in (r.0, ap (λ u. Ok u) r.1)
   split_one t a b x y (Ok v) (Err w) i j e = absurd (below_apart (tag v) (tag' w) n t i.0 i.1.1 j.0 j.1.1)
   split_one t a b x y (Err v) (Ok w) i j e = absurd (below_apart (tag w) (tag' v) n t j.0 j.1.1 i.0 i.1.1)
   split_one t a b x y (Err v) (Err w) i j e = let r = m.one t a b x y v w (i.0, i.1.0, i.2) (j.0, j.1.0, j.2) e in (r.0, ap (λ u. Err u) r.1)
 
-  split_valid : (b : List ℕ) (r : Result V W) → SidesRead g.reads h.reads b r → IfSide p q r
+  split_valid : (b : List ℕ) (r : Result V W) → IsSidePart g.reads h.reads b r → IfSide p q r
   split_valid b (Ok v) r = l.reads_valid b v r
   split_valid b (Err w) r = m.reads_valid b w r
 

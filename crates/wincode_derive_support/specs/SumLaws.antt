@@ -14,7 +14,7 @@ use Rattle.wincode_base.specs.Pairs.{pair_meta}
 use Rattle.wincode_base.specs.Sequences.{Then, then_unambiguous}
 use Rattle.wincode_base.specs.PairLaws.{le_max_right}
 use Rattle.wincode_base.specs.TagLaws.{sides_static, sides_reads_back, counted_reads_back}
-use Rattle.wincode_base.specs.Tags.{sides_tag, IfSide, SidesRead, sides_read, sides_write, counted_read, counted_write}
+use Rattle.wincode_base.specs.Tags.{sides_tag, IfSide, IsSidePart, sides_read, sides_write, counted_read, counted_write}
 use Rattle.wincode_base.specs.WriteSequences.{stopped_map, wrote_map, unwritten_map}
 use Rattle.wincode_base.specs.declared.error.WriteError.{WriteError}
 use Rattle.wincode_base.specs.declared.meta.TypeMeta.{TypeMeta}
@@ -43,13 +43,13 @@ last_case_laws n l = record {
 
 module _ {V W : Type 0} (n : ℕ) {tag : W → ℕ} {own : W → Type 0} {p : V → Type 0} {q : W → Type 0} {g : ReadGrammar V} {h : ReadGrammar W} (l : ReadLaws p g)
     (m : CaseLaws tag own q h) where
-  sides_one : (t : ℕ) → IsUnambiguous (CaseReads (sides_tag (λ v. n) tag) (sides_own n tag own) (SidesRead g.reads h.reads) t)
+  sides_one : (t : ℕ) → IsUnambiguous (CaseReads (sides_tag (λ v. n) tag) (sides_own n tag own) (IsSidePart g.reads h.reads) t)
   sides_one t a b x y (Ok v) (Ok w) i j e = let r = l.one_front a b x y v w i.2 j.2 e in (r.0, ap (λ u. Ok u) r.1)
   sides_one t a b x y (Ok v) (Err w) i j e = absurd (j.1.1 (j.0 ∙ sym i.0))
   sides_one t a b x y (Err v) (Ok w) i j e = absurd (i.1.1 (i.0 ∙ sym j.0))
   sides_one t a b x y (Err v) (Err w) i j e = let r = m.one t a b x y v w (i.0, i.1.0, i.2) (j.0, j.1.0, j.2) e in (r.0, ap (λ u. Err u) r.1)
 
-  sides_valid : (b : List ℕ) (r : Result V W) → SidesRead g.reads h.reads b r → IfSide p q r
+  sides_valid : (b : List ℕ) (r : Result V W) → IsSidePart g.reads h.reads b r → IfSide p q r
   sides_valid b (Ok v) r = l.reads_valid b v r
   sides_valid b (Err w) r = m.reads_valid b w r
 
@@ -115,8 +115,9 @@ enum_write_static k tag own p model part (Static s z) h =
 pub enum_write_laws : {X V : Type 0} (k : ℕ) (tag : V → ℕ) (own : V → Type 0) {p : X → Type 0} {model : X → V} {part : WriteGrammar V} → WriteLaws p model part
     → WriteLaws (λ x. IsTagged k tag own (model x) × p x) model (enum_write k tag own part)
 enum_write_laws k tag own {p = p} {model = model} {part = part} l = record {
-  has_encoding = λ v c. let a = l.has_encoding v c.1 in (le k (tag v) ++ a.0, (a.0, a.1, refl));
-  encoding_size = λ v b r. ap length r.2 ∙ length-append (le k (tag v)) r.0 ∙ ap (λ n. n + length r.0) (length-le k (tag v))
+  has_encoding = λ v c. let a = l.has_encoding v c.1 in (le k (tag v) ++ a.0, (c.0, (a.0, a.1, refl)));
+  encoding_can = λ v b t. (t.0, l.encoding_can v t.1.0 t.1.1);
+  encoding_size = λ v b t. let r = t.1 in ap length r.2 ∙ length-append (le k (tag v)) r.0 ∙ ap (λ n. n + length r.0) (length-le k (tag v))
       ∙ ap (λ n. k + n) (l.encoding_size v r.0 r.1);
   can_fit = λ v f. (f.0, l.can_fit v f.1);
   statics = enum_write_static k tag own p model part part.meta l.statics;
@@ -177,10 +178,10 @@ enum_reads_back k {ws = ws} {wtag = wtag} {rs = rs} {rtag = rtag} l = record {
   back = λ x b c t f. record {
     before = rtag (rs x);
     x = le k (rtag (rs x));
-    y = t.0;
+    y = t.1.0;
     one = (subst (λ n. n < 256 ^ k) (l.same_tag x) f.0.1, refl);
-    two = (refl, l.own_read x f.0.0, l.parts.back x t.0 c.1 t.1 f.1);
-    joins = t.2 ∙ ap (λ n. le k n ++ t.0) (l.same_tag x);
+    two = (refl, l.own_read x f.0.0, l.parts.back x t.1.0 c.1 t.1.1 f.1);
+    joins = t.1.2 ∙ ap (λ n. le k n ++ t.1.0) (l.same_tag x);
   };
   within = λ b x t. ((l.own_written x t.two.1, subst (λ n. n < 256 ^ k) (sym (l.same_tag x ∙ t.two.0)) t.one.0), l.parts.within t.y x t.two.2);
   same_prealloc = l.parts.same_prealloc;
@@ -193,8 +194,8 @@ answer_map : {S K V W : Type 0} {put : S → List ℕ → S} {room : S → ℕ} 
     (w : W) (p : Type 0) → (Wrote g old new v → Wrote h old new w) → ((e : WriteError) → WriteRefused g old new v e → WriteRefused h old new w e)
     → ((e : WriteError) → Stopped g old new v e → Stopped h old new w e) → (r : Result (Unit {0}) WriteError) → WriteOutcome g old new v p r
     → WriteOutcome h old new w p r
-answer_map g h v w p m n s (Ok x) o = record { ok = m o.ok; value = o.value; refused = tt; place = tt }
-answer_map g h v w p m n s (Err e) o = record { ok = tt; value = tt; refused = n e o.refused; place = s e o.place }
+answer_map g h v w p m n s (Ok x) o = record { ok = m o.ok; value = o.value; refused = tt }
+answer_map g h v w p m n s (Err e) o = record { ok = tt; value = tt; refused = (n e o.refused.0, s e o.refused.1) }
 
 pub last_answers : {X V : Type 0} (is_valid : X → Type 0) (model : X → V) (g : WriteGrammar V) → IsAnswer (part_answer is_valid model g) is_valid model g
 last_answers is_valid model g S K put room old new x r a = a

@@ -75,7 +75,7 @@ EnumWriteRefused k tag own part v room added e = ((IsTagged k tag own v → ⊥)
 -- The same, written.
 abbrev pub enum_write : {V : Type 0} → ℕ → (V → ℕ) → (V → Type 0) → WriteGrammar V → WriteGrammar V
 enum_write k tag own part = record {
-  writes = λ v b. (x : List ℕ) × part.writes v x × (b ≡ le k (tag v) ++ x);
+  writes = λ b v. IsTagged k tag own v × ((x : List ℕ) × part.writes x v × (b ≡ le k (tag v) ++ x));
   can = λ v. IsTagged k tag own v × part.can v;
   size = λ v. k + part.size v;
   fits = λ v. IsTagged k tag own v × part.fits v;

@@ -90,13 +90,8 @@ impl@lawful@ Lawful<L> for @self@@where_dst@ {
 }
 ";
 
-const GET: &str = "        @bind@<@fields@ as SchemaGet<L>>::get(alloc, reader)?;
-        *dst = Some(@made@);
-        Ok(())
-";
-
-/// The same where type parameters stand in the fields: `search` finds it of each arm by itself.
-const GET_BY_ARMS: &str = "        match <@fields@ as SchemaGet<L>>::get(alloc, reader) {
+/// Two arms, each proved by itself: of a `?` of many fields `search` finds no proof.
+const GET: &str = "        match <@fields@ as SchemaGet<L>>::get(alloc, reader) {
             Ok(parts) => {
 @takes_parts@                *dst = Some(@made@);
                 Ok(())
@@ -1102,17 +1097,6 @@ pub fn set_first_calls(
     Ok(())
 }
 
-/// By which template a struct is read.
-fn template_of(declaration: &Declaration, fields: &Fields) -> &'static str {
-    if has_many(fields) {
-        GET_PARTS
-    } else if declaration.generics.parameters.is_empty() {
-        GET
-    } else {
-        GET_BY_ARMS
-    }
-}
-
 /// Sets the words of how a struct is read.
 fn set_read(alloc: Global, words: &mut Words, (declaration, fields): (&Declaration, &Fields)) {
     words.set("bound_fields", tuple_of_bindings(alloc, fields));
@@ -1120,7 +1104,8 @@ fn set_read(alloc: Global, words: &mut Words, (declaration, fields): (&Declarati
     words.set("made", made_of(alloc, declaration.src(), fields));
     words.set("takes", takes_of(alloc, fields, "made_of"));
     words.set("takes_parts", takes_of(alloc, fields, "parts"));
-    let read = text_of(alloc, template_of(declaration, fields), words);
+    let template = if has_many(fields) { GET_PARTS } else { GET };
+    let read = text_of(alloc, template, words);
     words.set("read", read);
     let is_decoded = has_plain(fields) && !is_long(fields);
     let decoding = text_of(alloc, if is_decoded { DECODING } else { "" }, words);

@@ -28,11 +28,11 @@ bytes_part v = Bytes v ∷ []
 -- nothing but memory is refused where there are as many bytes
 bulk_memory : (n m : ℕ) → m ≡ n → n < 2 ^ 64 → (old new : ReaderState) → length old.rest ≡ n → old.is_known ≡ true → new.never_fails ≡ true → (e : ReadError)
     → BulkReadRefused m old new e → e ≡ reading.OutOfMemory
-bulk_memory n m same fits old new size known steady (reading.Io (reader.ReadSizeLimit k)) d = let short = d.1.0 known in
+bulk_memory n m same fits old new size known steady (reading.Io (reader.ReadSizeLimit k)) d = let short = d.2.0 known in
     absurd (omega (arith, short, size, same))
-bulk_memory n m same fits old new size known steady (reading.Io reader.UnsupportedZeroCopy) d = absurd d.1
-bulk_memory n m same fits old new size known steady (reading.Io reader.OutOfMemory) d = let h : true ≡ false = sym steady ∙ d.1 in absurd (cc)
-bulk_memory n m same fits old new size known steady (reading.Io (reader.Io x)) d = let h : true ≡ false = sym steady ∙ d.1.0 in absurd (cc)
+bulk_memory n m same fits old new size known steady (reading.Io reader.UnsupportedZeroCopy) d = absurd d.2
+bulk_memory n m same fits old new size known steady (reading.Io reader.OutOfMemory) d = let h : true ≡ false = sym steady ∙ d.2 in absurd (cc)
+bulk_memory n m same fits old new size known steady (reading.Io (reader.Io x)) d = let h : true ≡ false = sym steady ∙ d.2.0 in absurd (cc)
 bulk_memory n m same fits old new size known steady reading.OutOfMemory d = refl
 bulk_memory n m same fits old new size known steady (reading.LengthEncodingOverflow t) d = let l = d.1 in absurd (omega (arith, l, same, fits))
 bulk_memory n m same fits old new size known steady _ d = absurd d

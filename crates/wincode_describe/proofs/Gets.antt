@@ -39,14 +39,14 @@ alone p = seen p ∷ []
 module _ {V : Type 0} (show : V → List Part) (g : ReadGrammar V) {old new : ReaderState} where
   pub got : (v : V) (p : Shown) → show v ≡ seen p ∷ [] → Gives g.reads old new v → GetOutcome (shown_read show g) (λ part. seen part ∷ []) old new (Ok p)
   got v p is gives =
-      record { ok = subst (Gives (shown_read show g).reads old new) is (shown_gives show g old new v gives); refused = tt; place = tt }
+      record { ok = subst (Gives (shown_read show g).reads old new) is (shown_gives show g old new v gives); refused = tt }
 
   pub got_refused : (r : Result Shown ReadError) (e : ReadError) → IsPassed r e → SchemaReadRefused g old new e
       → GetOutcome (shown_read show g) (λ part. seen part ∷ []) old new r
   got_refused r e h d = get_refused (shown_read show g) (λ part. seen part ∷ []) r e h (shown_refused show g old new e d)
 
   pub got_nothing : (e : ReadError) → SchemaReadRefused g old new e → GetOutcome (shown_read show g) (λ part. seen part ∷ []) old new (Err e)
-  got_nothing e d = let k = shown_refused show g old new e d in record { ok = tt; refused = k.0; place = k.1 }
+  got_nothing e d = let k = shown_refused show g old new e d in record { ok = tt; refused = k }
 
 -- ---- and shown
 
@@ -101,7 +101,6 @@ module _ (i : Integer) {old new : ReaderState} where
   nonzero_got p r n = record {
     ok = made_gives (λ v. v) (IsNot (zero_shown i)) is_zero (integer_read i) (seen p ∷ []) (seen p ∷ []) r (refl, n);
     refused = tt;
-    place = tt;
   }
 
   pub nonzero_nothing : (p : Shown) (e : ReadError) → Gives (integer_read i).reads old new (seen p ∷ []) → seen p ∷ [] ≡ zero_shown i
@@ -109,7 +108,7 @@ module _ (i : Integer) {old new : ReaderState} where
       → GetOutcome (nonzero_read i) (λ part. seen part ∷ []) old new (Err e)
   nonzero_nothing p e r z n =
       let k = nothing_made (λ v. v) (IsNot (zero_shown i)) is_zero (integer_read i) (let l = integer_laws i in l.one_front) (seen p ∷ []) r e n in
-      record { ok = tt; refused = k.0; place = k.1 }
+      record { ok = tt; refused = k }
 
 -- ---- a time
 

@@ -62,7 +62,7 @@ two_like f m Reads Reads g h j k r s = m g h j k r s
 two_like f m Reads Unlike g h j k r s = tt
 two_like f m Unlike b g h j k r s = tt
 
-items_within : (g h : Grammar) → Within g h → (vs : List (List Part)) (b : List ℕ) → Joined (λ v x. g.reads x v) vs b → Joined (λ v x. h.reads x v) vs b
+items_within : (g h : Grammar) → Within g h → (vs : List (List Part)) (b : List ℕ) → Joined g.reads vs b → Joined h.reads vs b
 items_within g h m [] b r = r
 items_within g h m (v ∷ vs) b r = (r.0, r.1, m r.0 v r.2, items_within g h m vs r.1 r.3, r.4)
 

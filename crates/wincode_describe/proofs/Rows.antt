@@ -97,12 +97,12 @@ row_one d = turned (Two (described_read d) (row_read [])) (described_read d) (ri
 abbrev pub Items : ℕ → Grammar → Grammar
 Items n g = shown_read joined (windowed_read (array_read n g))
 
-no_items : (g : Grammar) (vs : List (List Part)) (b : List ℕ) (w : List Part) → length vs ≡ 0 → Joined (λ v x. g.reads x v) vs b → w ≡ joined vs
+no_items : (g : Grammar) (vs : List (List Part)) (b : List ℕ) (w : List Part) → length vs ≡ 0 → Joined g.reads vs b → w ≡ joined vs
     → (row_read []).reads b w
 no_items g [] b w l j e = (tt, j, e)
 no_items g (v ∷ vs) b w l j e = absurd (omega (arith, l))
 
-more_items : (n : ℕ) (g : Grammar) (vs : List (List Part)) (b : List ℕ) (w : List Part) → length vs ≡ suc n → Joined (λ v x. g.reads x v) vs b
+more_items : (n : ℕ) (g : Grammar) (vs : List (List Part)) (b : List ℕ) (w : List Part) → length vs ≡ suc n → Joined g.reads vs b
     → w ≡ joined vs → (Two g (Items n g)).reads b w
 more_items n g [] b w l j e = absurd (omega (arith, l))
 more_items n g (v ∷ vs) b w l j e = ((v, joined vs), (j.0, j.1, j.2, (vs, (omega (arith, l), j.3), refl), j.4), e)

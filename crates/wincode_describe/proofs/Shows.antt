@@ -5,14 +5,14 @@ use Rattle.std.specs.Prelude.{Result, Option, OnOk, IfErr, IsTrue}
 use Rattle.std.proofs.lemmas.Bool.{eqb-true}
 use Rattle.std.proofs.lemmas.List.{map-append}
 use Rattle.wincode_io.specs.Joins.{AreItems}
-use Rattle.wincode_io.specs.PlaceLaws.{still, known_kept}
+use Rattle.wincode_io.specs.PlaceLaws.{still, sound_refl, known_kept}
 use Rattle.wincode_io.specs.Readers.{ReaderState, Windowed, memory, nothing}
 use Rattle.wincode_base.specs.ArrayLaws.{array_read_laws}
 use Rattle.wincode_base.specs.Arrays.{array_read, times_meta}
 use Rattle.wincode_base.specs.FixedSizeLaws.{window_denied_refuses, takes_joins}
 use Rattle.wincode_base.specs.Grammar.{ReadGrammar, ReadLaws, IsReadStatic}
 use Rattle.wincode_base.specs.InWindow.{windowed_read}
-use Rattle.wincode_base.specs.ItemSizes.{item_size, run_size, IsReadItemSize}
+use Rattle.wincode_base.specs.ItemSizes.{item_size, run_size, MayBeOf, IsReadItemSize}
 use Rattle.wincode_base.specs.LeafLaws.{number_one}
 use Rattle.wincode_base.specs.Leaves.{number_read}
 use Rattle.wincode_base.specs.Lengths.{IsLength, length_read}
@@ -271,7 +271,7 @@ module _ {g : ReadGrammar (List Part)} (l : ReadLaws any g) where
   -- what is known of the size of an item
   item_sized_by : (m : TypeMeta) → g.meta ≡ m → IsReadStatic g.reads m → IsReadItemSize g (item_size m)
   item_sized_by Dynamic is h = is
-  item_sized_by (Static s z) is h = h.0
+  item_sized_by (Static s z) is h = (h.0, subst (λ m. MayBeOf m s) (sym is) refl)
 
   pub item_sized : IsReadItemSize g (item_size g.meta)
   item_sized = item_sized_by g.meta refl l.statics
@@ -291,7 +291,7 @@ module _ {g : ReadGrammar (List Part)} (l : ReadLaws any g) where
 
     -- items of no one size are read one after another
     pub run_dynamic : (old new : ReaderState) (e : ReadError) → item_size g.meta ≡ Unknown → SchemaReadRefused Items old new e → SchemaReadRefused Run old new e
-    run_dynamic old new e is x = (x.0, elim x.1 [ inl r ↦ inl (run_each g n (item_size g.meta) is item_sized old new e (λ dynamic. r)) | inr m ↦ inr m ])
+    run_dynamic old new e is x = (x.0, elim x.1 [ inl r ↦ inl (run_each g n (item_size g.meta) is item_sized old new e (λ there. r)) | inr m ↦ inr m ])
 
     module _ (total : ℕ) (is : run_size n (item_size g.meta) ≡ Some total) (old new : ReaderState) where
       pub run_window_gives : (window after : ReaderState) (w : List Part) → Windowed total old new window → Gives Items.reads window after w
@@ -302,13 +302,13 @@ module _ {g : ReadGrammar (List Part)} (l : ReadLaws any g) where
           → SchemaReadRefused Run old new e
       run_window_refused window after e v x = (
         window_refuses Items.reads total (run_sized total is) g.borrow false old new window after e v x.0,
-        elim x.1 [ inl r ↦ inl (run_placed g n (item_size g.meta) total is old new e (inr (window, after, v, λ dynamic. r))) | inr m ↦ inr m ],
+        elim x.1 [ inl r ↦ inl (run_placed g n (item_size g.meta) total item_sized is old new e (inr (window, after, v, λ there. r))) | inr m ↦ inr m ],
       )
 
       pub run_unwindowed : (e : ReadError) → NoWindow total old new e → SchemaReadRefused Run old new e
       run_unwindowed e d = (
         window_denied_refuses Items.reads total (run_sized total is) g.borrow false old new e d,
-        inl (run_placed g n (item_size g.meta) total is old new e (inl d)),
+        inl (run_placed g n (item_size g.meta) total item_sized is old new e (inl d)),
       )
 
     -- more bytes than there can be
@@ -462,6 +462,7 @@ nameless_refused s t = (
     kept = record { lends = refl; never_fails = refl; counts_windows = refl; is_known = refl };
     left = λ k. record { front = []; joins = refl };
     place = λ k. still s;
+    device = sound_refl s;
     due = λ a. a.front.found.is_read;
   },
   (refl, refl),

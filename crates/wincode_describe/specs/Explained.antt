@@ -1,5 +1,5 @@
 -- What is said of bytes that are explained by a type.
-use Rattle.std.specs.Prelude.{◌≡◌, ◌⊎◌, ℕ, Bool, List, [], ◌++◌, length, IsTrue, Option, Some, None, is_none}
+use Rattle.std.specs.Prelude.{◌≡◌, ◌⊎◌, ℕ, Bool, false, List, [], ◌++◌, length, IsTrue, Option, Some, None, is_none}
 use Rattle.wincode_io.specs.Readers.{ReaderState, memory, nothing}
 use Rattle.wincode_io.specs.Sources.{SourceState}
 use Rattle.wincode_io.specs.Streams.{streaming}
@@ -31,7 +31,7 @@ abbrev pub ExplainsSource : Described → SourceState → List Part → Option R
 ExplainsSource d s parts None = (IsTrue s.is_known → AreFront s.coming parts)
     × (IsTrue s.is_known → (rest : List ℕ) × Found (described_read d).reads s.coming parts rest)
 ExplainsSource d s parts (Some e) = (IsTrue s.is_known → AreFront s.coming parts)
-    × ((e ≡ reading.Io reader.OutOfMemory) ⊎ FrontReadRefused (described_read d) (streaming 0 [] s) e)
+    × ((e ≡ reading.Io reader.OutOfMemory) ⊎ FrontReadRefused (described_read d) (streaming 0 [] false s) e)
 
 -- some parts of so many bytes explain them
 abbrev pub Checks : Described → List ℕ → ℕ → Option ReadError → Type 0

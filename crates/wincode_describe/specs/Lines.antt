@@ -1,6 +1,6 @@
 -- What is printed of bytes that are explained or checked.
 use Rattle.std.specs.Prelude.{◌≡◌, ℕ, zero, suc, ◌+◌, ◌-◌, ◌^◌, min, List, [], ◌∷◌, ◌++◌, length, get_or, codes, decimal, Option, Some, None, Bool}
-use Rattle.std.specs.Prelude.{IsTrue, is_none}
+use Rattle.std.specs.Prelude.{false, IsTrue, is_none}
 use Rattle.wincode_io.specs.Readers.{ReaderState}
 use Rattle.wincode_io.specs.Sources.{SourceState}
 use Rattle.wincode_io.specs.Streams.{streaming}
@@ -67,5 +67,5 @@ TellsChecked d bytes whole text = (n : ℕ) × (refused : Option ReadError) × C
 
 -- So, of what comes of a source.
 abbrev pub TellsCheckedSource : Described → SourceState → Bool → List ℕ → Type 0
-TellsCheckedSource d s whole text = (new : ReaderState) × (n left : ℕ) × (refused : Option ReadError) × ChecksRead d (streaming 0 [] s) new n refused
+TellsCheckedSource d s whole text = (new : ReaderState) × (n left : ℕ) × (refused : Option ReadError) × ChecksRead d (streaming 0 [] false s) new n refused
     × (whole ≡ is_none refused) × (IsTrue whole → IsTrue new.is_known → left ≡ length new.rest) × IsVerdict n left refused text

@@ -228,8 +228,8 @@ module _ {V : Type 0} {g : ReadGrammar V} {d : Described} (c : Covers g d) where
   pub option_covers : (p : _) → Covers (option_read 1 g) (type.Option' p d)
   option_covers p = record { meta = refl; prealloc = c.prealloc; reads = option_parts }
 
-  items_parts : (vs : List V) (b : List ℕ) → Joined (λ v x. g.reads x v) vs b → (ws : List (List Part)) × (length ws ≡ length vs)
-      × Joined (λ w x. (described_read d).reads x w) ws b
+  items_parts : (vs : List V) (b : List ℕ) → Joined g.reads vs b → (ws : List (List Part)) × (length ws ≡ length vs)
+      × Joined (described_read d).reads ws b
   items_parts [] b r = ([], refl, r)
   items_parts (v ∷ vs) b r =
       let k = c.reads r.0 v r.2 in

@@ -61,7 +61,7 @@ integer_bytes Isize b w r = one_part b _ w r.1.1 r.2
 
 -- ---- items
 
-pub items_bytes : (reads : List ℕ → List Part → Type 0) → HasBytes reads → (vs : List (List Part)) (b : List ℕ) → Joined (λ v t. reads t v) vs b → b
+pub items_bytes : (reads : List ℕ → List Part → Type 0) → HasBytes reads → (vs : List (List Part)) (b : List ℕ) → Joined reads vs b → b
     ≡ parts_bytes (joined vs)
 items_bytes reads h [] b j = j
 items_bytes reads h (v ∷ vs) b j = j.4 ∙ ap (λ t. t ++ j.1) (h j.0 v j.2) ∙ ap (λ t. parts_bytes v ++ t) (items_bytes reads h vs j.1 j.3)
@@ -71,7 +71,7 @@ le_one : (v : ℕ) → v < 256 ^ 1 → le 1 v ≡ v ∷ []
 le_one v h = sym (le-byte v h)
 
 -- bytes, each of which is a number
-bytes_joined : (vs b : List ℕ) → Joined (λ v t. (number_read 1 true).reads t v) vs b → b ≡ vs
+bytes_joined : (vs b : List ℕ) → Joined (number_read 1 true).reads vs b → b ≡ vs
 bytes_joined [] b j = j
 bytes_joined (v ∷ vs) b j = j.4 ∙ ap (λ t. t ++ j.1) (j.2.1 ∙ le_one v j.2.0) ∙ ap (λ t. v ∷ t) (bytes_joined vs j.1 j.3)
 
@@ -108,7 +108,7 @@ le_joined (suc k) m a b h =
     ∙ ap (λ t. a % 256 ∷ le (k + m) t) high ∙ ap (λ t. a % 256 ∷ t) (le_joined k m (a / 256) b small)
 
 -- bytes that were read are bytes
-joined_are_bytes : (vs b : List ℕ) → Joined (λ v t. (number_read 1 true).reads t v) vs b → IsBytes vs
+joined_are_bytes : (vs b : List ℕ) → Joined (number_read 1 true).reads vs b → IsBytes vs
 joined_are_bytes [] b j i d h = absurd (omega (arith, h))
 joined_are_bytes (v ∷ vs) b j zero d h = j.2.0
 joined_are_bytes (v ∷ vs) b j (suc i) d h = joined_are_bytes vs j.1 j.3 i d (omega (arith, h))

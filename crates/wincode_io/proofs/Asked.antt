@@ -1,5 +1,5 @@
 -- When a stream asks its source, and what it is then.
-use Rattle.std.proofs.Common.{◌≡◌, ◌∙◌, sym, ℕ, ◌<◌, ◌≤◌, List, ◌++◌, length, take, drop, refl, ap, subst, arith, append_assoc, length-append, length-drop}
+use Rattle.std.proofs.Common.{◌≡◌, ◌∙◌, sym, ℕ, ◌<◌, ◌≤◌, Bool, List, ◌++◌, length, take, drop, refl, ap, subst, arith, append_assoc, length-append, length-drop}
 use Rattle.wincode_io.specs.Readers.{Stays, Loses}
 use Rattle.wincode_io.specs.SourceReads.{Came}
 use Rattle.wincode_io.specs.Sources.{SourceState}
@@ -31,13 +31,13 @@ asked {n = n} {m = m} {a = a} {b = b} {c = c} same enough asks gone = subst (λ 
 pub unasked_loses : {S : Type 0} (state : S → SourceState) (n : ℕ) (old new : Streamed S) → n ≤ length old.at_hand → IsUnasked n old new
     → Loses n (stream_state state old) (stream_state state new)
 unasked_loses state n old new within u =
-    let t = took n old.position old.at_hand new.at_hand (take n old.at_hand) (state old.source) within refl u.at_hand in
-    rw (u.position, u.source) t.loses
+    let t = took n old.position old.at_hand new.at_hand (take n old.at_hand) old.has_failed (state old.source) within refl u.at_hand in
+    rw (u.position, u.source, u.has_failed) t.loses
 
 -- bytes came
-pub came_stays : (n position : ℕ) (old new : List ℕ) (before after : SourceState) → Came n old new before after
-    → Stays (streaming position old before) (streaming position new after)
-came_stays n position old new before after came = record {
+pub came_stays : (n position : ℕ) (old new : List ℕ) (has_failed : Bool) (before after : SourceState) → Came n old new before after
+    → Stays (streaming position old has_failed before) (streaming position new has_failed after)
+came_stays n position old new has_failed before after came = record {
   kept = record { lends = refl; never_fails = refl; counts_windows = refl; is_known = came.gave.is_known };
   rest = λ told. ap (λ l. l ++ after.coming) came.behind ∙ append_assoc old came.piece after.coming ∙ ap (λ l. old ++ l) (sym (came.gave.coming told));
   ready = let e = ap length came.behind in omega (arith, e, length-append old came.piece);

@@ -5,6 +5,7 @@ use Rattle.std.proofs.lemmas.Grind.{flat_map-append}
 use Rattle.std.proofs.lemmas.List.{take_at, drop_at, length-take-le}
 use Rattle.std.specs.List.{All, flat_map}
 use Rattle.wincode_io.specs.JoinedForms.{length-joined}
+use Rattle.wincode_io.specs.WriterLaws.{same_trans, writer_sound_trans}
 use Rattle.wincode_io.specs.Writers.{WriterState, WriterLaws, Took}
 
 -- of the items the first d are done, and then a block of those that are left
@@ -30,7 +31,8 @@ module _ {X : Type 0} (xs block more : List X) (d : ℕ) (left : drop d xs ≡ b
       mul-le-mul_right s (omega (arith, ap length all, length-append (take d xs ++ block) more, length-append (take d xs) block)) in
       let long : length (take d xs) * s + length block * s ≤ length xs * s = omega (arith, most) in
       record {
-        same = record { kept = two.same.kept ∙ one.same.kept; never_fails = two.same.never_fails ∙ one.same.never_fails };
+        same = same_trans one.same two.same;
+        sound = writer_sound_trans one.sound two.sound;
         content = two.content ∙ ap (λ c. put c (flat_map form block)) one.content
             ∙ laws.join old.content (flat_map form (take d xs)) (flat_map form block)
             (omega (arith, length-joined form s (take d xs) before, length-joined form s block here, long, fits))

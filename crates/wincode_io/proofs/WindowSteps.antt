@@ -2,22 +2,14 @@
 use Rattle.std.proofs.Common.{◌≡◌, ◌∙◌, sym, ap, ℕ, ◌+◌, ◌-◌, ◌<◌, ◌≤◌, Bool, true, None, List, length, take, drop, refl, arith}
 use Rattle.std.proofs.Common.{length-drop, length-take, take-append-drop}
 use Rattle.std.specs.List.{slice_range}
-use Rattle.wincode_io.specs.Readers.{ReaderState, Loses, Takes, Windowed, WindowRefused}
+use Rattle.wincode_io.specs.Readers.{ReaderState, memory, Loses, Takes, Windowed, WindowRefused}
+use Rattle.wincode_io.specs.PlaceLaws.{sound_refl}
 use Rattle.wincode_io.specs.declared.error.ReadError.TheVariants.{ReadSizeLimit}
 use Rattle.wincode_io.proofs.Ranges.{earlier, later}
 
 -- a reader over these bytes of memory, whose windows may be counted
 abbrev over : ℕ → Bool → List ℕ → ReaderState
-over lends counts bytes = record {
-  rest = bytes;
-  ready = length bytes;
-  lends = lends;
-  never_fails = true;
-  counts_windows = counts;
-  failures = 0;
-  is_known = true;
-  place = None;
-}
+over lends counts bytes = record (memory lends bytes) { counts_windows = counts }
 
 -- of all bytes, those from a to b are left
 module _ (lends : ℕ) (counts : Bool) (n : ℕ) (xs old : List ℕ) (a b : ℕ) (bounds : (a ≤ b) × (b ≤ length xs)) (is : slice_range xs a b ≡ old) where
@@ -33,6 +25,7 @@ module _ (lends : ℕ) (counts : Bool) (n : ℕ) (xs old : List ℕ) (a b : ℕ)
       ready = omega arith;
       place = refl;
     },
+    sound_refl (over lends counts old),
     ((λ told. omega (arith, size, short)), refl),
   )
 
@@ -48,6 +41,7 @@ module _ (lends : ℕ) (counts : Bool) (n : ℕ) (xs old : List ℕ) (a b : ℕ)
           rest = λ told. (omega (arith, size, within), rw back (sym (take-append-drop n old)));
           ready = let e = ap length back in omega (arith, e, length-drop n old);
           place = refl;
+          sound = record { failures = refl; has_failed = refl };
         }
 
     pub taken : (w : List ℕ) → w ≡ slice_range xs a (a + n) → Takes n (over lends counts old) (over lends counts (slice_range xs (a + n) b)) w

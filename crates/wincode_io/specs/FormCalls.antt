@@ -2,7 +2,7 @@
 use Rattle.std.specs.Prelude.{◌≡◌, ℕ, ◌*◌, ◌<◌, ◌≤◌, List, length, min, IsTrue, Option, Some}
 use Rattle.wincode_io.specs.Forms.{values}
 use Rattle.wincode_io.specs.Readers.{ReaderState, Takes, BytesReadRefused}
-use Rattle.wincode_io.specs.Writers.{WriterState, IsUnmoved, WriteRefusedFor, byte_limit}
+use Rattle.wincode_io.specs.Writers.{WriterState, IsUnmoved, WriterTells, WriteRefusedFor, byte_limit}
 use Rattle.wincode_io.specs.declared.error.ReadError.{ReadError}
 use Rattle.wincode_io.specs.declared.error.WriteError.{WriteError}
 
@@ -28,4 +28,5 @@ FormReadRefused s old new e = BytesReadRefused (IsShortOfForm s old) ⊥ (min s 
 
 -- s bytes were refused by a writer, which holds what it held; a size past `usize` is named as `usize::MAX`
 abbrev pub FormWriteRefused : {S K : Type 0} {put : S → List ℕ → S} {room : S → ℕ} → ℕ → WriterState put room K → WriterState put room K → WriteError → Type 0
-FormWriteRefused {room = room} s old new e = IsUnmoved old new × WriteRefusedFor (room old.content ≤ byte_limit → room old.content < s) (min s byte_limit) new e
+FormWriteRefused {room = room} s old new e = IsUnmoved old new × WriterTells old new e
+    × WriteRefusedFor (room old.content ≤ byte_limit → room old.content < s) (min s byte_limit) new e

@@ -11,7 +11,7 @@ cancel (c ∷ a) x y e = cancel a x y (cc)
 
 module _ {V : Type 0} (reads : List ℕ → V → Type 0) (one : IsUnambiguous reads) where
   -- as many items from two beginnings of one input are the same
-  pub joined_one : (vs ws : List V) (a b x y : List ℕ) → length vs ≡ length ws → Joined (λ v t. reads t v) vs a → Joined (λ v t. reads t v) ws b → a ++ x ≡ b
+  pub joined_one : (vs ws : List V) (a b x y : List ℕ) → length vs ≡ length ws → Joined reads vs a → Joined reads ws b → a ++ x ≡ b
       ++ y → (a ≡ b) × (vs ≡ ws)
   joined_one [] [] a b x y l p q e = (p ∙ sym q, refl)
   joined_one [] (w ∷ ws) a b x y l p q e = absurd (omega arith)
@@ -29,12 +29,12 @@ module _ {V : Type 0} (reads : List ℕ → V → Type 0) (one : IsUnambiguous r
   items_one n a b x y vs ws p q e = joined_one vs ws a b x y (p.0 ∙ sym q.0) p.1 q.1 e
 
 -- one encoding more, behind the others
-pub joined_snoc : {V : Type 0} (reads : List ℕ → V → Type 0) (vs : List V) (v : V) (a b : List ℕ) → Joined (λ u t. reads t u) vs a → reads b v
-    → Joined (λ u t. reads t u) (vs ++ (v ∷ [])) (a ++ b)
+pub joined_snoc : {V : Type 0} (reads : List ℕ → V → Type 0) (vs : List V) (v : V) (a b : List ℕ) → Joined reads vs a → reads b v
+    → Joined reads (vs ++ (v ∷ [])) (a ++ b)
 joined_snoc reads [] v a b p r = (b, [], r, refl, ap (λ t. t ++ b) p ∙ sym (append-nil b))
 joined_snoc reads (w ∷ vs) v a b p r = (p.0, p.1 ++ b, p.2, joined_snoc reads vs v p.1 b p.3 r, ap (λ t. t ++ b) p.4 ∙ append_assoc p.0 p.1 b)
 
-pub joined_append : {V : Type 0} (R : V → List ℕ → Type 0) (us vs : List V) (a b : List ℕ) → Joined R us a → Joined R vs b → Joined R (us ++ vs) (a ++ b)
+pub joined_append : {V : Type 0} (R : List ℕ → V → Type 0) (us vs : List V) (a b : List ℕ) → Joined R us a → Joined R vs b → Joined R (us ++ vs) (a ++ b)
 joined_append R [] vs a b p q = subst (Joined R vs) (sym (ap (λ t. t ++ b) p)) q
 joined_append R (u ∷ us) vs a b p q = (p.0, p.1 ++ b, p.2, joined_append R us vs p.1 b p.3 q, ap (λ t. t ++ b) p.4 ∙ append_assoc p.0 p.1 b)
 

@@ -1,7 +1,7 @@
 -- The laws of forms one after another.
 use Rattle.std.specs.Prelude.{◌≡◌, ℕ, ◌+◌, ◌*◌, ◌<◌, List, [], ◌∷◌, length, take, drop}
 use Rattle.std.specs.List.{All, flat_map}
-use Rattle.std.proofs.Common.{zero, suc, refl, sym, ap, ◌∙◌, arith, get_or, length-append, length-take, length-drop, length-drop}
+use Rattle.std.proofs.Common.{zero, suc, refl, sym, ap, ◌∙◌, arith, get_or, length-append, length-take, length-drop}
 use Rattle.std.proofs.lemmas.List.Elements.{All-append, All-take, All-drop}
 use Rattle.std.proofs.lemmas.List.{same_lists, take_at, drop_at, take-append-drop, drop-drop, nil_from_length}
 use Rattle.wincode_io.specs.Bytes.{IsBytes}

@@ -15,5 +15,8 @@ lent_of below name = record {
   kept = record { name = name; target = below.kept };
   never_fails = below.never_fails;
   failures = below.failures;
+  has_failed = below.has_failed;
+  last = below.last;
+  finishes = below.finishes;
   ready = below.ready;
 }

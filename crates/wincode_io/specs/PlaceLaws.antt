@@ -2,7 +2,10 @@
 use Rattle.std.proofs.Common.{◌&&◌, not, false, ◌≡◌, ◌∙◌, sym, ap, ℕ, ◌+◌, ◌-◌, List, ◌++◌, length, take, refl, arith, length-append, length-take}
 use Rattle.std.proofs.Common.{IsTrue, Option, None, Some}
 use Rattle.wincode_io.specs.Places.{Placed, placed, onward}
-use Rattle.wincode_io.specs.Readers.{ReaderState, Kept, Stays, Loses, IsOnward, is_steady}
+use Rattle.wincode_io.specs.Readers.{ReaderState, Kept, Stays, Loses, IsOnward, IsSound, ReaderTells, is_steady}
+use Rattle.wincode_io.specs.FailureLaws.{told_on}
+use Rattle.wincode_io.specs.declared.error.ReadError.{ReadError}
+use Rattle.wincode_io.specs.declared.error.ReadError.TheVariants.{Io}
 
 pub kept_trans : {a b c : ReaderState} → Kept a b → Kept b c → Kept a c
 kept_trans k l = record {
@@ -18,6 +21,18 @@ known_kept k t = rw k.is_known t
 -- a reader that may fail is not steady
 pub unsteady : (s : ReaderState) → s.never_fails ≡ false → is_steady s ≡ false
 unsteady s e = ap (λ b. b && not s.counts_windows) e
+
+-- where nothing was done
+pub sound_refl : (s : ReaderState) → IsSound s s
+sound_refl s = record { failures = refl; has_failed = refl }
+
+pub sound_trans : {a b c : ReaderState} → IsSound a b → IsSound b c → IsSound a c
+sound_trans s t = record { failures = t.failures ∙ s.failures; has_failed = t.has_failed ∙ s.has_failed }
+
+-- a call before, in which the device did not fail, changes nothing of what is told of it
+pub tells_on : (a b c : ReaderState) (e : ReadError) → IsSound a b → ReaderTells b c e → ReaderTells a c e
+tells_on a b c (Io e) sound t = told_on a.has_failed b.has_failed c.has_failed c.last e sound.has_failed t
+tells_on a b c _ sound t = sound_trans sound t
 
 pub stays_trans : {a b c : ReaderState} → Stays a b → Stays b c → Stays a c
 stays_trans s t = record {

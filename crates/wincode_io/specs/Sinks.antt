@@ -17,12 +17,14 @@ pub record SinkState : Type 0 where
 pub record TookFront (n : ℕ) (bytes : List ℕ) (old new : SinkState) : Type 0 where
   pub within : n ≤ length bytes
   pub sent : new.sent ≡ old.sent ++ take n bytes
+  pub flushed : new.flushed ≡ old.flushed
   pub served : 0 < n → new.failures ≡ old.failures
   pub full : n ≡ 0 → 0 < length bytes → (0 < new.failures) × (new.last ≡ WriteZero)
 
 -- it failed with this error, and took nothing
 pub record TookNone (old new : SinkState) (e : Error) : Type 0 where
   pub sent : new.sent ≡ old.sent
+  pub flushed : new.flushed ≡ old.flushed
   pub failures : 0 < new.failures
   pub last : new.last ≡ error_kind e
 

@@ -1,10 +1,9 @@
 -- What a buffered reader is to contracts.
 use Rattle.std.specs.Prelude.{◌≡◌, ℕ, ◌+◌, ◌≤◌, ◌<◌, Bool, true, false, List, [], ◌++◌, length, drop, IsTrue, Result, Ok, Err, Some}
-use Rattle.std.specs.IoError.{error_kind}
-use Rattle.std.specs.declared.io.ErrorKind.TheVariants.{Other}
 use Rattle.wincode_io.specs.Writers.{byte_limit}
 use Rattle.wincode_io.specs.declared.error.ReadError.{ReadError}
 use Rattle.wincode_io.specs.declared.error.ReadError.TheVariants.{ReadSizeLimit, UnsupportedZeroCopy, Io, OutOfMemory}
+use Rattle.wincode_io.specs.Failures.{IsTold}
 use Rattle.wincode_io.specs.Places.{placed}
 use Rattle.wincode_io.specs.Readers.{ReaderState, nothing}
 use Rattle.wincode_io.specs.Sources.{SourceState}
@@ -17,22 +16,23 @@ pub record Streamed (S : Type 0) : Type 0 where
   pub has_ended : Bool
   pub has_failed : Bool
 
--- Behind so many bytes: those at hand, followed by those that will come.
-abbrev pub streaming : ℕ → List ℕ → SourceState → ReaderState
-streaming position at_hand s = record {
+-- Behind so many bytes: those at hand, followed by those that will come of a source that has failed or hasn't.
+abbrev pub streaming : ℕ → List ℕ → Bool → SourceState → ReaderState
+streaming position at_hand has_failed s = record {
   rest = at_hand ++ s.coming;
   ready = length at_hand;
   lends = nothing;
   never_fails = false;
   counts_windows = true;
-  failures =
-      s.failures;
+  failures = s.failures;
+  has_failed = has_failed;
+  last = s.last;
   is_known = s.is_known;
   place = Some (placed [] position);
 }
 
 abbrev pub stream_state : {S : Type 0} → (S → SourceState) → Streamed S → ReaderState
-stream_state state r = streaming r.position r.at_hand (state r.source)
+stream_state state r = streaming r.position r.at_hand r.has_failed (state r.source)
 
 -- no more bytes will come, if what is said of them holds
 abbrev pub IsOver : SourceState → Type 0
@@ -69,8 +69,7 @@ IsFetched n new = length new.at_hand < n → IsTrue new.has_ended
 abbrev pub StreamRefused : {S : Type 0} → (S → SourceState) → ℕ → Streamed S → Streamed S → ReadError → Type 0
 StreamRefused state n old new (ReadSizeLimit m) = (length new.at_hand < n) × (n ≤ byte_limit → IsTrue new.has_ended × (IsTrue old.has_failed → ⊥))
 StreamRefused state n old new UnsupportedZeroCopy = ⊥
-StreamRefused state n old new (Io e) = (length new.at_hand < n) × IsTrue new.has_failed × (IsTrue old.has_failed → error_kind e ≡ Other)
-    × (old.has_failed ≡ false → (state new.source).last ≡ error_kind e)
+StreamRefused state n old new (Io e) = (length new.at_hand < n) × IsTold old.has_failed new.has_failed (state new.source).last e
 StreamRefused state n old new OutOfMemory = (length new.at_hand < n) × (new.has_ended ≡ false) × (new.has_failed ≡ false)
 
 -- Why a window of n bytes is refused: so too, or, where they are at hand, since it can't be counted.

@@ -10,21 +10,21 @@ use std::marker::Model;
 /// A vector that takes all bytes, and is refused only for memory. The count of its failures stays at
 /// `usize::MAX`.
 ///
-/// To contracts it is the bytes and the count.
+/// To contracts it is the bytes, how many of them stood there at its last flush, and the count.
 #[derive(Drop)]
 pub struct MemorySink {
     bytes: Vec<u8>,
+    flushed: usize,
     failures: usize,
 }
 
 impl Model for MemorySink {
-    ghost use Rattle.std.specs.Prelude.{length};
     ghost use Rattle.std.specs.declared.io.ErrorKind.TheVariants.{OutOfMemory};
     ghost use Rattle.wincode_io.specs.Sinks.{SinkState};
 
     ghost Value = { SinkState };
 
-    ghost view = { λ s. record { sent = s.bytes.items; flushed = length s.bytes.items; failures = s.failures; last = OutOfMemory } };
+    ghost view = { λ s. record { sent = s.bytes.items; flushed = s.flushed; failures = s.failures; last = OutOfMemory } };
 }
 
 impl MemorySink {
@@ -34,6 +34,7 @@ impl MemorySink {
     {
         MemorySink {
             bytes: Vec::new(alloc),
+            flushed: 0,
             failures: 0,
         }
     }
@@ -56,7 +57,11 @@ impl MemorySink {
     pub fn into_bytes(self) -> Vec<u8>
         ensures { result.items ≡ self.sent }
     {
-        let MemorySink { bytes, failures: _ } = self;
+        let MemorySink {
+            bytes,
+            flushed: _,
+            failures: _,
+        } = self;
         bytes
     }
 }
@@ -82,8 +87,7 @@ impl Sink for MemorySink {
         ensures err { IfErr result (TookNone self.old self.new) }
         ensures always { IsOk result }
     {
-        // No effect at run time: the proof learns from it that all stands before the last flush.
-        let _bytes = &self.bytes;
+        self.flushed = self.bytes.len();
         Ok(())
     }
 }

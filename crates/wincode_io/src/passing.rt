@@ -16,6 +16,7 @@ pub(crate) struct Passed {
 pub(crate) fn pass<S: Sink>(sink: &mut S, bytes: &[u8]) -> Passed
     ensures within { result.taken ≤ length bytes.now }
     ensures sent { (S.state sink.new).sent ≡ (S.state sink.old).sent ++ take result.taken bytes.now }
+    ensures unflushed { (S.state sink.new).flushed ≡ (S.state sink.old).flushed }
     ensures all { IfNone result.error ((result.taken ≡ length bytes.now) × ((S.state sink.new).failures ≡ (S.state sink.old).failures)) }
     ensures failed { IfSome result.error (λ e. (0 < (S.state sink.new).failures) × ((S.state sink.new).last ≡ error_kind e)) }
 {

@@ -1,6 +1,6 @@
 //! A buffered reader over any source.
 ghost use Rattle.std.specs.Prelude.{◌≡◌, ℕ, ◌+◌, ◌*◌, ◌<◌, ◌≤◌, false, [], length, min, take, IfOk, IfErr, OnOk, OnErr, IsTrue, Err};
-ghost use Rattle.wincode_io.specs.Readers.{Stays, Readies, Loses, Takes, IsShort, IsShown, IsPeeked, BytesReadRefused, Fills, Windowed, WindowRefused, counted};
+ghost use Rattle.wincode_io.specs.Readers.{Stays, IsSound, Readies, Loses, Takes, IsShort, IsShown, IsPeeked, BytesReadRefused, Fills, Windowed, WindowRefused, counted};
 ghost use Rattle.wincode_io.specs.FormCalls.{TakesForm, TakesForms, FormReadRefused};
 ghost use Rattle.wincode_io.specs.Writers.{byte_limit};
 ghost use Rattle.wincode_io.specs.Windows.{window_state};
@@ -133,6 +133,7 @@ impl<S: Source> StreamReader<S> {
         ensures refused { IfErr result (λ e. (n : ℕ) → length self.old.at_hand < n → StreamRefused S.state n self.old self.new e) }
         ensures same { OnErr result (self.new.at_hand ≡ self.old.at_hand) }
         ensures sound { OnOk result ((self.old.has_failed ≡ false) × (self.new.has_failed ≡ false)) }
+        ensures device { OnOk result (IsSound (stream_state S.state self.old) (stream_state S.state self.new)) }
     {
         if self.has_failed {
             return Err(ReadError::Io(io::Error::from(io::ErrorKind::Other)));
@@ -174,6 +175,7 @@ impl<S: Source> StreamReader<S> {
     /// Asks the source until `n` bytes are at hand. It is `ReadSizeLimit` of `n` where the source ended before.
     fn need(&mut self, n: usize) -> ReadResult<()>
         ensures ok { OnOk result (Stays (stream_state S.state self.old) (stream_state S.state self.new)) }
+        ensures sound { OnOk result (IsSound (stream_state S.state self.old) (stream_state S.state self.new)) }
         ensures enough { OnOk result (n ≤ length self.new.at_hand) }
         ensures err { IfErr result (BytesReadRefused (IsShort n (stream_state S.state self.old)) ⊥ n (stream_state S.state self.old) (stream_state S.state self.new)) }
         ensures asks { Asks n 0 self.old self.new }
@@ -191,6 +193,7 @@ impl<S: Source> StreamReader<S> {
     /// of `usize::MAX` where it is more, where the source ended before.
     fn need_form<T: ZeroCopy>(&mut self) -> ReadResult<usize>
         ensures ok { OnOk result (Stays (stream_state S.state self.old) (stream_state S.state self.new)) }
+        ensures sound { OnOk result (IsSound (stream_state S.state self.old) (stream_state S.state self.new)) }
         ensures enough { IfOk result (λ size. (size ≡ T.size) × (T.size ≤ length self.new.at_hand)) }
         ensures vast { byte_limit < T.size → result ≡ Err (ReadError.ReadSizeLimit byte_limit) }
         ensures err { IfErr result (FormReadRefused T.size (stream_state S.state self.old) (stream_state S.state self.new)) }
@@ -209,6 +212,7 @@ impl<S: Source> StreamReader<S> {
     /// As `need_form`, of `n` forms.
     fn need_forms<T: ZeroCopy>(&mut self, n: usize) -> ReadResult<usize>
         ensures ok { OnOk result (Stays (stream_state S.state self.old) (stream_state S.state self.new)) }
+        ensures sound { OnOk result (IsSound (stream_state S.state self.old) (stream_state S.state self.new)) }
         ensures enough { IfOk result (λ total. (total ≡ n * T.size) × (n * T.size ≤ length self.new.at_hand)) }
         ensures vast { byte_limit < n * T.size → result ≡ Err (ReadError.ReadSizeLimit byte_limit) }
         ensures err { IfErr result (FormReadRefused (n * T.size) (stream_state S.state self.old) (stream_state S.state self.new)) }

@@ -1,16 +1,17 @@
 //! A writer that passes on to any sink as it goes.
 ghost use Rattle.std.specs.Prelude.{◌≡◌, ℕ, ◌+◌, ◌*◌, ◌-◌, ◌<◌, ◌≤◌, ◌++◌, min, true, false, [], length, Err, IsOk, drop, vec_capacity, IfOk, IfErr, OnOk, IsTrue};
 ghost use Rattle.std.specs.List.{All, flat_map};
-ghost use Rattle.wincode_io.specs.Writers.{HasRoom, Took, Added, IsUnmoved, BytesWriteRefused, FinishRefused, byte_limit};
+ghost use Rattle.wincode_io.specs.Writers.{HasRoom, Took, Added, IsUnmoved, IsSoundWriter, BytesWriteRefused, finished, FinishRefused, byte_limit};
 ghost use Rattle.wincode_io.specs.WriterLaws.{min_right};
 ghost use Rattle.wincode_io.specs.FormCalls.{FormWriteRefused};
-ghost use Rattle.wincode_io.specs.SinkWriters.{Sinking, Written, written_put, written_room, sink_writer, IsPassedOn, IsFinished, IsUnasked, StaysFailed, IsOfSink, SinkRefused};
+ghost use Rattle.wincode_io.specs.SinkWriters.{Sinking, Written, written_put, written_room, sink_writer, IsPassedOn, IsFinished, IsUnasked, IsUnaskedAtEnd, IsUnflushed, StaysFailed, IsOfSink, SinkRefused};
 ghost use Rattle.wincode_io.specs.SinkLaws.{written_laws};
 
 use super::error::{WriteError, WriteResult};
 use super::passing::pass;
 use super::sink::Sink;
 use super::std_sink::StdSink;
+use super::trace::Trace;
 use super::writer::Writer;
 use super::zero_copy::{ZeroCopy, size_of_form, total_size};
 use std::alloc::Global;
@@ -22,9 +23,10 @@ const LIMIT: usize = 8192;
 
 /// Writes to a sink through a buffer, in order.
 ///
-/// To contracts it is the bytes that are kept, the sink, how many bytes were written, and whether the sink has failed.
-/// What was written are the bytes that the sink took, followed by those that are kept. The sink isn't asked while the
-/// bytes that are kept and the new ones are 8192 or fewer, nor after its first failure.
+/// To contracts it is the bytes that are kept, the sink, how many bytes were written, whether the sink has failed, and how
+/// often the writer was finished. What was written are the bytes that the sink took, followed by those that are kept. The
+/// sink isn't asked while the bytes that are kept and the new ones are 8192 or fewer, nor after its first failure. Only
+/// `finish` flushes it.
 ///
 /// Where it is dropped the bytes that are kept are lost: `finish` passes them on.
 #[derive(Drop)]
@@ -33,6 +35,8 @@ pub struct StreamWriter<S: Sink> {
     buffer: Vec<u8>,
     count: usize,
     has_failed: bool,
+    /// A byte for each call of `finish`.
+    ends: Trace,
 }
 
 impl<S: Sink> Model for StreamWriter<S> {
@@ -48,6 +52,7 @@ impl<S: Sink> Model for StreamWriter<S> {
           sink = w.sink;
           count = w.count;
           has_failed = w.has_failed;
+          finishes = length w.ends.bytes;
           spare = min (vec_capacity w.buffer - length w.buffer.items) (byte_limit - length w.buffer.items);
         } };
 
@@ -60,7 +65,7 @@ impl<S: Sink> StreamWriter<S> {
     pub fn new(alloc: Global, sink: S) -> WriteResult<Self>
     where
         S: Drop,
-        ensures ok { IfOk result (λ w. (w.kept ≡ []) × (w.sink ≡ sink) × (w.count ≡ 0) × (w.has_failed ≡ false)) }
+        ensures ok { IfOk result (λ w. (w.kept ≡ []) × (w.sink ≡ sink) × (w.count ≡ 0) × (w.has_failed ≡ false) × (w.finishes ≡ 0)) }
         ensures err { IfErr result (λ e. e ≡ WriteError.OutOfMemory) }
     {
         let Ok(buffer) = Vec::with_capacity(alloc, LIMIT) else {
@@ -71,6 +76,7 @@ impl<S: Sink> StreamWriter<S> {
             buffer,
             count: 0,
             has_failed: false,
+            ends: Trace::new(),
         })
     }
 
@@ -84,6 +90,7 @@ impl<S: Sink> StreamWriter<S> {
             buffer,
             count: _,
             has_failed: _,
+            ends: _,
         } = self;
         (sink, buffer)
     }
@@ -122,7 +129,9 @@ impl<S: Sink> StreamWriter<S> {
         ensures ok { OnOk result (IsPassedOn S.state self.old self.new) }
         ensures unmoved { IsUnmoved (sink_writer S.state self.old) (sink_writer S.state self.new) }
         ensures device { IfErr result IsOfSink }
+        ensures sound { OnOk result (IsSoundWriter (sink_writer S.state self.old) (sink_writer S.state self.new)) }
         ensures fewer { length self.new.kept ≤ length self.old.kept }
+        ensures unflushed { IsUnflushed S.state self.old self.new }
         ensures err { IfErr result (λ e. BytesWriteRefused 0 (sink_writer S.state self.old) (sink_writer S.state self.new) e) }
         ensures unasked { IsUnasked self.old self.new }
         ensures refused { IfErr result (λ e. (n : ℕ) → SinkRefused S.state n self.old self.new e) }
@@ -184,6 +193,7 @@ impl<S: Sink> Writer for StreamWriter<S> {
         ensures ok { OnOk result (HasRoom n (sink_writer S.state self.old) (sink_writer S.state self.new)) }
         ensures err { IfErr result (BytesWriteRefused n (sink_writer S.state self.old) (sink_writer S.state self.new)) }
         ensures bounded { OnOk result (0 < n → 8192 < length self.new.kept + n → self.new.kept ≡ []) }
+        ensures unflushed { IsUnflushed S.state self.old self.new }
         ensures served { length self.old.kept + n ≤ 8192 → self.old.count + n ≤ byte_limit → IsOk result × (self.new ≡ self.old) }
         ensures unasked { IsUnasked self.old self.new }
         ensures refused { IfErr result (SinkRefused S.state n self.old self.new) }
@@ -241,6 +251,7 @@ impl<S: Sink> Writer for StreamWriter<S> {
         ensures ok { OnOk result (Added src.now (sink_writer S.state self.old) (sink_writer S.state self.new)) }
         ensures err { IfErr result (BytesWriteRefused (length src.now) (sink_writer S.state self.old) (sink_writer S.state self.new)) }
         ensures bounded { OnOk result (0 < length src.now → 8192 < length self.new.kept → self.new.kept ≡ src.now) }
+        ensures unflushed { IsUnflushed S.state self.old self.new }
         ensures served { length self.old.kept + length src.now ≤ 8192 → self.old.count + length src.now ≤ byte_limit → IsOk result × (self.new.sink ≡ self.old.sink) }
         ensures unasked { StaysFailed self.old self.new }
         ensures refused { IfErr result (SinkRefused S.state (length src.now) self.old self.new) }
@@ -255,6 +266,8 @@ impl<S: Sink> Writer for StreamWriter<S> {
         ensures is_valid { OnOk result (T.is_valid src.now) }
         ensures vast { byte_limit < T.size → result ≡ Err (WriteError.WriteSizeLimit byte_limit) }
         ensures err { IfErr result (FormWriteRefused T.size (sink_writer S.state self.old) (sink_writer S.state self.new)) }
+        ensures bounded { OnOk result (0 < T.size → 8192 < length self.new.kept → self.new.kept ≡ T.form src.now) }
+        ensures unflushed { IsUnflushed S.state self.old self.new }
         ensures served { length self.old.kept + T.size ≤ 8192 → self.old.count + T.size ≤ byte_limit → IsOk result × (self.new.sink ≡ self.old.sink) }
         ensures unasked { StaysFailed self.old self.new }
         ensures refused { IfErr result (SinkRefused S.state T.size self.old self.new) }
@@ -272,6 +285,8 @@ impl<S: Sink> Writer for StreamWriter<S> {
         ensures is_valid { OnOk result (All T.is_valid src.now) }
         ensures vast { byte_limit < length src.now * T.size → result ≡ Err (WriteError.WriteSizeLimit byte_limit) }
         ensures err { IfErr result (FormWriteRefused (length src.now * T.size) (sink_writer S.state self.old) (sink_writer S.state self.new)) }
+        ensures bounded { OnOk result (0 < length src.now * T.size → 8192 < length self.new.kept → self.new.kept ≡ flat_map T.form src.now) }
+        ensures unflushed { IsUnflushed S.state self.old self.new }
         ensures served { length self.old.kept + length src.now * T.size ≤ 8192 → self.old.count + length src.now * T.size ≤ byte_limit → IsOk result × (self.new.sink ≡ self.old.sink) }
         ensures unasked { StaysFailed self.old self.new }
         ensures refused { IfErr result (SinkRefused S.state (length src.now * T.size) self.old self.new) }
@@ -288,12 +303,14 @@ impl<S: Sink> Writer for StreamWriter<S> {
 
     /// Passes on the bytes that are kept, and flushes the sink.
     fn finish(&mut self) -> WriteResult<()>
-        ensures unmoved { IsUnmoved (sink_writer S.state self.old) (sink_writer S.state self.new) }
-        ensures err { IfErr result (FinishRefused true (sink_writer S.state self.new)) }
+        ensures unmoved { IsUnmoved (finished true (sink_writer S.state self.old)) (sink_writer S.state self.new) }
+        ensures sound { OnOk result (IsSoundWriter (sink_writer S.state self.old) (sink_writer S.state self.new)) }
+        ensures err { IfErr result (FinishRefused true (sink_writer S.state self.old) (sink_writer S.state self.new)) }
         ensures ok { OnOk result (IsFinished S.state self.old self.new) }
-        ensures unasked { IsUnasked self.old self.new }
+        ensures unasked { IsUnaskedAtEnd self.old self.new }
         ensures refused { IfErr result (SinkRefused S.state 0 self.old self.new) }
     {
+        self.ends.note(&[0]);
         self.pass_on()?;
         match self.sink.flush() {
             Ok(()) => Ok(()),

@@ -56,6 +56,10 @@ impl<'b, W: Writer> Writer for Unfinished<'b, W> {
         self.writer.write_ready_t(src);
     }
 
+    fn finish(&mut self) -> WriteResult<()> {
+        Ok(())
+    }
+
     ghost writer_laws = { W.writer_laws };
 
     ghost ready_room = { λ u. W.ready_room u.writer.now };

@@ -23,5 +23,6 @@ vast_denied borrow s old vast = (
     ready = omega arith;
     place = refl;
   },
+  record { failures = refl; has_failed = refl },
   (λ known few. omega (arith, few, vast), omega (arith, vast)),
 )

@@ -6,11 +6,12 @@ use Rattle.std.specs.Result.{IsErr, IsErrAnd}
 use Rattle.std.proofs.lemmas.List.{map-append, length-map}
 use Rattle.std.proofs.Math.Nat.{lt_of_not-le}
 use Rattle.wincode_io.specs.Joins.{Joined, Each, AreItems}
-use Rattle.wincode_io.specs.PlaceLaws.{known_kept}
-use Rattle.wincode_io.specs.Readers.{ReaderState}
+use Rattle.wincode_io.specs.PlaceLaws.{known_kept, sound_trans}
+use Rattle.wincode_io.specs.Readers.{ReaderState, IsSound}
 use Rattle.wincode_io.specs.Sinks.{SinkState}
 use Rattle.wincode_io.specs.SinkWriters.{Sinking, sink_writer, written_put, written_room, IsFinished}
-use Rattle.wincode_io.specs.Writers.{WriterState, WriterLaws, IsUnmoved, FinishRefused}
+use Rattle.wincode_io.specs.WriterLaws.{same_refl, same_trans, writer_sound_refl, writer_sound_trans, tells_on}
+use Rattle.wincode_io.specs.Writers.{WriterState, WriterLaws, IsSameWriter, IsSoundWriter, IsUnmoved, finished, FinishRefused}
 use Rattle.wincode_io.specs.declared.error.WriteError.{WriteError as IoWriteError}
 use Rattle.wincode_io.specs.declared.error.WriteError.TheVariants as writer
 use Rattle.wincode_base.specs.Grammar.{ReadGrammar, WriteGrammar, WriteLaws, ReadLaws}
@@ -21,19 +22,20 @@ use Rattle.wincode_base.specs.LengthLaws.{bincode_laws, length_write_laws}
 use Rattle.wincode_base.specs.Lengths.{Scheme, IsLength, length_read, length_write, bincode, preallocation_limit}
 use Rattle.wincode_base.specs.ListLaws.{items_none, items_more, items_refused, list_gives, list_first, list_second, list_read_laws, list_write_laws, items_write_laws}
 use Rattle.wincode_base.specs.Lists.{IsListEncoding, items_write, list_write, parts_write, reads_list}
-use Rattle.wincode_base.specs.Outcomes.{Wrote, Began, IsAble, WriteRefused, SchemaReadRefused}
+use Rattle.wincode_base.specs.Outcomes.{Wrote, Began, IsAble, WriteRefused, SchemaReadRefused, WriteTells}
 use Rattle.wincode_base.specs.Pairs.{pair_read, pair_write}
 use Rattle.wincode_base.specs.PairLaws.{pair_write_laws}
 use Rattle.wincode_base.specs.InWindow.{windowed_write}
 use Rattle.wincode_base.specs.Arrays.{array_write}
-use Rattle.wincode_base.specs.WriteSequences.{items_wrote_none, items_wrote_more, list_wrote, wrote_map, pair_wrote, pair_unwritten_second}
+use Rattle.wincode_base.specs.Sequences.{read_tells_on}
+use Rattle.wincode_base.specs.WriteSequences.{write_tells_on, items_wrote_none, items_wrote_more, list_wrote, wrote_map, pair_wrote, pair_unwritten_second}
 use Rattle.wincode_base.specs.declared.error.ReadError.{ReadError}
 use Rattle.wincode_base.specs.declared.error.WriteError.{WriteError}
 use Rattle.wincode_base.specs.declared.error.WriteError.TheVariants as writing
 use Rattle.wincode_base.proofs.Items.{item_stopped}
 use Rattle.wincode_recode.proofs.Shapes.{able, able_by, bincode_len, short_len, total_within, numbers_small, unrecoded}
 use Rattle.wincode_recode.specs.Passing.{unwritten, Passed, NotWritten, NotPassed, ListNotPassed, IsPassedAs, WholeWritten}
-use Rattle.wincode_recode.specs.Passing.{RestWritten, longest, IsPassFault, NotPassedAs}
+use Rattle.wincode_recode.specs.Passing.{RestWritten, longest, IsPassFault, NotPassedAs, AreSound, RelayTells, ItemNotPassed, BehindLength}
 use Rattle.wincode_recode.specs.Recoding.{IsRecodedAs, IsKept}
 use Rattle.wincode_recode.specs.Streaming.{IsStreamRelayed, StreamRelayRefused}
 use Rattle.wincode_recode.specs.Shapes.{Value, word_of, byte_read, byte_write, bytes_read, numbers_read, read_of, write_of}
@@ -44,8 +46,8 @@ use Rattle.wincode_recode.specs.declared.recoding.KnownShape.TheVariants.{Nested
 
 -- ---- what reads as a value is what is written of it, but for maps
 
-abbrev IsSame : {V : Type 0} → (List ℕ → V → Type 0) → (V → List ℕ → Type 0) → Type 0
-IsSame {V} reads writes = (v : V) (a b : List ℕ) → reads a v → writes v b → a ≡ b
+abbrev IsSame : {V : Type 0} → (List ℕ → V → Type 0) → (List ℕ → V → Type 0) → Type 0
+IsSame {V} reads writes = (v : V) (a b : List ℕ) → reads a v → writes b v → a ≡ b
 
 parts_same : (a b x y u w : List ℕ) → a ≡ x ++ y → b ≡ u ++ w → x ≡ u → y ≡ w → a ≡ b
 parts_same a b x y u w p q e f = p ∙ ap (λ t. t ++ y) e ∙ ap (λ t. u ++ t) f ∙ sym q
@@ -59,18 +61,18 @@ number_same k any v a b p q = p.1 ∙ sym q
 length_same : (s : Scheme) (p : ℕ) → IsSame (IsLength s p) (length_write s).writes
 length_same s p n a b r w = some_same (s.encoding n) a b r.1 w
 
-module _ {V : Type 0} (reads : List ℕ → V → Type 0) (writes : V → List ℕ → Type 0) (same : IsSame reads writes) where
-  items_same : (vs : List V) (a b : List ℕ) → Joined (λ v t. reads t v) vs a → Joined writes vs b → a ≡ b
+module _ {V : Type 0} (reads : List ℕ → V → Type 0) (writes : List ℕ → V → Type 0) (same : IsSame reads writes) where
+  items_same : (vs : List V) (a b : List ℕ) → Joined reads vs a → Joined writes vs b → a ≡ b
   items_same [] a b p q = p ∙ sym q
   items_same (v ∷ vs) a b p q = parts_same a b p.0 p.1 q.0 q.1 p.4 q.4 (same v p.0 q.0 p.2 q.2) (items_same vs p.1 q.1 p.3 q.3)
 
 list_same : {V : Type 0} (s : Scheme) (g : ReadGrammar V) (w : WriteGrammar V) → IsSame g.reads w.writes
-    → IsSame (reads_list s g) (λ vs b. IsListEncoding s w.writes vs b)
+    → IsSame (reads_list s g) (λ b vs. IsListEncoding s w.writes vs b)
 list_same s g w same vs a b p q =
     let t = p.1 in
     parts_same a b t.0 t.1 q.0 q.1 t.4 q.4 (some_same (s.encoding (length vs)) t.0 q.0 t.2 q.2) (items_same g.reads w.writes same vs t.1 q.1 t.3 q.3)
 
-abbrev numbers_write : WriteGrammar (List ℕ)
+abbrev pub numbers_write : WriteGrammar (List ℕ)
 numbers_write = list_write (bincode preallocation_limit) 24 (number_write 8 true)
 
 abbrev bytes_write : WriteGrammar (List ℕ)
@@ -99,7 +101,7 @@ front_kept shape same input text h =
 
 kept_as : (shape : KnownShape) (input text : List ℕ) → IsRecodedAs shape input text → IsKept shape input text
 kept_as Nested input text h = front_kept Nested nested_same input text h
-kept_as Text input text h = front_kept Text (λ v a b p q. p.2 ∙ sym q) input text h
+kept_as Text input text h = front_kept Text (λ v a b p q. p.2 ∙ sym q.1) input text h
 kept_as Short input text h = front_kept Short (list_same short_scheme byte_read byte_write (number_same 1 true)) input text h
 kept_as Record input text h = front_kept Record record_same input text h
 kept_as Pairs input text h = tt
@@ -156,6 +158,73 @@ module _ {X V W S K : Type 0} {put : S → List ℕ → S} {room : S → ℕ} (r
   pub not_written : (e : WriteError) (told : RelayError) → told ≡ unwritten e → NotWritten rs r.reads ws w old new before after e
       → NotPassed rs r ws w old new before after told
   not_written e told same n = let P : RelayError → Type 0 = λ x. NotPassed rs r ws w old new before after x in subst P (sym same) (not_written_by e n)
+
+-- ---- what is told of the devices
+
+module _ {S K : Type 0} {put : S → List ℕ → S} {room : S → ℕ} where
+  abbrev IsSoundPass : ReaderState → ReaderState → WriterState put room K → WriterState put room K → Type 0
+  IsSoundPass old new before after = IsSameWriter before after × AreSound old new before after
+
+  abbrev Tells : ReaderState → ReaderState → WriterState put room K → WriterState put room K → RelayError → Type 0
+  Tells old new before after e = IsSameWriter before after × RelayTells old new before after e
+
+  sound_twice : {a b c : ReaderState} {u v w : WriterState put room K} → IsSoundPass a b u v → IsSoundPass b c v w → IsSoundPass a c u w
+  sound_twice p q = (same_trans p.0 q.0, (sound_trans p.1.0 q.1.0, writer_sound_trans p.1.1 q.1.1))
+
+  -- what went before tells nothing more
+  told_after : (a b c : ReaderState) (u v w : WriterState put room K) (e : RelayError) → AreSound a b u v → RelayTells b c v w e → RelayTells a c u w e
+  told_after a b c u v w (relay.Read e) s t = (read_tells_on a b c e s.0 t.0, writer_sound_trans s.1 t.1)
+  told_after a b c u v w (relay.Write e) s t = (sound_trans s.0 t.0, write_tells_on u v w e s.1 t.1)
+  told_after a b c u v w (relay.Output e) s t = (sound_trans s.0 t.0, tells_on u v w (writer.Io e) s.1 t.1)
+  told_after a b c u v w _ s t = (sound_trans s.0 t.0, writer_sound_trans s.1 t.1)
+
+  tells_after : (a b c : ReaderState) (u v w : WriterState put room K) (e : RelayError) → IsSoundPass a b u v → Tells b c v w e → Tells a c u w e
+  tells_after a b c u v w e s t = (same_trans s.0 t.0, told_after a b c u v w e s.1 t.1)
+
+  told_unwritten : (old new : ReaderState) (before after : WriterState put room K) → IsSound old new → (e : WriteError) → WriteTells before after e
+      → RelayTells old new before after (unwritten e)
+  told_unwritten old new before after s (writing.Io (writer.Io x)) t = (s, t)
+  told_unwritten old new before after s (writing.Io (writer.WriteSizeLimit m)) t = (s, t)
+  told_unwritten old new before after s (writing.Io writer.OutOfMemory) t = (s, t)
+  told_unwritten old new before after s (writing.InvalidUtf8Encoding x) t = (s, t)
+  told_unwritten old new before after s (writing.LengthEncodingOverflow x) t = (s, t)
+  told_unwritten old new before after s (writing.Custom x) t = (s, t)
+  told_unwritten old new before after s writing.OutOfMemory t = (s, t)
+
+  -- all was written, and the end of it was refused
+  pub told_unfinished : (old new : ReaderState) (before between after : WriterState put room K) → AreSound old new before between → (e : IoWriteError)
+      → FinishRefused true between after e → RelayTells old new before after (unwritten (writing.Io e))
+  told_unfinished old new before between after s (writer.Io x) d = (s.0, tells_on before between after (writer.Io x) s.1 d.1)
+  told_unfinished old new before between after s writer.OutOfMemory d = (s.0, tells_on before between after writer.OutOfMemory s.1 d.1)
+  told_unfinished old new before between after s (writer.WriteSizeLimit n) d = absurd d.2.0
+
+pub passed_soundly : {X V W S K : Type 0} {put : S → List ℕ → S} {room : S → ℕ} {rs : X → V} {reads : List ℕ → V → Type 0} {ws : X → W} {w : WriteGrammar W}
+    {old new : ReaderState} {before after : WriterState put room K} (value : X) → Passed rs reads ws w old new before after value
+    → IsSoundPass old new before after
+passed_soundly value p = (p.wrote.took.same, (p.gives.sound, p.wrote.took.sound))
+
+module _ {X V W S K : Type 0} {put : S → List ℕ → S} {room : S → ℕ} (rs : X → V) (r : ReadGrammar V) (ws : X → W) (w : WriteGrammar W) (old new : ReaderState)
+    (before after : WriterState put room K) where
+  unwritten_tells : (e : WriteError) → NotWritten rs r.reads ws w old new before after e → Tells old new before after (unwritten e)
+  unwritten_tells e n = (n.refused.same, told_unwritten old new before after n.gives.sound e n.refused.device)
+
+  pub not_passed_tells : (e : RelayError) → NotPassed rs r ws w old new before after e → Tells old new before after e
+  not_passed_tells (relay.Read e) h =
+      let P : WriterState put room K → Type 0 = λ a. Tells old new before a (relay.Read e) in
+      subst P (sym h.1) (same_refl before, (h.0.0.device, writer_sound_refl before))
+  not_passed_tells relay.UnknownShape h = by_write (Tells old new before after) _ unwritten_tells relay.UnknownShape h
+  not_passed_tells (relay.Input e) h = by_write (Tells old new before after) _ unwritten_tells (relay.Input e) h
+  not_passed_tells (relay.Write e) h = by_write (Tells old new before after) _ unwritten_tells (relay.Write e) h
+  not_passed_tells (relay.Output e) h = by_write (Tells old new before after) _ unwritten_tells (relay.Output e) h
+  not_passed_tells relay.OutOfMemory h = by_write (Tells old new before after) _ unwritten_tells relay.OutOfMemory h
+
+module _ {X V W S K : Type 0} {put : S → List ℕ → S} {room : S → ℕ} (s : Scheme) (rs : X → V) (r : ReadGrammar V) (ws : X → W) (w : WriteGrammar W)
+    (old new : ReaderState) (before after : WriterState put room K) where
+  pub list_not_passed_tells : (e : RelayError) → ListNotPassed s rs r ws w old new before after e → Tells old new before after e
+  list_not_passed_tells e (inl h) = not_passed_tells (λ n. n) (length_read s r.prealloc) (λ n. n) (length_write s) old new before after e h
+  list_not_passed_tells e (inr h) =
+      let i = h.refused in
+      tells_after old i.mid new before i.between after e (sound_twice (passed_soundly h.len h.passed) (passed_soundly i.values i.passed)) (not_passed_tells rs r ws w i.mid new i.between after e i.refused)
 
 module _ {S K V : Type 0} {put : S → List ℕ → S} {room : S → ℕ} (laws : WriterLaws put room) (g : WriteGrammar V) (v : V)
     (before after : WriterState put room K) where
@@ -272,7 +341,7 @@ module _ {X S K : Type 0} {put : S → List ℕ → S} {room : S → ℕ} (laws 
     last_known known = known_kept items.gives.kept (known_kept first.gives.kept known)
 
     -- what was written of them is what was read
-    begun_same : IsTrue old.is_known → (text : List ℕ) → begun_write.writes (len, map model values) text → old.rest ≡ text ++ last.rest
+    begun_same : IsTrue old.is_known → (text : List ℕ) → begun_write.writes text (len, map model values) → old.rest ≡ text ++ last.rest
     begun_same known text w =
         let f = first.gives.found known in
         let k = items.gives.found (known_kept first.gives.kept known) in
@@ -370,12 +439,18 @@ module _ {K : Type 0} (state : K → SinkState) (word : List ℕ) (shape : Known
   stream_refused (relay.Output e) h = (shape, named, h)
   stream_refused relay.OutOfMemory h = (shape, named, h)
 
-  pub stream_relayed : IsPassedAs shape reader before (sink_writer state mid) → IsFinished state mid new → IsStreamRelayed word reader state old new
-  stream_relayed p f = (
+  pub stream_relayed : IsPassedAs shape reader before (sink_writer state mid) → IsSameWriter before (sink_writer state mid) → IsFinished state mid new
+      → IsUnmoved (finished true (sink_writer state mid)) (sink_writer state new) → IsStreamRelayed word reader state old new
+  stream_relayed p same f u = (
     (shape, named),
     (
       p.0,
-      record { kept = f.kept; sent = f.sent ∙ ap (λ s. s.bytes) p.1; flushed = f.flushed },
+      record {
+        kept = f.kept;
+        sent = f.sent ∙ ap (λ s. s.bytes) p.1;
+        flushed = f.flushed;
+        finishes = u.same.finishes ∙ ap (λ n. n + 1) same.finishes;
+      },
       λ known. let k = p.2 known in (shape, named, k.0, k.1),
     ),
   )
@@ -403,17 +478,17 @@ all_left state Pairs reader old new e text same h = begun_whole Pairs (λ (v : V
     (whole_left state (word_of Pairs) Pairs refl reader old old new text same (λ known. (h known).0))
 
 -- why the end was refused
-end_fault : {K : Type 0} (state : K → SinkState) (shape : KnownShape) (reader : ReaderState) (new : Sinking K) (e : IoWriteError)
-    → FinishRefused true (sink_writer state new) e
+end_fault : {K : Type 0} (state : K → SinkState) (shape : KnownShape) (reader : ReaderState) (mid new : Sinking K) (e : IoWriteError)
+    → FinishRefused true (sink_writer state mid) (sink_writer state new) e
     → IsPassFault shape reader (written_room (sink_writer state new).content) (sink_writer state new).failures (unwritten (writing.Io e))
-end_fault state shape reader new (writer.Io x) d = d.1.1
-end_fault state shape reader new writer.OutOfMemory d = λ known. inl tt
-end_fault state shape reader new (writer.WriteSizeLimit n) d = absurd d.1.0
+end_fault state shape reader mid new (writer.Io x) d = d.2.1
+end_fault state shape reader mid new writer.OutOfMemory d = λ known. inl tt
+end_fault state shape reader mid new (writer.WriteSizeLimit n) d = absurd d.2.0
 
 pub stream_unfinished : {K : Type 0} (state : K → SinkState) (word : List ℕ) (shape : KnownShape) → word ≡ word_of shape → (reader : ReaderState)
     (old mid new : Sinking K) (e : IoWriteError) → IsPassedAs shape reader (sink_writer state old) (sink_writer state mid)
-    → IsUnmoved (sink_writer state mid) (sink_writer state new) → FinishRefused true (sink_writer state new) e
+    → IsUnmoved (finished true (sink_writer state mid)) (sink_writer state new) → FinishRefused true (sink_writer state mid) (sink_writer state new) e
     → StreamRelayRefused word reader state old new (unwritten (writing.Io e))
 stream_unfinished state word shape named reader old mid new e p same d =
     stream_refused state word shape named reader old mid new (unwritten (writing.Io e))
-    (end_fault state shape reader new e d, all_left state shape reader old new (writing.Io e) p.0 (same.content ∙ p.1) p.2)
+    (end_fault state shape reader mid new e d, all_left state shape reader old new (writing.Io e) p.0 (same.content ∙ p.1) p.2)

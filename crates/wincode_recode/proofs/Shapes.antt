@@ -56,10 +56,10 @@ record_one = windowed_one_text (pair_one_text (number_one_text 8 true)
 -- ---- what is within its limits has an encoding, of fewer than 2 to the 64 bytes
 
 pub able_by : {X V : Type 0} {is_valid : X → Type 0} {model : X → V} {w : WriteGrammar V} → WriteLaws is_valid model w → (v : V) → w.fits v → w.can v
-    × ((b : List ℕ) × w.writes v b)
+    × ((b : List ℕ) × w.writes b v)
 able_by laws v f = let c = laws.can_fit v f in (c, laws.has_encoding v c)
 
-pub able : (shape : KnownShape) (v : Value shape) → (write_of shape).fits v → (write_of shape).can v × ((b : List ℕ) × (write_of shape).writes v b)
+pub able : (shape : KnownShape) (v : Value shape) → (write_of shape).fits v → (write_of shape).can v × ((b : List ℕ) × (write_of shape).writes b v)
 able Nested v f =
     let numbers = list_write_laws {X = List ℕ} (bincode preallocation_limit) 24 (λ xs. xs) (λ n. n < 256 ^ 8) (λ n. n) (number_write 8 true)
     (number_write_laws 8 true) in

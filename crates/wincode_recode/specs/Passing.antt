@@ -3,12 +3,12 @@ use Rattle.std.specs.Prelude.{⊤, ◌≡◌, ◌⊎◌, ℕ, ◌<◌, List, ◌
 use Rattle.wincode_base.specs.Grammar.{ReadGrammar, WriteGrammar}
 use Rattle.wincode_base.specs.Lengths.{Scheme, IsLength, length_read, length_write}
 use Rattle.wincode_base.specs.Lists.{items_write}
-use Rattle.wincode_base.specs.Outcomes.{Gives, Wrote, WriteRefused, SchemaReadRefused}
+use Rattle.wincode_base.specs.Outcomes.{Gives, Wrote, WriteRefused, SchemaReadRefused, ReadTells, WriteTells}
 use Rattle.wincode_base.specs.declared.error.WriteError.{WriteError}
 use Rattle.wincode_base.specs.declared.error.WriteError.TheVariants as writing
 use Rattle.wincode_io.specs.Joins.{AreItems}
-use Rattle.wincode_io.specs.Readers.{ReaderState}
-use Rattle.wincode_io.specs.Writers.{WriterState}
+use Rattle.wincode_io.specs.Readers.{ReaderState, IsSound}
+use Rattle.wincode_io.specs.Writers.{WriterState, IsSameWriter, IsSoundWriter, WriterTells}
 use Rattle.wincode_io.specs.declared.error.WriteError.TheVariants as writer
 use Rattle.wincode_recode.specs.Recoding.{IsRecodedAs, IsKept, RecodeInputRefused}
 use Rattle.wincode_recode.specs.declared.recoding.RelayError.{RelayError}
@@ -67,6 +67,20 @@ abbrev pub ListNotPassed : {X V W S K : Type 0} {put : S → List ℕ → S} {ro
     → ReaderState → ReaderState → WriterState put room K → WriterState put room K → RelayError → Type 0
 ListNotPassed s rs r ws w old new before after e =
     NotPassed (λ n. n) (length_read s r.prealloc) (λ n. n) (length_write s) old new before after e ⊎ BehindLength s rs r ws w old new before after e
+
+-- ---- devices
+
+-- neither device failed
+abbrev pub AreSound : {S K : Type 0} {put : S → List ℕ → S} {room : S → ℕ} → ReaderState → ReaderState → WriterState put room K → WriterState put room K → Type 0
+AreSound old new before after = IsSound old new × IsSoundWriter before after
+
+-- what a refusal tells of the devices: that the reader's failed, or the writer's, or neither
+abbrev pub RelayTells : {S K : Type 0} {put : S → List ℕ → S} {room : S → ℕ} → ReaderState → ReaderState → WriterState put room K → WriterState put room K
+    → RelayError → Type 0
+RelayTells old new before after (relay.Read e) = ReadTells old new e × IsSoundWriter before after
+RelayTells old new before after (relay.Write e) = IsSound old new × WriteTells before after e
+RelayTells old new before after (relay.Output e) = IsSound old new × WriterTells before after (writer.Io e)
+RelayTells old new before after _ = AreSound old new before after
 
 -- ---- a value of a shape
 

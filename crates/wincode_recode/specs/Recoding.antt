@@ -22,7 +22,7 @@ pub record Recoded {V : Type 0} (r : ReadGrammar V) (w : WriteGrammar V) (input 
   pub value : V
   pub rest : List ℕ
   pub found : Found r.reads input value rest
-  pub is_encoding : w.writes value text
+  pub is_encoding : w.writes text value
 
 -- A front of the input reads as a value, which reading sees by `rs` and writing by `ws`; the encoding is written for it, and
 -- reads as it.
@@ -30,7 +30,7 @@ pub record Reread {X V W : Type 0} (rs : X → V) (r : ReadGrammar V) (ws : X �
   pub value : X
   pub rest : List ℕ
   pub found : Found r.reads input (rs value) rest
-  pub is_encoding : w.writes (ws value) text
+  pub is_encoding : w.writes text (ws value)
   pub reads_back : r.reads text (rs value)
 
 -- a value was read from the input, within its limits, and serializing it was refused

@@ -1,5 +1,5 @@
 -- What relaying what comes of a source answers.
-use Rattle.std.specs.Prelude.{◌≡◌, ℕ, List, [], ◌++◌, length, IsTrue}
+use Rattle.std.specs.Prelude.{◌≡◌, ℕ, ◌+◌, List, [], ◌++◌, length, IsTrue}
 use Rattle.wincode_io.specs.Readers.{ReaderState}
 use Rattle.wincode_io.specs.Sinks.{SinkState}
 use Rattle.wincode_io.specs.SinkWriters.{Sinking, sink_writer}
@@ -10,11 +10,13 @@ use Rattle.wincode_recode.specs.declared.recoding.RelayError.{RelayError}
 use Rattle.wincode_recode.specs.declared.recoding.RelayError.TheVariants as relay
 use Rattle.wincode_recode.specs.declared.recoding.KnownShape.{KnownShape}
 
--- the sink has all that was written before, and then the text, and nothing else; and it was flushed behind that
+-- the sink has all that was written before, and then the text, and nothing else; it was flushed behind that, and the writer
+-- was finished once
 pub record WentOut {K : Type 0} (state : K → SinkState) (old new : Sinking K) (text : List ℕ) : Type 0 where
   pub kept : new.kept ≡ []
   pub sent : (state new.sink).sent ≡ (sink_writer state old).content.bytes ++ text
   pub flushed : (state new.sink).flushed ≡ length (state new.sink).sent
+  pub finishes : new.finishes ≡ old.finishes + 1
 
 -- What the reader of a source has was recoded, where it is known, and its encoding and nothing else has gone out.
 abbrev pub IsStreamRelayed : {K : Type 0} → List ℕ → ReaderState → (K → SinkState) → Sinking K → Sinking K → Type 0

@@ -3,7 +3,8 @@ ghost use Rattle.std.specs.Prelude.{◌≡◌, map, length, OnOk, IfOk, IfErr, L
 ghost use Rattle.wincode_io.specs.Joins.{AreItems};
 ghost use Rattle.wincode_base.specs.Lengths.{IsLength, length_read, length_write};
 ghost use Rattle.wincode_base.specs.Lists.{items_write, list_write, reads_list};
-ghost use Rattle.wincode_recode.specs.Passing.{Passed, NotPassed, ItemNotPassed, ListNotPassed, IsPassedAs, NotPassedAs, unwritten};
+ghost use Rattle.wincode_recode.specs.Passing.{Passed, NotPassed, ItemNotPassed, ListNotPassed, IsPassedAs, NotPassedAs, AreSound, RelayTells, unwritten};
+ghost use Rattle.wincode_io.specs.Writers.{IsSameWriter};
 
 use crate::recoding::{KnownShape, RelayError};
 use std::alloc::Global;
@@ -114,6 +115,10 @@ pub fn pass_as<L: Lending, R: Reader<L>, W: Writer>(
 ) -> Result<(), RelayError>
     ensures ok { OnOk result (IsPassedAs shape (R.state reader.old) (W.state writer.old) (W.state writer.new)) }
     ensures err { IfErr result (NotPassedAs shape (R.state reader.old) (W.state writer.old) (W.state writer.new)) }
+    ensures sound { OnOk result (IsSameWriter (W.state writer.old) (W.state writer.new)
+        × AreSound (R.state reader.old) (R.state reader.new) (W.state writer.old) (W.state writer.new)) }
+    ensures told { IfErr result (λ e. IsSameWriter (W.state writer.old) (W.state writer.new)
+        × RelayTells (R.state reader.old) (R.state reader.new) (W.state writer.old) (W.state writer.new) e) }
 {
     match shape {
         KnownShape::Nested => pass_list::<L, R, W, BincodeLen<PREALLOCATION_LIMIT>, Vec<u64>>(

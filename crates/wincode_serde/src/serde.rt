@@ -2,6 +2,7 @@
 ghost use Rattle.std.specs.Prelude.{◌≡◌, IfOk, IfErr, OnOk, OnErr};
 ghost use Rattle.wincode_base.specs.Outcomes.{FrontReadRefused, IsSized, Wrote, SizeRefused, IsSerialized, SerializeRefused, SerializeIntoRefused};
 ghost use Rattle.wincode_io.specs.Readers.{memory, shared};
+ghost use Rattle.wincode_io.specs.Writers.{finished};
 ghost use Rattle.wincode_serde.specs.Serde.{IsInFront, HoldsFront, ExactRefused};
 
 use crate::exact::ExactError;
@@ -23,7 +24,7 @@ pub trait Serialize: SchemaWrite {
     /// Writes the value, and then ends the piece of writing by `finish`. A refused write has added what
     /// the schema's grammar says.
     fn serialize_into<W: Writer>(writer: &mut W, src: &Self::Src) -> WriteResult<()>
-        ensures ok { OnOk result (Wrote Self.SchemaWrite.writing (W.state writer.old) (W.state writer.new) (Self.SchemaWrite.model src.now)) }
+        ensures ok { OnOk result (Wrote Self.SchemaWrite.writing (finished W.buffers (W.state writer.old)) (W.state writer.new) (Self.SchemaWrite.model src.now)) }
         ensures value { OnOk result (Self.SchemaWrite.is_valid src.now) }
         ensures err { IfErr result (SerializeIntoRefused W.buffers Self.SchemaWrite.writing (W.state writer.old) (W.state writer.new) (Self.SchemaWrite.model src.now)) };
 

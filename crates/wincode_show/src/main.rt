@@ -97,13 +97,13 @@ fn recode(rt: &(impl Input + Print + AllocGlobal), shape: &str) -> Result<bool, 
 
 /// So, without all of the input in memory, and of lists in lists one list at a time.
 fn recode_stream(rt: &(impl Input + Print + AllocGlobal), shape: &str) -> Result<bool, Fault> {
-    let Ok(reader) = StreamReader::new(rt.alloc(), StdSource::new(rt.reader())) else {
+    let Ok(mut reader) = StreamReader::new(rt.alloc(), StdSource::new(rt.reader())) else {
         return Err(Fault::from(RelayError::OutOfMemory));
     };
     let Ok(mut writer) = StreamWriter::new(rt.alloc(), StdSink::new(io::writer(rt))) else {
         return Err(Fault::from(RelayError::OutOfMemory));
     };
-    relay_stream(rt.alloc(), shape, reader, &mut writer)?;
+    relay_stream(rt.alloc(), shape, &mut reader, &mut writer)?;
     Ok(true)
 }
 

@@ -73,7 +73,7 @@ module _ {A V : Type 0} (g : WriteGrammar V) (f : A → V) (p : A → Type 0) (x
     can = each_map_after xs i x h is f g.can w.can one.1.0;
     writes = subst (Joined g.writes (map f (take (i + 1) xs))) (sym (front_more filled k n old part w.within one.0))
         (subst (λ vs. Joined g.writes vs (take filled old ++ take n part)) (sym (map_more xs i x h is f))
-        (joined_snoc (λ b v. g.writes v b) (map f (take i xs)) (f x) (take filled old) (take n part) w.writes one.1.1));
+        (joined_snoc g.writes (map f (take i xs)) (f x) (take filled old) (take n part) w.writes one.1.1));
     each = each_after xs i x h is p w.each one.2;
   }
 
@@ -131,7 +131,7 @@ pub text_in_front : (limit prealloc : ℕ) (v : List ℕ) (a n k : ℕ) (old par
 text_in_front limit prealloc v a n k old part first behind =
     let number = bincode_encoding_is limit (length v) (take a old) first.1 in (
       within_put a k n old part first.0 behind.0,
-      (number.0, front_more a k n old part first.0 behind.0 ∙ ap (λ x. x ++ take n part) number.1 ∙ ap (λ x. le 8 (length v) ++ x) behind.1),
+      (number.0, (number.0, front_more a k n old part first.0 behind.0 ∙ ap (λ x. x ++ take n part) number.1 ∙ ap (λ x. le 8 (length v) ++ x) behind.1)),
     )
 
 -- ---- what was put together is written
@@ -145,6 +145,6 @@ run_wrote laws {g} {P} {see} l {cur = cur} {new = new} {left = left} {more = mor
     let run = take count left in
     let vs = map see run in
     let cut : left ≡ run ++ more = sym (take-append-drop count left) ∙ ap (λ t. run ++ t) (sym rest) in
-    let encoded : (items_write g).writes vs written = subst ((items_write g).writes vs) (sym is) e.1 in
+    let encoded : (items_write g).writes written vs = subst (λ b. (items_write g).writes b vs) (sym is) e.1 in
     let size = (items_write_laws P see g l).encoding_size vs written encoded in
     walk_run laws l run more w cut (encoding_wrote (items_write g) vs written encoded size cur new e.0 (record { fits = fits; took = took })) each

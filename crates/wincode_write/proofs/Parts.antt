@@ -85,7 +85,7 @@ module _ {S K V E : Type 0} {put : S → List ℕ → S} {room : S → ℕ} (law
       → WriteOutcome (items_write g) old new (map see all) (Each P all) r
   rest_written (Ok x) o =
       let a = walk_all laws l (walk_run laws l left [] w (sym (append-nil left)) o.ok o.value) refl in
-      record { ok = a.0; value = a.1; refused = tt; place = tt }
+      record { ok = a.0; value = a.1; refused = tt }
   rest_written (Err e) o =
       let cut = sym (append-nil left) in
-      record { ok = tt; value = tt; refused = walk_run_refused laws l left [] w cut o.refused; place = walk_run_halted laws l left [] w cut o.place }
+      record { ok = tt; value = tt; refused = (walk_run_refused laws l left [] w cut o.refused.0, walk_run_halted laws l left [] w cut o.refused.1) }

@@ -41,7 +41,7 @@ module _ {V E : Type 0} (g : WriteGrammar V) (see : E → V) (es : List E) (fill
         subst (Each g.can) models (each_append g.can (map see es) (see e ∷ []) encoded.0 (one.0, tt)),
         subst (Joined g.writes (map see (es ++ (e ∷ [])))) (sym more)
             (subst (λ vs. Joined g.writes vs (take filled block ++ middle)) models
-            (joined_snoc (λ b v. g.writes v b) (map see es) (see e) (take filled block) middle encoded.1 one.1)),
+            (joined_snoc g.writes (map see es) (see e) (take filled block) middle encoded.1 one.1)),
       )
 
   -- bytes behind them were overwritten
@@ -126,12 +126,11 @@ module _ {S K V E : Type 0} {put : S → List ℕ → S} {room : S → ℕ} (law
   pub behind_outcome : {A : Type 0} {old mid new : WriterState put room K} {all : List E} {e : E} (r : Result A WriteError)
       → WritesSoFar g see P old mid all (e ∷ []) → WriteOutcome (item_write g) mid new (see e) (P e) r
       → WriteOutcome (items_write g) old new (map see all) (P e) r
-  behind_outcome (Ok x) w o = record { ok = (walk_all laws l (walk_item_more laws l w refl o.ok o.value) refl).0; value = o.value; refused = tt; place = tt }
+  behind_outcome (Ok x) w o = record { ok = (walk_all laws l (walk_item_more laws l w refl o.ok o.value) refl).0; value = o.value; refused = tt }
   behind_outcome (Err x) w o = record {
     ok = tt;
     value = tt;
-    refused = walk_item_refused laws l w refl o.refused;
-    place = walk_item_halted laws l w refl o.place;
+    refused = (walk_item_refused laws l w refl o.refused.0, walk_item_halted laws l w refl o.refused.1);
   }
 
   -- an item more: with those that were pending it was written, or stands in the block

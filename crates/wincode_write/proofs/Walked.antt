@@ -11,7 +11,7 @@ use Rattle.wincode_base.proofs.Walks.{WritesSoFar, SumsSoFar, walk_all}
 pub walked : {A S K V E : Type 0} {put : S → List ℕ → S} {room : S → ℕ} (laws : WriterLaws put room) {g : WriteGrammar V} {P : E → Type 0} {see : E → V}
     (l : WriteLaws P see g) {old cur : WriterState put room K} {all left : List E} (x : A) → WritesSoFar g see P old cur all left → left ≡ []
     → WriteOutcome (items_write g) old cur (map see all) (Each P all) (Ok x)
-walked laws l x w none = let all = walk_all laws l w (ap length none) in record { ok = all.0; value = all.1; refused = tt; place = tt }
+walked laws l x w none = let all = walk_all laws l w (ap length none) in record { ok = all.0; value = all.1; refused = tt }
 
 -- or the sizes of all were added
 pub summed : {E V : Type 0} (g : WriteGrammar V) (see : E → V) (before sum : ℕ) (all left : List E) → SumsSoFar g see before sum all left → left ≡ []

@@ -72,14 +72,19 @@ impl<L: Lending> SchemaRead<L> for Order {
         reader: &mut R,
         dst: &mut Option<Order>,
     ) -> ReadResult<()> {
-        let (id, paid, buyer, items) = <OrderFields as SchemaGet<L>>::get(alloc, reader)?;
-        *dst = Some(Order {
-            id,
-            paid,
-            buyer,
-            items,
-        });
-        Ok(())
+        match <OrderFields as SchemaGet<L>>::get(alloc, reader) {
+            Ok(parts) => {
+                let (id, paid, buyer, items) = parts;
+                *dst = Some(Order {
+                    id,
+                    paid,
+                    buyer,
+                    items,
+                });
+                Ok(())
+            }
+            Err(error) => Err(error),
+        }
     }
 
     ghost read_laws = { ⟦<OrderFields as Lawful<L>>⟧.read_laws };

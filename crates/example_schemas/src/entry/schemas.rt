@@ -68,9 +68,14 @@ impl<L: Lending> SchemaRead<L> for Entry {
         reader: &mut R,
         dst: &mut Option<Entry>,
     ) -> ReadResult<()> {
-        let (id, tags) = <EntryFields as SchemaGet<L>>::get(alloc, reader)?;
-        *dst = Some(Entry { id, tags });
-        Ok(())
+        match <EntryFields as SchemaGet<L>>::get(alloc, reader) {
+            Ok(parts) => {
+                let (id, tags) = parts;
+                *dst = Some(Entry { id, tags });
+                Ok(())
+            }
+            Err(error) => Err(error),
+        }
     }
 
     ghost read_laws = { ⟦<EntryFields as Lawful<L>>⟧.read_laws };

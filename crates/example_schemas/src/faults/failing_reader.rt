@@ -2,9 +2,10 @@
 ghost use Rattle.std.specs.Prelude.{◌≡◌, ◌≤◌, ◌-◌, max, OnOk, OnErr, IfOk, IfErr};
 ghost use Rattle.wincode_io.specs.Readers.{Readies, Loses, Windowed, WindowRefused, BytesReadRefused};
 ghost use Rattle.wincode_io.specs.Windows.{window_state};
-ghost use Rattle.example_schemas.specs.Faults.{HasServed, AskedReadRefused, over_device};
+ghost use Rattle.example_schemas.specs.Faults.{HasServed, AskedReadRefused, over_device, sound_device};
 
 use super::Device;
+use std::io::ErrorKind;
 use std::marker::Model;
 use wincode::io::{Lifetime, ReadError, ReadResult, ReadWindow, Reader, TrustedSliceReader};
 
@@ -27,15 +28,15 @@ impl<'a> Model for FailingReader<'a> {
 }
 
 impl<'a> FailingReader<'a> {
-    /// A reader of these bytes, none of them at hand, whose device serves `sound` calls and has not
-    /// failed.
-    pub fn new(bytes: &'a [u8], sound: usize) -> FailingReader<'a>
-        ensures { result ≡ record { rest = bytes.now; shown = 0; device = record { sound = sound; failures = 0 } } }
+    /// A reader of these bytes, none of them at hand, whose device serves `sound` calls, has not failed, and
+    /// fails with this kind.
+    pub fn new(bytes: &'a [u8], sound: usize, kind: ErrorKind) -> FailingReader<'a>
+        ensures { result ≡ record { rest = bytes.now; shown = 0; device = sound_device sound kind } }
     {
         FailingReader {
             rest: bytes,
             shown: 0,
-            device: Device::new(sound),
+            device: Device::new(sound, kind),
         }
     }
 
@@ -54,7 +55,8 @@ impl<'a> FailingReader<'a> {
     }
 }
 
-/// Once the device fails, each call that asks it is `Io` of kind Other and changes nothing else.
+/// Once the device fails, each call that asks it is `Io`, of the caller's kind the first time and of kind Other afterwards,
+/// and changes nothing else.
 impl<'a> Reader<Lifetime<'a>> for FailingReader<'a> {
     ghost state = { over_device };
 

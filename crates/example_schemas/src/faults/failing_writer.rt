@@ -5,9 +5,10 @@ ghost use Rattle.wincode_io.specs.SliceWriters.{SliceState, slice_put, slice_roo
 ghost use Rattle.wincode_io.specs.SliceWriterLaws.{slice_laws};
 ghost use Rattle.wincode_io.specs.WriterLaws.{min_right};
 ghost use Rattle.wincode_io.specs.Writers.{HasRoom, Took, BytesWriteRefused};
-ghost use Rattle.example_schemas.specs.Faults.{HasServed, AskedWriteRefused, slice_over};
+ghost use Rattle.example_schemas.specs.Faults.{HasServed, AskedWriteRefused, slice_over, sound_device};
 
 use super::Device;
+use std::io::ErrorKind;
 use std::marker::Model;
 use wincode::io::{SliceWriter, WriteError, WriteResult, Writer, ZeroCopy};
 
@@ -35,14 +36,14 @@ impl<'a> Model for FailingWriter<'a> {
 }
 
 impl<'a> FailingWriter<'a> {
-    /// A writer that has written nothing, whose device serves `sound` calls and has not failed.
-    pub fn new(bytes: &'a mut [u8], sound: usize) -> FailingWriter<'a>
-        ensures { result ≡ record { content = record { done = []; left = bytes.old }; slice = bytes.entry.ghost_name; made = 0; device = record { sound = sound; failures = 0 } } }
+    /// A writer that has written nothing, whose device serves `sound` calls, has not failed, and fails with this kind.
+    pub fn new(bytes: &'a mut [u8], sound: usize, kind: ErrorKind) -> FailingWriter<'a>
+        ensures { result ≡ record { content = record { done = []; left = bytes.old }; slice = bytes.entry.ghost_name; made = 0; device = sound_device sound kind } }
     {
         FailingWriter {
             slice: SliceWriter::new(bytes),
             made: 0,
-            device: Device::new(sound),
+            device: Device::new(sound, kind),
         }
     }
 
@@ -61,7 +62,8 @@ impl<'a> FailingWriter<'a> {
     }
 }
 
-/// Once the device fails, each call that asks it is `Io` of kind Other and changes nothing else.
+/// Once the device fails, each call that asks it is `Io`, of the caller's kind the first time and of kind Other afterwards,
+/// and changes nothing else.
 impl<'a> Writer for FailingWriter<'a> {
     ghost Content = { SliceState };
 
@@ -110,6 +112,10 @@ impl<'a> Writer for FailingWriter<'a> {
         self.slice.write_ready_t(src);
         let size = self.slice.written().len() - before;
         self.made = self.made.saturating_sub(size);
+    }
+
+    fn finish(&mut self) -> WriteResult<()> {
+        Ok(())
     }
 
     ghost writer_laws = { slice_laws };

@@ -1,44 +1,43 @@
 //! A source of pieces that are given.
 ghost use Rattle.std.specs.Prelude.{◌≡◌, ℕ, ◌<◌, true, [], ◌++◌, List, MatchOption, vec_len};
-ghost use Rattle.std.specs.declared.io.ErrorKind.TheVariants.{Other};
 ghost use Rattle.wincode_io.specs.Sources.{SourceState};
-ghost use Rattle.example_schemas.specs.Pieces.{joined};
+ghost use Rattle.example_schemas.specs.Pieces.{joined, kind_of};
 
 use std::alloc::Global;
 use std::collections::VecDeque;
-use std::io::{self, Read};
+use std::io::{self, ErrorKind, Read};
 use std::marker::Model;
 use wincode::io::Source;
 
 /// Gives its pieces in order, without the empty ones, and cuts one that is longer than the buffer.
-/// After the last it ends, or fails each time. The count of its failures stays at `usize::MAX`.
+/// After the last it ends, or fails each time with a kind of the caller's. The count of its failures stays at `usize::MAX`.
 #[derive(Drop)]
 pub struct Pieces {
     piece: Vec<u8>,
     place: usize,
     later: VecDeque<Vec<u8>>,
-    fails: bool,
+    fails: Option<ErrorKind>,
     failures: usize,
 }
 
 impl Model for Pieces {
-    ghost use Rattle.std.specs.Prelude.{◌≤◌, Bool, true, drop, ◌++◌, vec_len};
-    ghost use Rattle.std.specs.declared.io.ErrorKind.TheVariants.{Other};
+    ghost use Rattle.std.specs.Prelude.{◌≤◌, Option, true, drop, ◌++◌, vec_len};
+    ghost use Rattle.std.specs.declared.io.ErrorKind.{ErrorKind};
     ghost use Rattle.wincode_io.specs.Sources.{SourceState};
-    ghost use Rattle.example_schemas.specs.Pieces.{joined};
+    ghost use Rattle.example_schemas.specs.Pieces.{joined, kind_of};
 
-    ghost Value = { SourceState × Bool };
+    ghost Value = { SourceState × Option ErrorKind };
 
     // The bytes that are left, and whether it fails behind them.
-    ghost view = { λ p. (record { coming = drop p.place p.piece.items ++ joined p.later.items; failures = p.failures; last = Other; is_known = true }, p.fails) };
+    ghost view = { λ p. (record { coming = drop p.place p.piece.items ++ joined p.later.items; failures = p.failures; last = kind_of p.fails; is_known = true }, p.fails) };
 
     ghost invariant = { λ p. p.place ≤ vec_len p.piece };
 }
 
 impl Pieces {
-    /// A source of these pieces, which has not failed, and which ends or fails behind them.
-    pub fn new(alloc: Global, pieces: Vec<Vec<u8>>, fails: bool) -> Pieces
-        ensures { result ≡ (record { coming = joined pieces.items; failures = 0; last = Other; is_known = true }, fails) }
+    /// A source of these pieces, which has not failed, and which ends behind them, or fails with this kind.
+    pub fn new(alloc: Global, pieces: Vec<Vec<u8>>, fails: Option<ErrorKind>) -> Pieces
+        ensures { result ≡ (record { coming = joined pieces.items; failures = 0; last = kind_of fails; is_known = true }, fails) }
     {
         Pieces {
             piece: Vec::new(alloc),
@@ -64,11 +63,11 @@ impl Source for Pieces {
                     self.place = 0;
                 }
                 None => {
-                    if self.fails {
-                        self.failures = self.failures.saturating_add(1);
-                        return Err(io::Error::from(io::ErrorKind::Other));
-                    }
-                    return Ok(0);
+                    let Some(kind) = self.fails else {
+                        return Ok(0);
+                    };
+                    self.failures = self.failures.saturating_add(1);
+                    return Err(io::Error::from(kind));
                 }
             }
         }

@@ -74,9 +74,14 @@ impl<L: Lending> SchemaRead<L> for Message {
         reader: &mut R,
         dst: &mut Option<Message>,
     ) -> ReadResult<()> {
-        let (id, tags, note) = <MessageFields as SchemaGet<L>>::get(alloc, reader)?;
-        *dst = Some(Message { id, tags, note });
-        Ok(())
+        match <MessageFields as SchemaGet<L>>::get(alloc, reader) {
+            Ok(parts) => {
+                let (id, tags, note) = parts;
+                *dst = Some(Message { id, tags, note });
+                Ok(())
+            }
+            Err(error) => Err(error),
+        }
     }
 
     ghost read_laws = { ⟦<MessageFields as Lawful<L>>⟧.read_laws };

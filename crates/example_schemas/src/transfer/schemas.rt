@@ -71,9 +71,14 @@ impl<L: Lending> SchemaRead<L> for Account {
         reader: &mut R,
         dst: &mut Option<Account>,
     ) -> ReadResult<()> {
-        let a = <AccountFields as SchemaGet<L>>::get(alloc, reader)?;
-        *dst = Some(Account(a));
-        Ok(())
+        match <AccountFields as SchemaGet<L>>::get(alloc, reader) {
+            Ok(parts) => {
+                let a = parts;
+                *dst = Some(Account(a));
+                Ok(())
+            }
+            Err(error) => Err(error),
+        }
     }
 
     #[inline(always)]
@@ -207,14 +212,19 @@ impl<L: Lending> SchemaRead<L> for Transfer {
         reader: &mut R,
         dst: &mut Option<Transfer>,
     ) -> ReadResult<()> {
-        let (from, to, amount, memo) = <TransferFields as SchemaGet<L>>::get(alloc, reader)?;
-        *dst = Some(Transfer {
-            from,
-            to,
-            amount,
-            memo,
-        });
-        Ok(())
+        match <TransferFields as SchemaGet<L>>::get(alloc, reader) {
+            Ok(parts) => {
+                let (from, to, amount, memo) = parts;
+                *dst = Some(Transfer {
+                    from,
+                    to,
+                    amount,
+                    memo,
+                });
+                Ok(())
+            }
+            Err(error) => Err(error),
+        }
     }
 
     ghost read_laws = { ⟦<TransferFields as Lawful<L>>⟧.read_laws };
@@ -312,9 +322,14 @@ impl<L: Lending> SchemaRead<L> for Payment {
         reader: &mut R,
         dst: &mut Option<Payment>,
     ) -> ReadResult<()> {
-        let (to, amount) = <PaymentFields as SchemaGet<L>>::get(alloc, reader)?;
-        *dst = Some(Payment { to, amount });
-        Ok(())
+        match <PaymentFields as SchemaGet<L>>::get(alloc, reader) {
+            Ok(parts) => {
+                let (to, amount) = parts;
+                *dst = Some(Payment { to, amount });
+                Ok(())
+            }
+            Err(error) => Err(error),
+        }
     }
 
     #[inline(always)]
@@ -427,9 +442,14 @@ impl<L: Lending> SchemaRead<L> for Day {
     }
 
     fn read<R: Reader<L>>(alloc: Global, reader: &mut R, dst: &mut Option<Day>) -> ReadResult<()> {
-        let (number, paid) = <DayFields as SchemaGet<L>>::get(alloc, reader)?;
-        *dst = Some(Day { number, paid });
-        Ok(())
+        match <DayFields as SchemaGet<L>>::get(alloc, reader) {
+            Ok(parts) => {
+                let (number, paid) = parts;
+                *dst = Some(Day { number, paid });
+                Ok(())
+            }
+            Err(error) => Err(error),
+        }
     }
 
     ghost read_laws = { ⟦<DayFields as Lawful<L>>⟧.read_laws };

@@ -334,17 +334,20 @@ impl<L: Lending> SchemaRead<L> for Tally {
         reader: &mut R,
         dst: &mut Option<Tally>,
     ) -> ReadResult<()> {
-        let (by_kind, by_mark, ranges, words, waiting) = <TallyFields as SchemaGet<L>>::get(
-            alloc, reader,
-        )?;
-        *dst = Some(Tally {
-            by_kind,
-            by_mark,
-            ranges,
-            words,
-            waiting,
-        });
-        Ok(())
+        match <TallyFields as SchemaGet<L>>::get(alloc, reader) {
+            Ok(parts) => {
+                let (by_kind, by_mark, ranges, words, waiting) = parts;
+                *dst = Some(Tally {
+                    by_kind,
+                    by_mark,
+                    ranges,
+                    words,
+                    waiting,
+                });
+                Ok(())
+            }
+            Err(error) => Err(error),
+        }
     }
 
     ghost read_laws = { ⟦<TallyFields as Lawful<L>>⟧.read_laws };

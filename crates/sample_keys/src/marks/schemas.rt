@@ -77,9 +77,14 @@ impl<L: Lending> SchemaRead<L> for Span {
     }
 
     fn read<R: Reader<L>>(alloc: Global, reader: &mut R, dst: &mut Option<Span>) -> ReadResult<()> {
-        let (a, b) = <SpanFields as SchemaGet<L>>::get(alloc, reader)?;
-        *dst = Some(Span(a, b));
-        Ok(())
+        match <SpanFields as SchemaGet<L>>::get(alloc, reader) {
+            Ok(parts) => {
+                let (a, b) = parts;
+                *dst = Some(Span(a, b));
+                Ok(())
+            }
+            Err(error) => Err(error),
+        }
     }
 
     #[inline(always)]
@@ -205,9 +210,14 @@ impl<L: Lending> SchemaRead<L> for Range {
         reader: &mut R,
         dst: &mut Option<Range>,
     ) -> ReadResult<()> {
-        let (from, to) = <RangeFields as SchemaGet<L>>::get(alloc, reader)?;
-        *dst = Some(Range { from, to });
-        Ok(())
+        match <RangeFields as SchemaGet<L>>::get(alloc, reader) {
+            Ok(parts) => {
+                let (from, to) = parts;
+                *dst = Some(Range { from, to });
+                Ok(())
+            }
+            Err(error) => Err(error),
+        }
     }
 
     #[inline(always)]
@@ -356,9 +366,14 @@ impl<L: Lending> SchemaRead<L> for Marker {
         reader: &mut R,
         dst: &mut Option<Marker>,
     ) -> ReadResult<()> {
-        <MarkerFields as SchemaGet<L>>::get(alloc, reader)?;
-        *dst = Some(Marker);
-        Ok(())
+        match <MarkerFields as SchemaGet<L>>::get(alloc, reader) {
+            Ok(parts) => {
+                let () = parts;
+                *dst = Some(Marker);
+                Ok(())
+            }
+            Err(error) => Err(error),
+        }
     }
 
     ghost read_laws = { ⟦<MarkerFields as Lawful<L>>⟧.read_laws };

@@ -70,9 +70,14 @@ impl<L: Lending> SchemaRead<L> for Note {
     }
 
     fn read<R: Reader<L>>(alloc: Global, reader: &mut R, dst: &mut Option<Note>) -> ReadResult<()> {
-        let (id, text, marks) = <NoteFields as SchemaGet<L>>::get(alloc, reader)?;
-        *dst = Some(Note { id, text, marks });
-        Ok(())
+        match <NoteFields as SchemaGet<L>>::get(alloc, reader) {
+            Ok(parts) => {
+                let (id, text, marks) = parts;
+                *dst = Some(Note { id, text, marks });
+                Ok(())
+            }
+            Err(error) => Err(error),
+        }
     }
 
     ghost read_laws = { ⟦<NoteFields as Lawful<L>>⟧.read_laws };

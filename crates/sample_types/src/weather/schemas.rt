@@ -98,14 +98,19 @@ impl<L: Lending> SchemaRead<L> for Measured {
         reader: &mut R,
         dst: &mut Option<Measured>,
     ) -> ReadResult<()> {
-        let (by, behind, degrees, places) = <MeasuredFields as SchemaGet<L>>::get(alloc, reader)?;
-        *dst = Some(Measured {
-            by,
-            behind,
-            degrees,
-            places,
-        });
-        Ok(())
+        match <MeasuredFields as SchemaGet<L>>::get(alloc, reader) {
+            Ok(parts) => {
+                let (by, behind, degrees, places) = parts;
+                *dst = Some(Measured {
+                    by,
+                    behind,
+                    degrees,
+                    places,
+                });
+                Ok(())
+            }
+            Err(error) => Err(error),
+        }
     }
 
     ghost read_laws = { ⟦<MeasuredFields as Lawful<L>>⟧.read_laws };
@@ -357,9 +362,14 @@ impl<L: Lending> SchemaRead<L> for Place {
         reader: &mut R,
         dst: &mut Option<Place>,
     ) -> ReadResult<()> {
-        let (by, at, behind) = <PlaceFields as SchemaGet<L>>::get(alloc, reader)?;
-        *dst = Some(Place { by, at, behind });
-        Ok(())
+        match <PlaceFields as SchemaGet<L>>::get(alloc, reader) {
+            Ok(parts) => {
+                let (by, at, behind) = parts;
+                *dst = Some(Place { by, at, behind });
+                Ok(())
+            }
+            Err(error) => Err(error),
+        }
     }
 
     #[inline(always)]
@@ -656,9 +666,14 @@ impl<L: Lending> SchemaRead<L> for Sums {
     }
 
     fn read<R: Reader<L>>(alloc: Global, reader: &mut R, dst: &mut Option<Sums>) -> ReadResult<()> {
-        let (of, shared) = <SumsFields as SchemaGet<L>>::get(alloc, reader)?;
-        *dst = Some(Sums { of, shared });
-        Ok(())
+        match <SumsFields as SchemaGet<L>>::get(alloc, reader) {
+            Ok(parts) => {
+                let (of, shared) = parts;
+                *dst = Some(Sums { of, shared });
+                Ok(())
+            }
+            Err(error) => Err(error),
+        }
     }
 
     ghost read_laws = { ⟦<SumsFields as Lawful<L>>⟧.read_laws };

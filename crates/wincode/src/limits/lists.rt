@@ -1,7 +1,7 @@
 //! Limits of lists, maps, sets and heaps: the length's, of so much as an item counts, and those of each item.
 ghost use Rattle.std.specs.Prelude.{◌≡◌, false, IsTrue, map};
 ghost use Rattle.wincode_io.specs.Joins.{Each};
-ghost use Rattle.wincode.specs.Limits.{ListFits};
+ghost use Rattle.wincode_base.specs.Lists.{ListFits};
 
 use crate::containers;
 use crate::len::{BincodeLen, PREALLOCATION_LIMIT};

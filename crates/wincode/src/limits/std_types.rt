@@ -1,4 +1,4 @@
-//! Written by `tools/templates`: limits of numbers other than 0, floats, times and addresses, which have none, and of what is as what it holds.
+//! Written by `tools/templates`: limits of numbers other than 0, floats, times and addresses, which have none but of a socket, and of what is as what it holds.
 use crate::limits::Limited;
 use std::cmp::Reverse;
 use std::net::{IpAddr, Ipv4Addr, Ipv6Addr, SocketAddr, SocketAddrV4, SocketAddrV6};
@@ -294,12 +294,9 @@ impl Limited for SocketAddrV6 {
         <([u8; 16], u16) as Limited>::counts()
     }
 
-    fn has_no_limits() -> bool {
-        <([u8; 16], u16) as Limited>::has_no_limits()
-    }
-
-    fn is_within(_src: &SocketAddrV6) -> bool {
-        true
+    /// An address reads back that has no flow label and no scope, since neither is written.
+    fn is_within(src: &SocketAddrV6) -> bool {
+        src.flowinfo() == 0 && src.scope_id() == 0
     }
 }
 
@@ -308,12 +305,11 @@ impl Limited for SocketAddr {
         <Result<SocketAddrV4, SocketAddrV6> as Limited>::counts()
     }
 
-    fn has_no_limits() -> bool {
-        <Result<SocketAddrV4, SocketAddrV6> as Limited>::has_no_limits()
-    }
-
-    fn is_within(_src: &SocketAddr) -> bool {
-        true
+    fn is_within(src: &SocketAddr) -> bool {
+        match src {
+            SocketAddr::V4(_) => true,
+            SocketAddr::V6(address) => <SocketAddrV6 as Limited>::is_within(address),
+        }
     }
 }
 

@@ -33,8 +33,10 @@ ghost use Rattle.wincode_base.specs.Made.{
   socket_parts,
   socket_v4_parts,
   socket_v6_parts,
+  socket_v6_written,
 };
 ghost use Rattle.wincode_base.specs.MadeLaws.{made_reads_back, same_reads_back};
+ghost use Rattle.wincode_base.specs.SocketLaws.{unscoped_reads_back};
 ghost use Rattle.wincode_base.specs.PairLaws.{pair_reads_back, reads_back_by, windowed_reads_back};
 ghost use Rattle.wincode_base.specs.TagLaws.{result_reads_back};
 ghost use Rattle.wincode.specs.OneTextLaws.{
@@ -343,8 +345,8 @@ impl<L: Lending> SchemaReadOwned<L> for SocketAddrV6 {
 }
 
 impl<L: Lending> RoundTrip<L> for SocketAddrV6 {
-    ghost reads_back = { same_reads_back ⟦<([u8; 16], u16) as SchemaRead<L>>⟧.model [] socket_v6_parts (reads_back_by (λ t. (t.0, t.1))
-        (windowed_reads_back (pair_reads_back (windowed_reads_back
+    ghost reads_back = { unscoped_reads_back ⟦<([u8; 16], u16) as SchemaRead<L>>⟧.model socket_v6_parts socket_v6_written [] (λ y p small. (p.0, small))
+        (λ b v r. r.3.0) (reads_back_by (λ t. (t.0, t.1)) (windowed_reads_back (pair_reads_back (windowed_reads_back
         (array_reads_back 16 (λ v. v < 256 ^ 1) (λ v. v) (number_write 1 true) (λ v. v) (number_read 1 true) (number_reads_back 1 true))) (number_reads_back 2 true)))) };
 }
 
@@ -369,8 +371,8 @@ impl<L: Lending> RoundTrip<L> for SocketAddr {
         ⟦<SocketAddrV6 as SchemaRead<L>>⟧.reading (same_reads_back ⟦<([u8; 4], u16) as SchemaRead<L>>⟧.model [] socket_v4_parts
         (reads_back_by (λ t. (t.0, t.1)) (windowed_reads_back (pair_reads_back (windowed_reads_back
         (array_reads_back 4 (λ v. v < 256 ^ 1) (λ v. v) (number_write 1 true) (λ v. v) (number_read 1 true) (number_reads_back 1 true))) (number_reads_back 2 true)))))
-        (same_reads_back ⟦<([u8; 16], u16) as SchemaRead<L>>⟧.model [] socket_v6_parts (reads_back_by (λ t. (t.0, t.1)) (windowed_reads_back
-        (pair_reads_back (windowed_reads_back
+        (unscoped_reads_back ⟦<([u8; 16], u16) as SchemaRead<L>>⟧.model socket_v6_parts socket_v6_written [] (λ y p small. (p.0, small)) (λ b v r. r.3.0)
+        (reads_back_by (λ t. (t.0, t.1)) (windowed_reads_back (pair_reads_back (windowed_reads_back
         (array_reads_back 16 (λ v. v < 256 ^ 1) (λ v. v) (number_write 1 true) (λ v. v) (number_read 1 true) (number_reads_back 1 true))) (number_reads_back 2 true)))))) };
 }
 

@@ -1,7 +1,7 @@
 //! Many values at once, to a writer, as their byte forms.
 ghost use Rattle.std.specs.Prelude.{◌≡◌, ℕ, ◌+◌, ◌*◌, ◌<◌, ◌≤◌, length, take, OnOk, IfErr, Err};
 ghost use Rattle.std.specs.List.{All, flat_map};
-ghost use Rattle.wincode_io.specs.Writers.{Added, Took, IsUnmoved, BytesWriteRefused, byte_limit};
+ghost use Rattle.wincode_io.specs.Writers.{Added, Took, IsUnmoved, IsSoundWriter, BytesWriteRefused, byte_limit};
 
 use crate::error::{WriteError, WriteResult};
 use crate::writer::Writer;
@@ -99,7 +99,8 @@ pub fn write_forms<W: Writer, T: ZeroCopy>(writer: &mut W, values: &[T]) -> Writ
     ensures ok { OnOk result (Added (flat_map T.form values.now) (W.state writer.old) (W.state writer.new)) }
     ensures is_valid { OnOk result (All T.is_valid values.now) }
     ensures err { length values.now * T.size ≤ byte_limit → IfErr result (BytesWriteRefused (length values.now * T.size) (W.state writer.old) (W.state writer.new)) }
-    ensures vast { byte_limit < length values.now * T.size → (result ≡ Err (WriteError.WriteSizeLimit byte_limit)) × IsUnmoved (W.state writer.old) (W.state writer.new) }
+    ensures vast { byte_limit < length values.now * T.size → (result ≡ Err (WriteError.WriteSizeLimit byte_limit)) × IsUnmoved (W.state writer.old) (W.state writer.new)
+        × IsSoundWriter (W.state writer.old) (W.state writer.new) }
 {
     let Some(total) = total_size::<T>(values.len()) else {
         // No effect at run time: the proof reads what it holds from this use of it.

@@ -2,7 +2,7 @@
 ghost use Rattle.std.proofs.Common.{lit≤};
 ghost use Rattle.std.specs.Char.{IsScalar};
 ghost use Rattle.std.specs.Prelude.{⊤, ◌≡◌, ℕ, ◌≤◌, true, false, List, length, take, IsUtf8, string_bytes, IfOk, IfErr, IfSome, IfNone};
-ghost use Rattle.wincode_io.specs.Readers.{Stays, Arrays, IsPeeked};
+ghost use Rattle.wincode_io.specs.Readers.{StaysSound, Arrays, IsPeeked};
 ghost use Rattle.wincode_base.specs.Outcomes.{Gives, PieceReadRefused, ReadOutcome, GetOutcome};
 ghost use Rattle.wincode_base.specs.Strings.{char_read, announced, str_read, body_read, StrBytesReadRefused};
 ghost use Rattle.wincode_base.specs.StringLaws.{char_read_laws, str_read_laws};
@@ -22,7 +22,7 @@ use wincode_io::{Lending, Reader};
 
 /// The first byte, which stays.
 fn peek_lead<L: Lending, R: Reader<L>>(reader: &mut R) -> ReadResult<u8>
-    ensures ok { IfOk result (λ b. Stays (R.state reader.old) (R.state reader.new) × IsPeeked (R.state reader.old) b) }
+    ensures ok { IfOk result (λ b. StaysSound (R.state reader.old) (R.state reader.new) × IsPeeked (R.state reader.old) b) }
     ensures err { IfErr result (PieceReadRefused 1 (R.state reader.old) (R.state reader.new)) }
 {
     let lead = reader.peek()?;

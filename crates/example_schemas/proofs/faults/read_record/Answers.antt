@@ -21,4 +21,4 @@ returns-clause-gave c =
 
 pub returns-clause-succeeds : goal.returns-clause-succeeds
 returns-clause-succeeds c =
-    λ some front. ok_by c.get.result (λ e r. record_read_through c.in_ok-window.ensures.ok e refl refl front r) c.get.ensures.refused
+    λ some front. ok_by c.get.result (λ e r. record_read_through c.in_ok-window.ensures.ok e refl refl front r.0) c.get.ensures.refused

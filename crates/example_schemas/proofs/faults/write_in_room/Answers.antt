@@ -1,5 +1,6 @@
 use Rattle.std.proofs.Common.{rules, ◌≡◌, ◌∙◌, ◌≤◌, ap, map, length, refl, subst, arith}
 use Rattle.std.proofs.lemmas.List.{map-id}
+use Rattle.wincode_io.specs.WriterLaws.{same_refl, writer_sound_refl}
 use Rattle.wincode_io.specs.Writers.{HasRoom}
 use Rattle.wincode_base.specs.Outcomes.{Wrote}
 use Rattle.example_schemas.specs.Records.{record_write}
@@ -18,13 +19,14 @@ returns-in_err-write-clause-ok g c =
     let b = c.write.new.writer in
     let o = c.in_err-write.ensures in
     let has : HasRoom 41 old old = record {
-      unmoved = record { same = record { kept = refl; never_fails = refl }; content = refl };
+      unmoved = record { same = same_refl old; content = refl };
+      sound = writer_sound_refl old;
       fits = fits;
       ready =
           c.requires.room;
     } in
     absurd (record_written_through (src.0, (src.1, map (λ n. n) src.2)) (ap length (map-id src.2) ∙ full) old old (state a.writer.now) (state b.writer.now)
-    a.writer.ghost_name b.writer.ghost_name a.left b.left _ has (ap state window.writer) window.left o.refused o.place)
+    a.writer.ghost_name b.writer.ghost_name a.left b.left _ has (ap state window.writer) window.left o.refused.0 o.refused.1)
 
 pub returns-clause-wrote : goal.returns-clause-wrote
 returns-clause-wrote g c =

@@ -12,7 +12,7 @@ pub returns-in_err-copy_into_array-clause-err : goal.returns-in_err-copy_into_ar
 returns-in_err-copy_into_array-clause-err g c =
     let refused = c.in_err-copy_into_array.ensures.err in
     let outer = windowed c.in_ok-outer.ensures.ok in
-    absurd (served 2 _ _ _ outer (lit≤ tt) refused.0 refused.1)
+    absurd (served 2 _ _ _ outer (lit≤ tt) refused.0 refused.2)
 
 pub returns-in_err-inner-clause-err : goal.returns-in_err-inner-clause-err
 returns-in_err-inner-clause-err g c =
@@ -20,7 +20,7 @@ returns-in_err-inner-clause-err g c =
     let taken = c.in_ok-copy_into_array.ensures.ok in
     let window = c.in_ok-outer.ensures.ok in
     let outer = lost (windowed window) taken.loses in
-    let h = window_served 4 _ _ _ outer (lit≤ tt) refused.0 refused.1 in
+    let h = window_served 4 _ _ _ outer (lit≤ tt) refused.0 refused.2 in
     let counts = sym (refused.0.kept.counts_windows ∙ taken.loses.kept.counts_windows ∙ window.counts_windows) ∙ h.0 in
     let lost_all = window.takes.loses in
     let full = h.1 in search (rules, counts, lost_all, full)
@@ -29,7 +29,7 @@ pub returns-in_err-copy_into_slice-clause-err : goal.returns-in_err-copy_into_sl
 returns-in_err-copy_into_slice-clause-err g c =
     let refused = c.in_err-copy_into_slice.ensures.err in
     let inner = windowed c.in_ok-inner.ensures.ok in
-    absurd (served 2 _ _ _ inner (lit≤ tt) refused.0 refused.1)
+    absurd (served 2 _ _ _ inner (lit≤ tt) refused.0 refused.2)
 
 pub returns-clause-value : goal.returns-clause-value
 returns-clause-value g c told =

@@ -17,7 +17,6 @@ returns-in_ok-take_array-in-1 g c =
       ok = tag_given w8 (lit< tt) g.Tag.TagCode.size (omega (arith, c.tag_size.ensures, c.in-1.is))
           _ _ _ _ c.in_ok-take_array-in-1.ensures.ok small c.from_le_bytes.ensures;
       refused = tt;
-      place = tt;
     }
 
 pub returns-in_err-take_array-in-2 : goal.returns-in_err-take_array-in-2
@@ -32,7 +31,6 @@ returns-in_ok-take_array-in-2 g c =
       ok = tag_given w16 (lit< tt) g.Tag.TagCode.size (omega (arith, c.tag_size.ensures, c.in-2.is))
           _ _ _ _ c.in_ok-take_array-in-2.ensures.ok small c.from_le_bytes-in-2.ensures;
       refused = tt;
-      place = tt;
     }
 
 pub returns-in_err-take_array-in-4 : goal.returns-in_err-take_array-in-4
@@ -47,7 +45,6 @@ returns-in_ok-take_array-in-4 g c =
       ok = tag_given w32 (lit< tt) g.Tag.TagCode.size (omega (arith, c.tag_size.ensures, c.in-4.is))
           _ _ _ _ c.in_ok-take_array-in-4.ensures.ok small c.from_le_bytes-in-4.ensures;
       refused = tt;
-      place = tt;
     }
 
 pub returns-in_err-take_number-in_default : goal.returns-in_err-take_number-in_default
@@ -59,4 +56,4 @@ returns-in_err-take_number-in_default g c =
 pub returns-in_ok-take_number-in_default : goal.returns-in_ok-take_number-in_default
 returns-in_ok-take_number-in_default g c =
     let is : g.Tag.TagCode.size ≡ 8 = search (rules, g.met.Tag.TagCode.tag_law) in
-    record { ok = tag_taken g.Tag.TagCode.size 8 is _ _ _ c.in_ok-take_number-in_default.ensures.ok; refused = tt; place = tt }
+    record { ok = tag_taken g.Tag.TagCode.size 8 is _ _ _ c.in_ok-take_number-in_default.ensures.ok; refused = tt }

@@ -16,10 +16,13 @@ returns g c =
       (
         (t.own, part.1.0),
         (
-          behind,
-          part.1.1,
-          front_more c.in_ok-front.front _ c.in_ok-part.part c.encode_tag.new.dst c.encode_part.new.dst first.0 part.0
-              ∙ ap (λ a. a ++ behind) tag,
+          t.own,
+          (
+            behind,
+            part.1.1,
+            front_more c.in_ok-front.front _ c.in_ok-part.part c.encode_tag.new.dst c.encode_part.new.dst first.0 part.0
+                ∙ ap (λ a. a ++ behind) tag,
+          ),
         ),
       ),
       (t.own, part.2),

@@ -20,7 +20,7 @@ returns-in_err-read_bytes g c =
     let fits : c.args.n < 2 ^ 64 = search rules in
     let o = c.in_err-read_bytes.ensures in
     get_refused (described_read (type.ByteArray c.args.n)) _ _ _ c.from_residual-in_err-read_bytes.ensures
-    (array_refused c.args.n fits _ _ _ _ _ c.in_ok-window.ensures.ok o.each.refused o.at_once)
+    (array_refused c.args.n fits _ _ _ _ _ c.in_ok-window.ensures.ok o.each.refused.0 o.at_once)
 
 pub returns : goal.returns
 returns g c =
@@ -29,4 +29,4 @@ returns g c =
     let whole : c.read_bytes.new.into.items ≡ a.items = a.is ∙ ap (λ t. t ++ a.items) c.new-bytes.ensures.items in
     let P : List ℕ → Type 0 = λ xs. Gives (described_read (type.ByteArray c.args.n)).reads (g.R.Reader.state c.args.reader.now)
     (g.R.Reader.state c.as_trusted_for.new.self) (Bytes xs ∷ []) in
-    record { ok = subst P (map-id a.items ∙ sym whole) (array_gives c.args.n fits _ _ _ _ _ c.in_ok-window.ensures.ok a.gives); refused = tt; place = tt }
+    record { ok = subst P (map-id a.items ∙ sym whole) (array_gives c.args.n fits _ _ _ _ _ c.in_ok-window.ensures.ok a.gives); refused = tt }

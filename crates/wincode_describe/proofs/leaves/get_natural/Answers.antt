@@ -7,4 +7,4 @@ use Rattle.wincode_describe.proofs.leaves.get_natural.Goals as goal
 pub returns-in_err-value : goal.returns-in_err-value
 returns-in_err-value g c =
     let o = c.in_err-value.ensures in
-    got_refused (natural_shown c.args.integer) (number_read (tag_bytes c.args.size) true) _ _ c.from_residual.ensures (o.refused, o.place)
+    got_refused (natural_shown c.args.integer) (number_read (tag_bytes c.args.size) true) _ _ c.from_residual.ensures o.refused

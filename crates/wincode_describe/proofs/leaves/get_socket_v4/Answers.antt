@@ -14,7 +14,7 @@ use Rattle.wincode_describe.proofs.leaves.get_socket_v4.Goals as goal
 pub returns-in_err-octets : goal.returns-in_err-octets
 returns-in_err-octets g c =
     let o = c.in_err-octets.ensures in
-    socket_refused SocketAddrV4 4 _ _ c.from_residual.ensures (o.refused, o.place)
+    socket_refused SocketAddrV4 4 _ _ c.from_residual.ensures o.refused
 
 pub returns : goal.returns
 returns g c =

@@ -19,7 +19,7 @@ returns-in-SystemTime g c = rw c.in-SystemTime.is c.get_time-in-SystemTime.ensur
 pub returns-in_err-octets-in-Ipv4Addr : goal.returns-in_err-octets-in-Ipv4Addr
 returns-in_err-octets-in-Ipv4Addr g c =
     let o = c.in_err-octets-in-Ipv4Addr.ensures in
-    rw c.in-Ipv4Addr.is (octets_refused Ipv4Addr 4 _ _ c.from_residual-in_err-octets-in-Ipv4Addr.ensures (o.refused, o.place))
+    rw c.in-Ipv4Addr.is (octets_refused Ipv4Addr 4 _ _ c.from_residual-in_err-octets-in-Ipv4Addr.ensures o.refused)
 
 pub returns-in_ok-octets-in-Ipv4Addr : goal.returns-in_ok-octets-in-Ipv4Addr
 returns-in_ok-octets-in-Ipv4Addr g c =
@@ -34,7 +34,7 @@ returns-in_ok-octets-in-Ipv4Addr g c =
 pub returns-in_err-octets-in-Ipv6Addr : goal.returns-in_err-octets-in-Ipv6Addr
 returns-in_err-octets-in-Ipv6Addr g c =
     let o = c.in_err-octets-in-Ipv6Addr.ensures in
-    rw c.in-Ipv6Addr.is (octets_refused Ipv6Addr 16 _ _ c.from_residual-in_err-octets-in-Ipv6Addr.ensures (o.refused, o.place))
+    rw c.in-Ipv6Addr.is (octets_refused Ipv6Addr 16 _ _ c.from_residual-in_err-octets-in-Ipv6Addr.ensures o.refused)
 
 pub returns-in_ok-octets-in-Ipv6Addr : goal.returns-in_ok-octets-in-Ipv6Addr
 returns-in_ok-octets-in-Ipv6Addr g c =

@@ -7,7 +7,7 @@ use Rattle.wincode_describe.proofs.leaves.get_time.Goals as goal
 pub returns-in_err-seconds : goal.returns-in_err-seconds
 returns-in_err-seconds g c =
     let o = c.in_err-seconds.ensures in
-    time_refused c.args.kind c.args.limit _ _ c.from_residual.ensures (o.refused, o.place)
+    time_refused c.args.kind c.args.limit _ _ c.from_residual.ensures o.refused
 
 pub returns-then-whole-limit : goal.returns-then-whole-limit
 returns-then-whole-limit g c =

@@ -10,7 +10,7 @@ use Rattle.wincode_describe.proofs.leaves.show_byte_array.Goals as goal
 pub returns-in_err-bytes : goal.returns-in_err-bytes
 returns-in_err-bytes g c =
     let o = c.in_err-bytes.ensures in
-    show_refused (described_read (type.ByteArray c.args.n)) _ _ _ _ c.from_residual.ensures (o.refused, o.place) (began_none g.S.PartSink.sink_laws _ _)
+    show_refused (described_read (type.ByteArray c.args.n)) _ _ _ _ c.from_residual.ensures o.refused (began_none g.S.PartSink.sink_laws _ _)
 
 pub returns : goal.returns
 returns g c =

@@ -16,7 +16,7 @@ returns-in_err-bytes g c =
     let s = c.args.scheme in
     let T = list_read (scheme_of s) 24 (number_read 1 true) in
     let o = c.in_err-bytes.ensures in
-    show_refused (shown_read (bytes_shown s) T) _ _ _ _ c.from_residual.ensures (shown_refused (bytes_shown s) T _ _ _ (o.refused, o.place))
+    show_refused (shown_read (bytes_shown s) T) _ _ _ _ c.from_residual.ensures (shown_refused (bytes_shown s) T _ _ _ o.refused)
     (began_none g.S.PartSink.sink_laws _ _)
 
 pub returns-in_err-add : goal.returns-in_err-add

@@ -9,4 +9,4 @@ pub returns-in_err-value : goal.returns-in_err-value
 returns-in_err-value g c =
     let o = c.in_err-value.ensures in
     show_refused (shown_read (λ c. Character c ∷ []) char_read) _ _ _ _ c.from_residual.ensures
-    (shown_refused (λ c. Character c ∷ []) char_read _ _ _ (o.refused, o.place)) (began_none g.S.PartSink.sink_laws _ _)
+    (shown_refused (λ c. Character c ∷ []) char_read _ _ _ o.refused) (began_none g.S.PartSink.sink_laws _ _)

@@ -6,7 +6,7 @@ use Rattle.wincode_describe.proofs.leaves.show_integer.Goals as goal
 pub returns-in_err-part : goal.returns-in_err-part
 returns-in_err-part g c =
     let o = c.in_err-part.ensures in
-    show_refused (integer_read c.args.integer) _ _ _ _ c.from_residual.ensures (o.refused, o.place) (began_none g.S.PartSink.sink_laws _ _)
+    show_refused (integer_read c.args.integer) _ _ _ _ c.from_residual.ensures o.refused (began_none g.S.PartSink.sink_laws _ _)
 
 pub returns : goal.returns
 returns g c =

@@ -16,7 +16,7 @@ pub returns-in_err-text : goal.returns-in_err-text
 returns-in_err-text g c =
     let o = c.in_err-text.ensures in
     show_refused (shown_read text_shown (str_read 24 0 false)) _ _ _ _ c.from_residual.ensures
-    (shown_refused text_shown (str_read 24 0 false) _ _ _ (o.refused, o.place)) (began_none g.S.PartSink.sink_laws _ _)
+    (shown_refused text_shown (str_read 24 0 false) _ _ _ o.refused) (began_none g.S.PartSink.sink_laws _ _)
 
 pub returns-in_err-add : goal.returns-in_err-add
 returns-in_err-add g c =

@@ -8,7 +8,8 @@ returns-in-Ok g c =
     let k = c.in-Ok.ensures.ok in
     let one = rw k.0 at c.print_read.ensures in
     let two = rw k.1 at one in
-    source_says c.args.described.now (g.S.Source.state c.args.source) _ c.print_read.result (rw k.2 at two)
+    let three = rw k.2 at two in
+    source_says c.args.described.now (g.S.Source.state c.args.source) _ c.print_read.result (rw k.4 at three)
 
 pub returns-in_ok-print_refusal-in-Err : goal.returns-in_ok-print_refusal-in-Err
 returns-in_ok-print_refusal-in-Err g c = ([], Some (reading.Io c.in-Err.error), (λ t. (_, refl), inl (ap reading.Io c.in-Err.ensures.err)), refl)

@@ -147,7 +147,7 @@ show_list-returns-in_err-count g m c =
     let d = c.args.item.now in
     let o = rw c.prealloc_size.ensures at c.in_err-count.ensures in
     show_refused (list_of c.args.scheme (described_read d)) _ _ _ _ c.from_residual.ensures
-    (length_refused c.args.scheme (described_read d) _ _ _ (o.refused, o.place)) (began_none g.S.PartSink.sink_laws _ _)
+    (length_refused c.args.scheme (described_read d) _ _ _ o.refused) (began_none g.S.PartSink.sink_laws _ _)
 
 pub show_list-returns : goal.show_list-returns
 show_list-returns g m c =
@@ -192,7 +192,7 @@ show_parts-returns-in_err-side-in-Result g m c =
     let T = described_read c.in-Result.one.value in
     let U = described_read c.in-Result.other.value in
     let o = c.in_err-side-in-Result.ensures in
-    rw c.in-Result.is (show_refused (shown_read result_shown (result_read 4 T U)) _ _ _ _ c.from_residual.ensures (side_unshown T U _ _ _ (o.refused, o.place))
+    rw c.in-Result.is (show_refused (shown_read result_shown (result_read 4 T U)) _ _ _ _ c.from_residual.ensures (side_unshown T U _ _ _ o.refused)
     (began_none g.S.PartSink.sink_laws _ _))
 
 pub show_parts-returns-in_err-add-in-Result : goal.show_parts-returns-in_err-add-in-Result
@@ -282,7 +282,7 @@ show_enum-returns-in_err-tag g m c =
     let cases = cases_read c.args.cases.now in
     let k = tag_bytes c.args.size in
     let o = c.in_err-tag.ensures in
-    show_refused (chosen_read k cases) _ _ _ _ c.from_residual.ensures (chosen_first k cases _ _ _ (o.refused, o.place)) (began_none g.S.PartSink.sink_laws _ _)
+    show_refused (chosen_read k cases) _ _ _ _ c.from_residual.ensures (chosen_first k cases _ _ _ o.refused) (began_none g.S.PartSink.sink_laws _ _)
 
 pub show_enum-returns-in_err-add : goal.show_enum-returns-in_err-add
 show_enum-returns-in_err-add g m c =
@@ -305,7 +305,7 @@ pub show_option-returns-in_err-tag : goal.show_option-returns-in_err-tag
 show_option-returns-in_err-tag g m c =
     let T = described_read c.args.content.now in
     let o = c.in_err-tag.ensures in
-    show_refused (shown_read option_shown (option_read 1 T)) _ _ _ _ c.from_residual.ensures (option_first T _ _ _ (o.refused, o.place))
+    show_refused (shown_read option_shown (option_read 1 T)) _ _ _ _ c.from_residual.ensures (option_first T _ _ _ o.refused)
     (began_none g.S.PartSink.sink_laws _ _)
 
 pub show_option-returns-in_err-add : goal.show_option-returns-in_err-add

@@ -15,4 +15,4 @@ returns g c =
     let whole : c.show_parts.new.shown.items ≡ s.more = s.is ∙ ap (λ t. t ++ s.more) c.new-shown.ensures.items in
     let P : List Shown → Type 0 = λ xs. Gives (described_read c.args.described.now).reads (g.R.Reader.state c.args.reader.now)
     (g.R.Reader.state c.show_parts.new.reader) (map seen xs) in
-    record { ok = subst P (sym whole) s.gives; refused = tt; place = tt }
+    record { ok = subst P (sym whole) s.gives; refused = tt }

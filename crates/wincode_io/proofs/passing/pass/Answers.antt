@@ -9,5 +9,6 @@ loop-taken-preserved g c =
     record {
       within = within_more c.args.bytes.now c.loop-taken.taken c.in-Ok.n so_far.within took.within;
       sent = passed_more _ _ _ c.args.bytes.now c.loop-taken.taken c.in-Ok.n so_far.sent took.sent;
+      flushed = took.flushed ∙ so_far.flushed;
       failures = took.served (omega (arith, c.in-Ok.n-test)) ∙ so_far.failures;
     }

@@ -5,6 +5,7 @@ abbrev pub invariant-loop-taken : goal.invariant-loop-taken
 invariant-loop-taken g l = let S = g.S.Sink in record {
   within : l.taken ≤ length l.bytes;
   sent : (S.state l.sink).sent ≡ (S.state l.fn.sink).sent ++ take l.taken l.bytes;
+  flushed : (S.state l.sink).flushed ≡ (S.state l.fn.sink).flushed;
   failures : (S.state l.sink).failures ≡ (S.state l.fn.sink).failures;
 }
 

@@ -9,5 +9,5 @@ returns-in-Err-write-clause-err g c =
       value = c.in-Ok.len;
       gives = c.in-Ok.ensures.ok;
       fits = λ known. let f = c.in-Ok.ensures.ok.found known in (f.encoding, f.is_read.1);
-      refused = c.in-Err-write.ensures.refused;
+      refused = c.in-Err-write.ensures.refused.0;
     })

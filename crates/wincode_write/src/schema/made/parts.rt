@@ -1,7 +1,7 @@
 //! Of which parts floats, times and addresses are made.
 ghost use Rattle.std.specs.Net.Addr.{ipv4_octets, ipv6_octets};
 ghost use Rattle.std.specs.Prelude.{◌≡◌, ◌^◌, to_bits};
-ghost use Rattle.wincode_base.specs.Made.{AreBits, AreTime, IsSame, clock_parts, duration_parts, ip_parts, socket_parts, socket_v4_parts, socket_v6_parts};
+ghost use Rattle.wincode_base.specs.Made.{AreBits, AreTime, IsSame, clock_parts, duration_parts, ip_parts, socket_parts, socket_v4_parts, socket_v6_written};
 ghost use lib.Ieee.{binary32, binary64};
 
 use crate::schema::made::ToParts;
@@ -118,10 +118,11 @@ impl ToParts<([u8; 4], u16)> for SocketAddrV4 {
     }
 }
 
+/// Its flow label and its scope aren't written.
 impl ToParts<([u8; 16], u16)> for SocketAddrV6 {
-    ghost parts = { socket_v6_parts };
+    ghost parts = { socket_v6_written };
 
-    ghost sound = { λ x. IsSame (socket_v6_parts x) (socket_v6_parts x) };
+    ghost sound = { λ x. IsSame (socket_v6_written x) (socket_v6_written x) };
 
     fn to_parts(&self) -> ([u8; 16], u16) {
         let octets = self.ip().octets();

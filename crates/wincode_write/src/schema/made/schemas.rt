@@ -11,8 +11,11 @@ ghost use Rattle.wincode_base.specs.Made.{
   socket_parts,
   socket_v4_parts,
   socket_v6_parts,
+  socket_v6_written,
+  unscoped_write,
 };
 ghost use Rattle.wincode_base.specs.MadeLaws.{made_write_laws};
+ghost use Rattle.wincode_base.specs.SocketLaws.{unscoped_write_laws};
 ghost use Rattle.wincode_base.specs.Strings.{reference_write};
 ghost use lib.Ieee.{binary32, binary64};
 
@@ -378,9 +381,9 @@ impl SchemaWrite for SocketAddrV6 {
 
     ghost model = { λ x. ⟦<([u8; 16], u16) as SchemaWrite>⟧.model (socket_v6_parts x) };
 
-    ghost is_valid = { λ x. IsSame (socket_v6_parts x) (socket_v6_parts x) × ⟦<([u8; 16], u16) as SchemaWrite>⟧.is_valid (socket_v6_parts x) };
+    ghost is_valid = { λ x. IsSame (socket_v6_written x) (socket_v6_written x) × ⟦<([u8; 16], u16) as SchemaWrite>⟧.is_valid (socket_v6_written x) };
 
-    ghost writing = { reference_write ⟦<([u8; 16], u16) as SchemaWrite>⟧.writing };
+    ghost writing = { unscoped_write (reference_write ⟦<([u8; 16], u16) as SchemaWrite>⟧.writing) };
 
     fn type_meta() -> TypeMeta {
         reference_meta(<([u8; 16], u16) as SchemaWrite>::type_meta())
@@ -411,7 +414,7 @@ impl SchemaWrite for SocketAddrV6 {
         None
     }
 
-    ghost write_laws = { made_write_laws (λ x. IsSame (socket_v6_parts x) (socket_v6_parts x)) socket_v6_parts
+    ghost write_laws = { unscoped_write_laws ⟦<([u8; 16], u16) as SchemaWrite>⟧.model socket_v6_parts socket_v6_written (λ y c. c)
         ⟦<([u8; 16], u16) as SchemaWrite>⟧.write_laws };
 }
 

@@ -12,7 +12,7 @@ returns-in_err-take_zeros g c =
 pub returns-then-not-branch : goal.returns-then-not-branch
 returns-then-not-branch g c =
     let taken = c.in_ok-take_zeros.ensures.ok in
-    record { ok = tt; refused = other_refuses 4611686018427387904 _ _ taken.0 taken.1 (taken.2.1 c.if-not-branch.true) _; place = tt; same = refl }
+    record { ok = tt; refused = (other_refuses 4611686018427387904 _ _ taken.0 taken.1 (taken.2.1 c.if-not-branch.true) _, tt); same = refl }
 
 pub returns : goal.returns
 returns g c =
@@ -21,6 +21,5 @@ returns g c =
       ok = puts (block_read 4611686018427387904).reads (λ x. x) _ _ tt
           (takes_gives (block_read 4611686018427387904).reads 4611686018427387904 _ _ taken.0 tt taken.1 (taken.1.size, taken.2.0 c.if-not-branch.false));
       refused = tt;
-      place = tt;
       same = tt;
     }

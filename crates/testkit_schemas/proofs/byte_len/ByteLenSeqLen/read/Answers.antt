@@ -18,5 +18,4 @@ returns g c =
     record {
       ok = takes_gives (IsLength byte_scheme c.args._prealloc) 1 _ _ _ _ t (byte_length c.args._prealloc _ _ small (one_byte _ t.size));
       refused = tt;
-      place = tt;
     }

@@ -25,5 +25,4 @@ returns g c =
       ok = encoding_wrote (length_write byte_scheme) n (n ∷ []) is (sym (ap encoding_len is)) _ _ (n ∷ [], is) c.in_ok-write.ensures.ok;
       value = tt;
       refused = tt;
-      place = tt;
     }

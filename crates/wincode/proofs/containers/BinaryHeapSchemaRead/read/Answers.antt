@@ -12,7 +12,7 @@ returns-in_err-get_list g c =
     let T = g.T.SchemaRead in
     let o = c.in_err-get_list.ensures in
     read_refused _ _ _ _ _ _ c.from_residual.ensures refl (gathered_refused T.model (Made IsPermutation (heap_sees T.model)) g.Len.SeqLen.scheme
-    (item_size T.reading.meta) T.reading 1 _ _ _ (o.refused, o.place))
+    (item_size T.reading.meta) T.reading 1 _ _ _ o.refused)
 
 pub returns : goal.returns
 returns g c =
@@ -22,6 +22,5 @@ returns g c =
       ok = gathered_gives T.model (Made IsPermutation (heap_sees T.model)) g.Len.SeqLen.scheme (item_size T.reading.meta) T.reading _ _ h.0 _ h.1
           (heap_items c.in_ok-get_list.field-0, h.2, refl);
       refused = tt;
-      place = tt;
       same = tt;
     }

@@ -14,7 +14,7 @@ pub returns-in-Some : goal.returns-in-Some
 returns-in-Some g c =
     let product = c.in-Some.ensures in
     let within : c.in_ok-len.len * c.args.prealloc ≤ g.row.MAX_SIZE = omega (arith, product.1) in
-    record { ok = length_given g.row.MAX_SIZE c.args.prealloc _ _ _ c.in_ok-len.ensures.ok within; refused = tt; place = tt }
+    record { ok = length_given g.row.MAX_SIZE c.args.prealloc _ _ _ c.in_ok-len.ensures.ok within; refused = tt }
 
 pub returns-in-Some-2 : goal.returns-in-Some-2
 returns-in-Some-2 g c =
@@ -25,9 +25,7 @@ returns-in-Some-2 g c =
     let needed : c.in-Some.needed ≡ min (c.in_ok-len.len * c.args.prealloc) byte_limit = omega (arith, first.0, first.1) in
     rw c.preallocation_size_limit.ensures (record {
       ok = tt;
-      refused = length_not_accepted g.row.MAX_SIZE c.args.prealloc _ _ _ taken over _ _;
-      place =
-          (_, (taken, over, needed, refl));
+      refused = (length_not_accepted g.row.MAX_SIZE c.args.prealloc _ _ _ taken over _ _, (_, (taken, over, needed, refl)));
     })
 
 pub returns-in-None : goal.returns-in-None
@@ -39,7 +37,5 @@ returns-in-None g c =
     let needed : byte_limit ≡ min (c.in_ok-len.len * c.args.prealloc) byte_limit = omega (arith, product) in
     rw c.preallocation_size_limit-in-None.ensures (record {
       ok = tt;
-      refused = length_not_accepted g.row.MAX_SIZE c.args.prealloc _ _ _ taken over _ _;
-      place =
-          (_, (taken, over, needed, refl));
+      refused = (length_not_accepted g.row.MAX_SIZE c.args.prealloc _ _ _ taken over _ _, (_, (taken, over, needed, refl)));
     })

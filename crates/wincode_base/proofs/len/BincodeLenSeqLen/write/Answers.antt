@@ -16,4 +16,4 @@ returns-in_err-write g c =
 pub returns : goal.returns
 returns g c =
     let fits : c.args.len < 2 ^ 64 = omega (arith, c.ranges.len.fits) in
-    record { ok = length_wrote g.row.MAX_SIZE c.args.len fits c.to_le_bytes.ensures c.in_ok-write.ensures.ok; value = tt; refused = tt; place = tt }
+    record { ok = length_wrote g.row.MAX_SIZE c.args.len fits c.to_le_bytes.ensures c.in_ok-write.ensures.ok; value = tt; refused = tt }

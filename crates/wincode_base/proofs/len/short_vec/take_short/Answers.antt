@@ -9,9 +9,8 @@ pub returns-in-Some : goal.returns-in-Some
 returns-in-Some g c =
     let fills = rw c.in_ok-bytes.was at c.fill_buf.follows.holds-at-none in
     record {
-      ok = short_given fills.0 c.in_ok-bytes.ensures.shown _ _ c.in-Some.ensures (rw c.short_size.ensures at c.consume_unchecked.ensures);
+      ok = short_given (fills.0, fills.1.1) c.in_ok-bytes.ensures.shown _ _ c.in-Some.ensures (rw c.short_size.ensures at c.consume_unchecked.ensures);
       refused = tt;
-      place = tt;
     }
 
 pub returns-in-None : goal.returns-in-None
@@ -19,19 +18,17 @@ returns-in-None g c =
     let fills = rw c.in_ok-bytes.was at c.fill_buf.follows.holds-at-none in
     rw c.read_length_encoding_overflow.ensures (record {
       ok = tt;
-      refused = short_overflow fills.0 c.in_ok-bytes.ensures.shown _ c.in-None.ensures;
-      place =
-          (fills.0, refl);
+      refused = (short_overflow (fills.0, fills.1.1) c.in_ok-bytes.ensures.shown _ c.in-None.ensures, ((fills.0, fills.1.1), refl));
     })
 
 pub returns-in_err-bytes : goal.returns-in_err-bytes
 returns-in_err-bytes g c =
     let fills = rw c.in_err-bytes.was at c.fill_buf.follows.holds-at-none in
-    get_refused short_read (λ n. n) _ _ c.from_residual.ensures (short_denied _ _ _ (fills.0, fills.2))
+    get_refused short_read (λ n. n) _ _ c.from_residual.ensures (short_denied _ _ _ (fills.0, fills.2.0, fills.2.1))
 
 pub consume_unchecked-requires : goal.consume_unchecked-requires
 consume_unchecked-requires g c =
     let fills = rw c.in_ok-bytes.was at c.fill_buf.follows.holds-at-none in
     let begins = c.in-Some.ensures.1 in
     let whole = ap length begins.1 in
-    omega (arith, fills.1, whole, c.short_size.ensures, length-append (short_encoding c.in-Some.value) begins.0)
+    omega (arith, fills.1.0, whole, c.short_size.ensures, length-append (short_encoding c.in-Some.value) begins.0)

@@ -8,7 +8,7 @@ returns-in_err-first g c =
     let B = g.B.CasesRead in
     let o = c.in_err-first.ensures in
     get_refused _ _ _ _ c.from_residual.ensures (below_refused g.row.BOUND A.tag A.own B.tag B.own A.part B.part A.refused B.refused c.args.given _ _ _
-    c.if-given.true (o.refused, o.place))
+    c.if-given.true o.refused)
 
 pub returns-in_err-other : goal.returns-in_err-other
 returns-in_err-other g c =
@@ -16,4 +16,4 @@ returns-in_err-other g c =
     let B = g.B.CasesRead in
     let o = c.in_err-other.ensures in
     get_refused _ _ _ _ c.from_residual-in_err-other.ensures (above_refused g.row.BOUND A.tag A.own B.tag B.own A.part B.part A.refused B.refused c.args.given
-    _ _ _ c.if-given.false (o.refused, o.place))
+    _ _ _ c.if-given.false o.refused)

@@ -8,7 +8,7 @@ returns-in_err-first g c =
     let C = g.Rest.CasesRead in
     let o = c.in_err-first.ensures in
     get_refused _ _ _ _ c.from_residual.ensures (first_refused g.row.TAG C.tag C.own A.reading C.part C.refused c.args.given _ _ _ c.if-given.true
-    (o.refused, o.place))
+    o.refused)
 
 pub returns-in_err-other : goal.returns-in_err-other
 returns-in_err-other g c =
@@ -16,4 +16,4 @@ returns-in_err-other g c =
     let C = g.Rest.CasesRead in
     let o = c.in_err-other.ensures in
     get_refused _ _ _ _ c.from_residual-in_err-other.ensures (other_refused g.row.TAG C.tag C.own A.reading C.part C.refused c.args.given _ _ _
-    c.if-given.false (o.refused, o.place))
+    c.if-given.false o.refused)

@@ -10,9 +10,9 @@ returns-in_err-write_tag g c =
     let laws = g.met.W.Writer.writer_laws in
     let v = C.model c.args.src.now in
     let t = c.in_ok-tag.ensures.ok in
-    let u = rw t.1 at c.in_err-write_tag.ensures.refused in
-    let h = rw t.1 at c.in_err-write_tag.ensures.place in
-    write_refused _ _ _ _ _ c.from_residual-in_err-write_tag.ensures (enum_tag_unwritten laws k C.tag C.own C.part_laws v u)
+    let u = rw t.1 at c.in_err-write_tag.ensures.refused.0 in
+    let h = rw t.1 at c.in_err-write_tag.ensures.refused.1 in
+    write_refused _ _ _ _ _ c.from_residual-in_err-write_tag.ensures (enum_tag_unwritten laws k C.tag C.own C.part_laws v t.0 u)
     (enum_tag_halted laws k C.tag C.own C.part_laws v h)
 
 pub returns : goal.returns
@@ -24,4 +24,4 @@ returns g c =
     let t = c.in_ok-tag.ensures.ok in
     let o = rw t.1 at c.in_ok-write_tag.ensures.ok in
     write_map C.part v _ (enum_write k C.tag C.own C.part) v _ _ (λ r. enum_wrote laws k C.tag C.own C.part_laws v t.0 o r) (λ p. (t.0, p))
-    (λ e u. enum_part_unwritten laws k C.tag C.own C.part_laws v o u) (λ e h. enum_part_halted laws k C.tag C.own C.part_laws v o h) c.write_part.ensures
+    (λ e u. enum_part_unwritten laws k C.tag C.own C.part_laws v t.0 o u) (λ e h. enum_part_halted laws k C.tag C.own C.part_laws v o h) c.write_part.ensures

@@ -1,6 +1,7 @@
 use Rattle.std.proofs.Common.{◌≡◌, take, length, ◌++◌, ap, ◌∙◌, arith, get_or}
 use Rattle.std.specs.List.{flat_map}
 use Rattle.std.proofs.lemmas.List.Elements.{All-more}
+use Rattle.wincode_io.specs.WriterLaws.{same_trans, writer_sound_trans}
 use Rattle.wincode_io.proofs.FormSteps.{place_fits, form_more, joined_more}
 use Rattle.wincode_io.proofs.bulk.writing.write_each.Goals as goal
 
@@ -22,10 +23,8 @@ loop-value-preserved g c =
     let P : g.row.T.Denot → Type 0 = g.T.ZeroCopy.is_valid in
     record {
       took = record {
-        same = record {
-          kept = wrote.took.same.kept ∙ so_far.took.same.kept;
-          never_fails = wrote.took.same.never_fails ∙ so_far.took.same.never_fails;
-        };
+        same = same_trans so_far.took.same wrote.took.same;
+        sound = writer_sound_trans so_far.took.sound wrote.took.sound;
         content = wrote.took.content ∙ ap (λ t. W.put t (form v)) so_far.took.content
             ∙ g.met.W.Writer.writer_laws.join old front (form v)
             (omega (arith, size, so_far.long, c.requires, g.met.W.Writer.ready_room c.args.writer.now, fits))

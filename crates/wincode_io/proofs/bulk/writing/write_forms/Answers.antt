@@ -1,6 +1,7 @@
 use Rattle.std.proofs.Common.{◌∙◌, ap, arith}
 use Rattle.std.specs.List.{flat_map}
 use Rattle.wincode_io.specs.JoinedForms.{length-joined}
+use Rattle.wincode_io.specs.WriterLaws.{same_trans, writer_sound_trans}
 use Rattle.wincode_io.proofs.bulk.writing.write_forms.Goals as goal
 
 pub returns-clause-ok : goal.returns-clause-ok
@@ -13,7 +14,8 @@ returns-clause-ok g c =
     record {
       fits = omega (arith, long, made.fits, c.in-Some.ensures);
       took = record {
-        same = record { kept = took.same.kept ∙ made.unmoved.same.kept; never_fails = took.same.never_fails ∙ made.unmoved.same.never_fails };
+        same = same_trans made.unmoved.same took.same;
+        sound = writer_sound_trans made.sound took.sound;
         content = took.content ∙ ap (λ c. g.W.Writer.put c (flat_map T.form vs)) made.unmoved.content;
       };
     }

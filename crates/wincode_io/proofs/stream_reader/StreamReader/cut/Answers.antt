@@ -15,4 +15,6 @@ returns-clause-ok g c =
     let position : length c.note.new.self.bytes ≡ r.position + n =
     let was = ap (λ v. v.position) is in omega (arith, gone, length-append c.self.inside.gone.bytes w, size, was) in
     let source = ap (λ v. v.source) is in
-    let t = took n r.position r.at_hand c.window.new.self w (g.S.Source.state r.source) c.requires front after in search (rules, t, position, source)
+    let failed = ap (λ v. v.has_failed) is in
+    let t = took n r.position r.at_hand c.window.new.self w r.has_failed (g.S.Source.state r.source) c.requires front after in
+    search (rules, t, position, source, failed)

@@ -1,5 +1,5 @@
 use Rattle.std.proofs.Common.{◌≡◌, ◌+◌, ◌-◌, ◌≤◌, length, IsTrue}
-use Rattle.wincode_io.specs.Readers.{Stays}
+use Rattle.wincode_io.specs.Readers.{Stays, IsSound}
 use Rattle.wincode_io.specs.Streams.{stream_state}
 use Rattle.wincode_io.proofs.stream_reader.StreamReader.fetch.Given as goal
 
@@ -7,6 +7,7 @@ use Rattle.wincode_io.proofs.stream_reader.StreamReader.fetch.Given as goal
 abbrev pub invariant-loop-self : goal.invariant-loop-self
 invariant-loop-self g l = record {
   stays : Stays (stream_state g.S.Source.state l.initial.self) (stream_state g.S.Source.state l.self);
+  device : IsSound (stream_state g.S.Source.state l.initial.self) (stream_state g.S.Source.state l.self);
   step : l.n + 8192 ≤ length l.self.at_hand → length l.self.at_hand ≤ length l.initial.self.at_hand;
   served : l.n ≤ length l.initial.self.at_hand → l.self ≡ l.initial.self;
   ended : IsTrue l.initial.self.has_ended → l.self ≡ l.initial.self;

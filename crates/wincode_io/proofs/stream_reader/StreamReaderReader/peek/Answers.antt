@@ -10,4 +10,4 @@ pub returns : goal.returns
 returns g c =
     let shown = c.in_ok-bytes.ensures.shown in
     let h = rw c.in_ok-bytes.was at c.fill_exact.follows.holds-at-none in
-    ((refl, λ _. tt, ((h.0.0, omega arith, tt), h.1, tt)), record { shown = λ told. first_shown _ _ (shown.1.1 told) shown.0; fills = tt })
+    ((refl, λ _. tt, ((h.0.0, (omega arith, h.0.1.1), tt), h.1, tt)), record { shown = λ told. first_shown _ _ (shown.1.1 told) shown.0; fills = tt })

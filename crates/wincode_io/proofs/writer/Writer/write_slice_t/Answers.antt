@@ -2,6 +2,7 @@ use Rattle.std.proofs.Common.{◌≡◌, take, length, ◌++◌, sym, ap, ◌∙
 use Rattle.std.specs.List.{flat_map}
 use Rattle.std.proofs.lemmas.List.{take_all}
 use Rattle.std.proofs.lemmas.List.Elements.{All-more}
+use Rattle.wincode_io.specs.WriterLaws.{same_trans, writer_sound_trans}
 use Rattle.wincode_io.proofs.FormSteps.{place_fits, form_more, joined_more}
 use Rattle.wincode_io.proofs.writer.Writer.write_slice_t.Goals as goal
 
@@ -12,6 +13,7 @@ loop-value-init g c =
     record {
       took = record {
         same = made.unmoved.same;
+        sound = made.sound;
         content = made.unmoved.content ∙ sym (g.met.Self.Writer.writer_laws.nil (W.state c.args.self.now).content);
       };
       long = omega arith;
@@ -43,10 +45,8 @@ loop-value-preserved g c =
     let P : g.row.T.Denot → Type 0 = g.T.ZeroCopy.is_valid in
     record {
       took = record {
-        same = record {
-          kept = wrote.took.same.kept ∙ so_far.took.same.kept;
-          never_fails = wrote.took.same.never_fails ∙ so_far.took.same.never_fails;
-        };
+        same = same_trans so_far.took.same wrote.took.same;
+        sound = writer_sound_trans so_far.took.sound wrote.took.sound;
         content = wrote.took.content ∙ ap (λ t. W.put t (form v)) so_far.took.content
             ∙ g.met.Self.Writer.writer_laws.join old front (form v) (omega (arith, size, so_far.long, so_far.room, fits))
             ∙ ap (λ x. W.put old (front ++ form x)) at

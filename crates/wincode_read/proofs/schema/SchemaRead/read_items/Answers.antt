@@ -13,7 +13,6 @@ returns-then-is_err g c =
     let stays : g.R.Reader.state c.read_at_once.new.reader ≡ g.R.Reader.state c.args.reader.now = search rules in
     rw stays (record {
       ok = tt;
-      refused = no_memory _ _ _ _ _ _ (items_none T.reading.reads _);
-      place = λ dynamic. item_wanted c.args.n T.reading 0 _ _ [] (omega arith) (items_none T.reading.reads _);
+      refused = (no_memory _ _ _ _ _ _ (items_none T.reading.reads _), λ dynamic. item_wanted c.args.n T.reading 0 _ _ [] (omega arith) (items_none T.reading.reads _));
       same = c.reserve.ensures.items ∙ still;
     })

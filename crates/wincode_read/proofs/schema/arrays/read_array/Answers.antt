@@ -26,12 +26,7 @@ returns g c =
           let name = ap (λ s. s.reader.ghost_name) back ∙ got.0 ∙ ap (λ s. s.reader.ghost_name) given in
           let refuses = subst₂ (λ s t. ReadRefused (AreItems g.row.N T.reading.reads) T.reading.borrow T.reading.takes_no_memory (state s.reader.now)
           (state t.reader.now) e) given (sym back) got.1 in
-          search rules) c.fill-result.ensures.err;
-      place = IfErr-weaker c.fill-result.result _ _ (λ e told.
-          let got = read_failed T.reading T.model (λ s. state s.reader.now) (λ s. s.reader.ghost_name)
-          g.met.T.SchemaRead.read_laws.one_front c.new-sourced.result.source g.row.N e c.fill-result.new.self.source told in
-          let name = ap (λ s. s.reader.ghost_name) back ∙ got.0 ∙ ap (λ s. s.reader.ghost_name) given in
           let stopped = subst₂ (λ s t. ItemReadRefused g.row.N T.reading (state s.reader.now) (state t.reader.now) e) given (sym back) got.2 in
-          search rules) c.fill-result.ensures.err;
+          (search rules, search rules)) c.fill-result.ensures.err;
       same = search rules;
     }

@@ -21,8 +21,8 @@ returns-in_err-item-clause-err g c =
     let o = c.in_err-item.ensures in
     let h : SchemaReadRefused (items_read c.args.n T.reading) (g.R.Reader.state c.args.reader.now) (g.R.Reader.state c.get.new.reader) _ = (
       items_refused T.reading.reads g.met.T.SchemaRead.read_laws.one_front c.loop-i._i c.args.n T.reading.borrow T.reading.takes_no_memory c.loop-i-test.true _
-          _ _ _ _ c.loop-i.invariant.gives o.refused,
-      λ dynamic. item_stopped c.args.n T.reading c.loop-i._i _ _ _ _ _ c.loop-i-test.true c.loop-i.invariant.gives (o.refused, o.place),
+          _ _ _ _ c.loop-i.invariant.gives o.refused.0,
+      λ dynamic. item_stopped c.args.n T.reading c.loop-i._i _ _ _ _ _ c.loop-i-test.true c.loop-i.invariant.gives o.refused,
     ) in
     if_passed _ _ _ c.from_residual.ensures h
 

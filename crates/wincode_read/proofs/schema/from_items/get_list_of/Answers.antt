@@ -8,7 +8,7 @@ pub returns-in_err-n : goal.returns-in_err-n
 returns-in_err-n g c = let T = g.T.SchemaRead.reading in let S = g.T.SchemaRead.model in
     let o = rw c.prealloc_size.ensures at c.in_err-n.ensures in
     make_refused (list_read_of g.Len.SeqLen.scheme 1 c.args.size T) S _ _ _ c.from_residual.ensures
-    (list_first g.Len.SeqLen.scheme T _ _ _ o.refused, inl (o.refused, o.place))
+    (list_first g.Len.SeqLen.scheme T _ _ _ o.refused.0, inl o.refused)
 
 pub returns : goal.returns
 returns g c = let T = g.T.SchemaRead.reading in let S = g.T.SchemaRead.model in

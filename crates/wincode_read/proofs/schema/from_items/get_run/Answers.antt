@@ -20,7 +20,7 @@ returns-in_err-window-in-Some g c = let T = g.T.SchemaRead.reading in let S = g.
     let e = reading.Io c.in_err-window-in-Some.field-0.0 in
     let d = c.in_err-window-in-Some.ensures.err in
     let h = window_denied_refuses (AreItems c.args.n T.reads) c.in-Some.total sized T.borrow false _ _ e d in
-    let p = run_placed T c.args.n c.args.size c.in-Some.total is _ _ e (inl d) in
+    let p = run_placed T c.args.n c.args.size c.in-Some.total c.requires.size is _ _ e (inl d) in
     make_refused (run_read c.args.n c.args.size T) S _ _ _ c.from_residual.ensures (h, p)
 
 pub returns-in_ok-window-in-Some : goal.returns-in_ok-window-in-Some
@@ -32,7 +32,7 @@ returns-in_ok-window-in-Some g c = let T = g.T.SchemaRead.reading in let S = g.T
     (λ vs x. run_gives T c.args.n c.in-Some.total sized _ _ _ _ vs w x)
     (λ e p. (
       window_refuses (AreItems c.args.n T.reads) c.in-Some.total sized T.borrow false _ _ _ _ e w p.0,
-      run_placed T c.args.n c.args.size c.in-Some.total is _ _ e (inr (_, _, w, p.1)),
+      run_placed T c.args.n c.args.size c.in-Some.total c.requires.size is _ _ e (inr (_, _, w, p.1)),
     )) c.from_items-in-Some.ensures
 
 pub returns-in-None : goal.returns-in-None
@@ -41,6 +41,5 @@ returns-in-None g c = let T = g.T.SchemaRead.reading in let S = g.T.SchemaRead.m
     let known = known_size c.args.size c.in_default.not-Unknown in
     record {
       ok = tt;
-      refused = too_long T c.args.n c.args.size known c.requires.size is T.borrow _ _ _ c.read_length_encoding_overflow.ensures;
-      place = run_long T c.args.n c.args.size known is _ _ _ refl c.read_length_encoding_overflow.ensures;
+      refused = (too_long T c.args.n c.args.size known c.requires.size is T.borrow _ _ _ c.read_length_encoding_overflow.ensures, run_long T c.args.n c.args.size known is _ _ _ refl c.read_length_encoding_overflow.ensures);
     }

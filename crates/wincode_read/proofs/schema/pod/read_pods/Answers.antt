@@ -1,12 +1,13 @@
 use Rattle.std.proofs.Common.{rules, ◌*◌, ◌<◌, ◌≤◌, true, [], refl, arith, inl, inr}
 use Rattle.std.proofs.Math.Nat.{mul-le-mul_right}
+use Rattle.wincode_io.specs.PlaceLaws.{sound_refl}
 use Rattle.wincode_io.specs.Readers.{Stays}
 use Rattle.wincode_io.specs.Writers.{byte_limit}
 use Rattle.wincode_base.specs.ListLaws.{items_none}
 use Rattle.wincode_base.specs.Views.{pod_read}
 use Rattle.wincode_base.proofs.FormRuns.{forms_none, forms_vast, form_vast}
 use Rattle.wincode_base.proofs.ReadAnswers.{add_at_once}
-use Rattle.wincode_base.proofs.Views.{form_is_sized}
+use Rattle.wincode_base.proofs.Views.{form_is_static}
 use Rattle.wincode_read.proofs.schema.pod.read_pods.Goals as goal
 
 pub returns-in-Some : goal.returns-in-Some
@@ -15,8 +16,8 @@ returns-in-Some g c =
     let within : T.size ≤ byte_limit = search rules in
     let o = c.read_all.ensures in
     record {
-      each = add_at_once c.args.n (pod_read T.is_valid T.size T.form) (λ v. v) _ _ c.read_all.result (form_is_sized T.size true within)
-          o.ok o.err o.same;
+      each = add_at_once c.args.n (pod_read T.is_valid T.size T.form) (λ v. v) _ _ c.read_all.result T.size true (form_is_static T.size true within)
+          o.ok o.err o.at_once o.same;
       at_once = o.at_once;
     }
 
@@ -25,8 +26,6 @@ returns-in-None g c = record {
   each = record {
     ok = forms_none g.T.ZeroCopy.byte_form c.args.n _ c.args.into.now.items (search rules);
     refused = tt;
-    place =
-        tt;
     same = tt;
   };
   at_once = tt;
@@ -51,15 +50,17 @@ returns-in-None-2 g c =
     rw c.read_length_encoding_overflow.ensures (record {
       each = record {
         ok = tt;
-        refused = forms_vast g.T.ZeroCopy.byte_form c.args.n _ _ (omega (arith, most, vast));
-        place = λ dynamic. record {
-          count = 0;
-          items = [];
-          mid = old;
-          gives = items_none reads old;
-          stop = inl (some, (form_vast g.T.ZeroCopy.byte_form 0 true old _ vast, inr (stays, omega (arith, vast), refl)));
-        };
+        refused = (
+          forms_vast g.T.ZeroCopy.byte_form c.args.n _ _ (omega (arith, most, vast)),
+          λ there. record {
+            count = 0;
+            items = [];
+            mid = old;
+            gives = items_none reads old;
+            stop = inl (some, (form_vast g.T.ZeroCopy.byte_form 0 true old _ vast, inr ((stays, sound_refl old), omega (arith, vast), refl)));
+          },
+        );
         same = refl;
       };
-      at_once = (stays, omega (arith, most, vast), refl);
+      at_once = ((stays, sound_refl old), omega (arith, most, vast), refl);
     })

@@ -14,13 +14,12 @@ returns-in_err-bytes g c =
 pub returns-in-Ok : goal.returns-in-Ok
 returns-in-Ok g c =
     let text = c.in-Ok.ensures in
-    record { ok = body_gives _ _ _ _ _ c.in_ok-bytes.ensures.ok.takes text.0 (subst IsUtf8 (sym text.0) text.1); refused = tt; place = tt }
+    record { ok = body_gives _ _ _ _ _ c.in_ok-bytes.ensures.ok.takes text.0 (subst IsUtf8 (sym text.0) text.1); refused = tt }
 
 pub returns-in-Err : goal.returns-in-Err
 returns-in-Err g c =
     let takes = c.in_ok-bytes.ensures.ok.takes in
     rw c.invalid_utf8_encoding.ensures (record {
       ok = tt;
-      refused = body_refuses ⊥ ⊥ c.args.n 1 true _ _ (reading.InvalidUtf8Encoding _) (λ x. absurd x) (λ x. absurd x) (_, takes, c.in-Err.ensures);
-      place = (_, takes, c.in-Err.ensures);
+      refused = (body_refuses ⊥ ⊥ c.args.n 1 true _ _ (reading.InvalidUtf8Encoding _) (λ x. absurd x) (λ x. absurd x) (_, takes, c.in-Err.ensures), (_, takes, c.in-Err.ensures));
     })

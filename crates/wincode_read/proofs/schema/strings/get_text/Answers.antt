@@ -7,8 +7,8 @@ use Rattle.wincode_read.proofs.schema.strings.get_text.Goals as goal
 pub returns-in_err-n : goal.returns-in_err-n
 returns-in_err-n g c =
     let o = c.in_err-n.ensures in
-    let h = text_first 24 0 false _ _ _ o.refused in
-    let p = o.place in get_refused (str_read 24 0 false) _ _ _ c.from_residual.ensures (h, inl p)
+    let h = text_first 24 0 false _ _ _ o.refused.0 in
+    let p = o.refused.1 in get_refused (str_read 24 0 false) _ _ _ c.from_residual.ensures (h, inl p)
 
 pub returns : goal.returns
 returns g c =

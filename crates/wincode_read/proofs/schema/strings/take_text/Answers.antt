@@ -25,7 +25,6 @@ returns-in-Ok g c =
       ok = body_gives _ _ _ _ _ (arrays_takes _ _ _ _ _ c.in_ok-bytes.ensures.ok c.consume_unchecked.ensures) (ap (λ v. v.items) vec)
           (IsUtf8-string_bytes c.in-Ok.text);
       refused = tt;
-      place = tt;
     }
 
 pub returns-in-Err : goal.returns-in-Err
@@ -36,7 +35,9 @@ returns-in-Err g c =
     let fault = subst P (sym text.valid_len) text.fault in
     rw c.invalid_utf8_encoding.ensures (rw c.utf8_error.ensures (record {
       ok = tt;
-      refused = body_refuses ⊥ (Unit {0}) c.args.n 0 false _ _ (reading.InvalidUtf8Encoding _) (λ x. absurd x) (λ x. refl)
-          (_, takes, (λ u. absurd (cc (text.succeeds u)), text.valid_len, fault));
-      place = (_, takes, (λ u. absurd (cc (text.succeeds u)), text.valid_len, fault));
+      refused = (
+        body_refuses ⊥ (Unit {0}) c.args.n 0 false _ _ (reading.InvalidUtf8Encoding _) (λ x. absurd x) (λ x. refl)
+            (_, takes, (λ u. absurd (cc (text.succeeds u)), text.valid_len, fault)),
+        (_, takes, (λ u. absurd (cc (text.succeeds u)), text.valid_len, fault)),
+      );
     }))

@@ -14,8 +14,8 @@ returns-in_err-side g c =
     let o = c.in_err-side.ensures in
     let T = g.T.SchemaRead.reading in
     let E = g.E.SchemaRead.reading in
-    let u = tag_refused k result_tag (result_small k (some_bytes g.met.Tag.TagCode.tag_law)) (sides_read T E) _ _ _ o.refused in
-    get_refused (result_read k T E) _ _ _ c.from_residual.ensures (u, inl (tag_denied k (λ t. 2 ≤ t) _ _ _ o.place))
+    let u = tag_refused k result_tag (result_small k (some_bytes g.met.Tag.TagCode.tag_law)) (sides_read T E) _ _ _ o.refused.0 in
+    get_refused (result_read k T E) _ _ _ c.from_residual.ensures (u, inl (tag_denied k (λ t. 2 ≤ t) _ _ _ o.refused.1))
 
 pub returns-in_err-value-in-0 : goal.returns-in_err-value-in-0
 returns-in_err-value-in-0 g c =
@@ -24,8 +24,8 @@ returns-in_err-value-in-0 g c =
     let is : c.in_ok-side.side ≡ 0 = omega arith in
     let t = subst (Gives (number_read k true).reads (g.R.Reader.state c.args.reader.now) (g.R.Reader.state c.read_tag.new.reader)) is c.in_ok-side.ensures.ok in
     get_refused _ _ _ _ c.from_residual-in_err-value-in-0.ensures (
-      ok_refused k (some_bytes g.met.Tag.TagCode.tag_law) g.T.SchemaRead.reading g.E.SchemaRead.reading _ _ _ _ _ refl t o.refused,
-      inr (inl (_, t, (o.refused, o.place))),
+      ok_refused k (some_bytes g.met.Tag.TagCode.tag_law) g.T.SchemaRead.reading g.E.SchemaRead.reading _ _ _ _ _ refl t o.refused.0,
+      inr (inl (_, t, o.refused)),
     )
 
 pub returns-in_ok-value-in-0 : goal.returns-in_ok-value-in-0
@@ -33,7 +33,6 @@ returns-in_ok-value-in-0 g c = record {
   ok = ok_gives g.Tag.TagCode.size (some_bytes g.met.Tag.TagCode.tag_law)
       g.T.SchemaRead.reading g.E.SchemaRead.reading _ _ _ _ c.in_ok-side.side (omega arith) c.in_ok-side.ensures.ok c.in_ok-value-in-0.ensures.ok;
   refused = tt;
-  place = tt;
 }
 
 pub returns-in_err-error-in-1 : goal.returns-in_err-error-in-1
@@ -43,8 +42,8 @@ returns-in_err-error-in-1 g c =
     let is : c.in_ok-side.side ≡ 1 = omega arith in
     let t = subst (Gives (number_read k true).reads (g.R.Reader.state c.args.reader.now) (g.R.Reader.state c.read_tag.new.reader)) is c.in_ok-side.ensures.ok in
     get_refused _ _ _ _ c.from_residual-in_err-error-in-1.ensures (
-      err_refused k (some_bytes g.met.Tag.TagCode.tag_law) g.T.SchemaRead.reading g.E.SchemaRead.reading _ _ _ _ _ refl t o.refused,
-      inr (inr (_, t, (o.refused, o.place))),
+      err_refused k (some_bytes g.met.Tag.TagCode.tag_law) g.T.SchemaRead.reading g.E.SchemaRead.reading _ _ _ _ _ refl t o.refused.0,
+      inr (inr (_, t, o.refused)),
     )
 
 pub returns-in_ok-error-in-1 : goal.returns-in_ok-error-in-1
@@ -52,7 +51,6 @@ returns-in_ok-error-in-1 g c = record {
   ok = err_gives g.Tag.TagCode.size (some_bytes g.met.Tag.TagCode.tag_law)
       g.T.SchemaRead.reading g.E.SchemaRead.reading _ _ _ _ c.in_ok-side.side (omega arith) c.in_ok-side.ensures.ok c.in_ok-error-in-1.ensures.ok;
   refused = tt;
-  place = tt;
 }
 
 pub returns-in_default : goal.returns-in_default
@@ -61,8 +59,5 @@ returns-in_default g c =
     let two : 2 ≤ c.in_ok-side.side = omega arith in
     rw c.invalid_tag_encoding.ensures (record {
       ok = tt;
-      refused =
-          result_bad g.Tag.TagCode.size (some_bytes g.met.Tag.TagCode.tag_law) g.T.SchemaRead.reading g.E.SchemaRead.reading _ _ _ _ two t;
-      place =
-          inl (two, t);
+      refused = (result_bad g.Tag.TagCode.size (some_bytes g.met.Tag.TagCode.tag_law) g.T.SchemaRead.reading g.E.SchemaRead.reading _ _ _ _ two t, inl (two, t));
     })

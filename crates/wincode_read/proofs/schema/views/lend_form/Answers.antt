@@ -13,7 +13,7 @@ pub returns-in_default : goal.returns-in_default
 returns-in_default g c =
     let borrow = g.B.Borrowed.borrow in
     let d = vast_denied borrow g.T.ZeroCopy.size _ c.in_default.ensures in
-    rw c.into.ensures (record { ok = tt; refused = form_refuses g.T.ZeroCopy.byte_form borrow _ _ (reading.Io _) d; place = d })
+    rw c.into.ensures (record { ok = tt; refused = (form_refuses g.T.ZeroCopy.byte_form borrow _ _ (reading.Io _) d, d) })
 
 pub returns-in_err-bytes : goal.returns-in_err-bytes
 returns-in_err-bytes g c =
@@ -31,7 +31,5 @@ returns g c =
     let same = ap (λ b. T.value (g.B.Lent.Held.holds b)) (sym c.over.ensures) in
     record {
       ok = subst (Gives (reads_form T.is_valid T.form) _ _) same (form_gives g.T.ZeroCopy.byte_form _ _ _ takes c.in_ok-bytes.ensures.bytes);
-      refused =
-          tt;
-      place = tt;
+      refused = tt;
     }

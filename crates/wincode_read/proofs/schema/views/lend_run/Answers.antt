@@ -21,5 +21,4 @@ returns g c =
     record {
       ok = rw (c.over.ensures.forms, c.over.ensures.n) (run_gives g.T.ZeroCopy.byte_form c.args.n _ _ _ few within takes c.in_ok-bytes.ensures.bytes);
       refused = tt;
-      place = tt;
     }

@@ -42,9 +42,9 @@ returns-in_err-write-2 g c =
     let T = g.Self.SchemaWrite in
     let o = c.in_err-write-2.ensures in
     let u = items_stopped c.args.items.now c.loop-item.item-index c.item-item.result c.loop-item-test.true c.item-item.is T.model g.met.W.Writer.writer_laws
-    T.write_laws c.loop-item.invariant.0 o.refused in
+    T.write_laws c.loop-item.invariant.0 o.refused.0 in
     let s = items_place c.args.items.now c.loop-item.item-index c.item-item.result c.loop-item-test.true c.item-item.is T.model g.met.W.Writer.writer_laws
-    T.write_laws c.loop-item.invariant.0 o.place in
+    T.write_laws c.loop-item.invariant.0 o.refused.1 in
     write_refused _ _ _ _ _ c.from_residual-in_err-write-2.ensures u s
 
 pub loop-item-preserved : goal.loop-item-preserved

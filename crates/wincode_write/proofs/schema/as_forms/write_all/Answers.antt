@@ -10,10 +10,10 @@ returns-in_err-write_forms g c =
     let T = g.T.ZeroCopy in
     let laws = g.met.W.Writer.writer_laws in
     let e = c.in_err-write_forms.ensures in
-    let u = forms_unwritten (form_writes T.is_valid T.size T.form) c.args.items.now _ _ laws _ e.err (λ v. (same_error (e.vast v).0, (e.vast v).1)) in
-    let p = forms_halted (form_writes T.is_valid T.size T.form) c.args.items.now _ _ laws _ e.err (λ v. (same_error (e.vast v).0, (e.vast v).1))
+    let u = forms_unwritten (form_writes T.is_valid T.size T.form) c.args.items.now _ _ laws _ e.err (λ v. (same_error (e.vast v).0, (e.vast v).1, (e.vast v).2)) in
+    let p = forms_halted (form_writes T.is_valid T.size T.form) c.args.items.now _ _ laws _ e.err (λ v. (same_error (e.vast v).0, (e.vast v).1, (e.vast v).2))
     (λ a. is_sized) in
-    let b = at_once (length c.args.items.now * T.size) _ _ _ e.err (λ v. (same_error (e.vast v).0, (e.vast v).1)) in
+    let b = at_once (length c.args.items.now * T.size) _ _ _ e.err (λ v. (same_error (e.vast v).0, (e.vast v).1, (e.vast v).2)) in
     at_once_refused T.size (length c.args.items.now) (writes_form T.size T.form) _ _ _ _ c.from_residual.ensures u p b
 
 pub returns : goal.returns
@@ -26,7 +26,6 @@ returns g c =
         value =
             all_each T.is_valid c.args.items.now o.is_valid;
         refused = tt;
-        place = tt;
       };
       at_once = tt;
     }

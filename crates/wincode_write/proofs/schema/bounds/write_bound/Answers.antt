@@ -20,8 +20,8 @@ returns-in_err-write_tag-in-Included g c =
     let T = g.T.SchemaWrite in
     let end = Included (T.model c.in-Included.value) in
     let o = c.in_err-write_tag-in-Included.ensures in
-    rw c.in-Included.is (write_refused _ _ _ _ _ c.from_residual.ensures (bound_tag_unwritten laws T.write_laws end o.refused)
-    (bound_tag_halted laws T.write_laws end o.place))
+    rw c.in-Included.is (write_refused _ _ _ _ _ c.from_residual.ensures (bound_tag_unwritten laws T.write_laws end o.refused.0)
+    (bound_tag_halted laws T.write_laws end o.refused.1))
 
 pub returns-in_ok-write_tag-in-Included : goal.returns-in_ok-write_tag-in-Included
 returns-in_ok-write_tag-in-Included g c =
@@ -39,8 +39,8 @@ returns-in_err-write_tag-in-Excluded g c =
     let T = g.T.SchemaWrite in
     let end = Excluded (T.model c.in-Excluded.value) in
     let o = c.in_err-write_tag-in-Excluded.ensures in
-    rw c.in-Excluded.is (write_refused _ _ _ _ _ c.from_residual-in_err-write_tag-in-Excluded.ensures (bound_tag_unwritten laws T.write_laws end o.refused)
-    (bound_tag_halted laws T.write_laws end o.place))
+    rw c.in-Excluded.is (write_refused _ _ _ _ _ c.from_residual-in_err-write_tag-in-Excluded.ensures (bound_tag_unwritten laws T.write_laws end o.refused.0)
+    (bound_tag_halted laws T.write_laws end o.refused.1))
 
 pub returns-in_ok-write_tag-in-Excluded : goal.returns-in_ok-write_tag-in-Excluded
 returns-in_ok-write_tag-in-Excluded g c =

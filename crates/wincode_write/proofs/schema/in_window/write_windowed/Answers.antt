@@ -23,9 +23,9 @@ returns-in_err-write-in-Static g c = let T = g.T.SchemaWrite.writing in let v = 
     let b = c.write.new.writer in
     let o = c.in_err-write-in-Static.ensures in
     let u = windowed_unwritten T v (window_unwritten T v c.in-Static.size (sized v, small) _ _ (g.W.Writer.state a.writer.now) (g.W.Writer.state b.writer.now)
-    a.writer.ghost_name b.writer.ghost_name a.left b.left _ made same window.left o.refused) in
+    a.writer.ghost_name b.writer.ghost_name a.left b.left _ made same window.left o.refused.0) in
     let p = window_stopped T v c.in-Static.size (sized v, small) _ _ (g.W.Writer.state a.writer.now) (g.W.Writer.state b.writer.now)
-    a.writer.ghost_name b.writer.ghost_name a.left b.left _ made same window.left o.refused {k = windowed_write T} o.place
+    a.writer.ghost_name b.writer.ghost_name a.left b.left _ made same window.left o.refused.0 {k = windowed_write T} o.refused.1
     (λ cannot inside added r. static_inside T v T.meta _ added _ is cannot inside r) in
     write_refused (windowed_write T) v _ _ _ c.from_residual-in_err-write-in-Static.ensures (search (rules, u)) (search (rules, p))
 

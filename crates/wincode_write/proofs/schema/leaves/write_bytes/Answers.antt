@@ -25,8 +25,6 @@ returns g c =
         ok = bytes_wrote c.args.items.now small c.in_ok-write.ensures.ok;
         value = each_small c.args.items.now small;
         refused = tt;
-        place =
-            tt;
       };
       at_once = tt;
     }

@@ -8,8 +8,8 @@ returns-in_err-write g c =
     let small : length c.args.text.now < 2 ^ 64 = search rules in
     let laws = g.met.W.Writer.writer_laws in
     let o = c.in_err-write.ensures in
-    write_refused _ _ _ _ _ c.from_residual.ensures (text_unwritten_first laws 24 c.args.text.now _ small refl o.refused)
-    (text_halted_first laws 24 c.args.text.now _ small o.place)
+    write_refused _ _ _ _ _ c.from_residual.ensures (text_unwritten_first laws 24 c.args.text.now _ small refl o.refused.0)
+    (text_halted_first laws 24 c.args.text.now _ small o.refused.1)
 
 pub returns-in_err-write-2 : goal.returns-in_err-write-2
 returns-in_err-write-2 g c =
@@ -29,5 +29,4 @@ returns g c =
           c.in_ok-write-2.ensures.ok;
       value = tt;
       refused = tt;
-      place = tt;
     }

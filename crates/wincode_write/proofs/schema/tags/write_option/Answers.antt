@@ -12,7 +12,7 @@ returns-in_err-write_tag-in-Some g c =
     let l = g.T.SchemaWrite.write_laws in
     let v = g.T.SchemaWrite.model c.in-Some.part in
     let o = c.in_err-write_tag-in-Some.ensures in
-    rw c.in-Some.is (write_refused _ _ _ _ _ c.from_residual.ensures (some_tag_unwritten laws k l v o.refused) (some_tag_halted laws k l v o.place))
+    rw c.in-Some.is (write_refused _ _ _ _ _ c.from_residual.ensures (some_tag_unwritten laws k l v o.refused.0) (some_tag_halted laws k l v o.refused.1))
 
 pub returns-in_ok-write_tag-in-Some : goal.returns-in_ok-write_tag-in-Some
 returns-in_ok-write_tag-in-Some g c =

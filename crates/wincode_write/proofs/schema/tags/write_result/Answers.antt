@@ -11,8 +11,8 @@ returns-in_err-write_tag-in-Ok g c =
     let m = g.E.SchemaWrite.write_laws in
     let v = Ok (g.T.SchemaWrite.model c.in-Ok.value) in
     let o = c.in_err-write_tag-in-Ok.ensures in
-    rw c.in-Ok.is (write_refused _ _ _ _ _ c.from_residual.ensures (side_tag_unwritten laws k l m v _ refl o.refused)
-    (side_tag_halted laws k l m v _ refl o.place))
+    rw c.in-Ok.is (write_refused _ _ _ _ _ c.from_residual.ensures (side_tag_unwritten laws k l m v _ refl o.refused.0)
+    (side_tag_halted laws k l m v _ refl o.refused.1))
 
 pub returns-in_ok-write_tag-in-Ok : goal.returns-in_ok-write_tag-in-Ok
 returns-in_ok-write_tag-in-Ok g c =
@@ -32,8 +32,8 @@ returns-in_err-write_tag-in-Err g c =
     let m = g.E.SchemaWrite.write_laws in
     let v = Err (g.E.SchemaWrite.model c.in-Err.error) in
     let o = c.in_err-write_tag-in-Err.ensures in
-    rw c.in-Err.is (write_refused _ _ _ _ _ c.from_residual-in_err-write_tag-in-Err.ensures (side_tag_unwritten laws k l m v _ refl o.refused)
-    (side_tag_halted laws k l m v _ refl o.place))
+    rw c.in-Err.is (write_refused _ _ _ _ _ c.from_residual-in_err-write_tag-in-Err.ensures (side_tag_unwritten laws k l m v _ refl o.refused.0)
+    (side_tag_halted laws k l m v _ refl o.refused.1))
 
 pub returns-in_ok-write_tag-in-Err : goal.returns-in_ok-write_tag-in-Err
 returns-in_ok-write_tag-in-Err g c =

@@ -16,7 +16,7 @@ returns-in_err-write_behind-clause-err g c =
     passed_behind (pair_write K.writing V.writing) (sees K.model V.model) _ (c.args.key.now, c.args.value.now) _ _ _ c.from_residual.ensures (λ es encoded each.
     let o = c.in_err-write_behind.ensures es
     (encoded_same (pair_write K.writing V.writing) (sees K.model V.model) es c.args.filled _ _ c.encode_pair.new.dst within encoded) each in
-    (o.refused, o.place))
+    o.refused)
 
 pub returns-then-not-encode_pair-clause-ok : goal.returns-then-not-encode_pair-clause-ok
 returns-then-not-encode_pair-clause-ok g c =

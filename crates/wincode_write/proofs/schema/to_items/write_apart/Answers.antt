@@ -12,9 +12,9 @@ returns-in_err-write g c =
     let T = g.T.SchemaWrite in
     let o = c.in_err-write.ensures in
     let u = items_stopped c.args.items.now c.loop-item.item-index c.item-item.result c.loop-item-test.true c.item-item.is T.model g.met.W.Writer.writer_laws
-    g.T.SchemaWrite.write_laws c.loop-item.invariant.0 o.refused in
+    g.T.SchemaWrite.write_laws c.loop-item.invariant.0 o.refused.0 in
     let s = each_place c.args.items.now c.loop-item.item-index c.item-item.result c.loop-item-test.true c.item-item.is T.model g.met.W.Writer.writer_laws
-    g.T.SchemaWrite.write_laws c.loop-item.invariant.0 o.place in
+    g.T.SchemaWrite.write_laws c.loop-item.invariant.0 o.refused.1 in
     write_refused _ _ _ _ _ c.from_residual.ensures (unwritten_map (items_write T.writing) (each_write T.writing) _ _ (λ x. x) refl (λ b w. w) u) s
 
 pub returns : goal.returns
@@ -23,7 +23,7 @@ returns g c =
     let over : length c.args.items.now ≤ c.loop-item.item-index = search rules in
     let all = take_all c.loop-item.item-index c.args.items.now over in
     let written = rw all at c.loop-item.invariant in
-    record { ok = wrote_map (items_write T.writing) (each_write T.writing) _ _ (λ x. x) refl (λ b w. w) written.0; value = written.1; refused = tt; place = tt }
+    record { ok = wrote_map (items_write T.writing) (each_write T.writing) _ _ (λ x. x) refl (λ b w. w) written.0; value = written.1; refused = tt }
 
 pub loop-item-init : goal.loop-item-init
 loop-item-init g c = (items_wrote_none g.met.W.Writer.writer_laws g.T.SchemaWrite.write_laws _, tt)

@@ -60,9 +60,11 @@ returns-in-None-clause-outcome g c =
     record {
       ok = tt;
       value = tt;
-      refused = whole_unwritten s k z T.writing vs (unfit_unwritten list vs W laws _ _ (rw c.write_length_encoding_overflow.ensures tt) over);
-      place = span_halted s k z T.writing vs has _ (bytes_are s z _ _ _ _ many c.in_ok-length.ensures.ok.1 none) W known refl
-          (refl, rw c.write_length_encoding_overflow.ensures refl);
+      refused = (
+        whole_unwritten s k z T.writing vs (unfit_unwritten list vs W laws _ _ (rw c.write_length_encoding_overflow.ensures tt) over),
+        span_halted s k z T.writing vs has _ (bytes_are s z _ _ _ _ many c.in_ok-length.ensures.ok.1 none) W known refl
+            (refl, rw c.write_length_encoding_overflow.ensures refl),
+      );
     }
 
 pub returns-in_err-make_room-clause-outcome : goal.returns-in_err-make_room-clause-outcome
@@ -111,8 +113,8 @@ returns-in_err-write_parts-clause-outcome g c =
     let a = c.new-window.result in
     let b = c.write_parts-2.new.writer in
     let u = whole_unwritten s k z T.writing vs (window_unwritten list vs c.in-Some.total sized _ _ (g.W.Writer.state a.writer.now)
-    (g.W.Writer.state b.writer.now) a.writer.ghost_name b.writer.ghost_name a.left b.left _ made same window.left o.refused) in
+    (g.W.Writer.state b.writer.now) a.writer.ghost_name b.writer.ghost_name a.left b.left _ made same window.left o.refused.0) in
     let p = window_stopped list vs c.in-Some.total sized _ _ (g.W.Writer.state a.writer.now) (g.W.Writer.state b.writer.now)
-    a.writer.ghost_name b.writer.ghost_name a.left b.left _ made same window.left o.refused {k = list_write_of s k z T.writing} o.place
+    a.writer.ghost_name b.writer.ghost_name a.left b.left _ made same window.left o.refused.0 {k = list_write_of s k z T.writing} o.refused.1
     (λ cannot inside added r. span_is s k z T.writing vs has _ bytes _ added _ known (inr ((λ q. cannot (has, q)), (inside, r)))) in
-    record { ok = search rules; value = search rules; refused = search (rules, u); place = search (rules, p) }
+    record { ok = search rules; value = search rules; refused = search (rules, u, p) }

@@ -9,7 +9,7 @@ returns-in_err-write-clause-outcome g c =
     let l = g.T.SchemaWrite.write_laws in
     let xs = g.C.ToItems.listed c.args.src.now in
     let o = rw c.count.ensures.count at c.in_err-write.ensures in
-    write_refused _ _ _ _ _ c.from_residual.ensures (length_unwritten laws s g.row.COUNT l xs o.refused) (length_halted laws s g.row.COUNT l xs o.place)
+    write_refused _ _ _ _ _ c.from_residual.ensures (length_unwritten laws s g.row.COUNT l xs o.refused.0) (length_halted laws s g.row.COUNT l xs o.refused.1)
 
 pub returns-clause-outcome : goal.returns-clause-outcome
 returns-clause-outcome g c =

@@ -45,4 +45,4 @@ returns g c =
     let laws = pair_write_laws g.K.SchemaWrite.write_laws g.V.SchemaWrite.write_laws in
     let none : length c.loop-key.key-iterator ≡ 0 = search rules in
     let all = walk_all writer laws (pending_written writer laws c.loop-key.invariant.0 c.in_ok-write.ensures.ok) none in
-    record { ok = all.0; value = all.1; refused = tt; place = tt }
+    record { ok = all.0; value = all.1; refused = tt }

@@ -19,7 +19,7 @@ returns-in_err-write_short g c =
 pub returns : goal.returns
 returns g c =
     let small : c.args.len < 2 ^ 16 = search rules in
-    record { ok = length_wrote c.args.len small (rw c.in_ok-value.ensures.ok at c.in_ok-write_short.ensures.ok); value = tt; refused = tt; place = tt }
+    record { ok = length_wrote c.args.len small (rw c.in_ok-value.ensures.ok at c.in_ok-write_short.ensures.ok); value = tt; refused = tt }
 
 pub returns-in_err-value : goal.returns-in_err-value
 returns-in_err-value g c =

@@ -6,7 +6,7 @@ use Rattle.wincode_read.proofs.schema.boxes.BoxSchemaRead.read.Goals as goal
 pub returns-in_err-content : goal.returns-in_err-content
 returns-in_err-content g c =
     let o = c.in_err-content.ensures in
-    read_refused _ _ _ _ _ _ c.from_residual.ensures refl (refuses_unspared o.refused, inl (o.refused, o.place))
+    read_refused _ _ _ _ _ _ c.from_residual.ensures refl (refuses_unspared o.refused.0, inl o.refused)
 
 pub returns-in-Ok : goal.returns-in-Ok
-returns-in-Ok g c = record { ok = rw c.in-Ok.ensures.ok c.in_ok-content.ensures.ok; refused = tt; place = tt; same = tt }
+returns-in-Ok g c = record { ok = rw c.in-Ok.ensures.ok c.in_ok-content.ensures.ok; refused = tt; same = tt }

@@ -17,6 +17,5 @@ returns g c =
       ok = rw (to_z-of_z w64 c.from_le_bytes.result fits)
           (signed_puts w64 refl (lit< tt) false _ _ _ _ c.in_ok-bytes.ensures.ok small c.from_le_bytes.ensures);
       refused = tt;
-      place = tt;
       same = tt;
     }

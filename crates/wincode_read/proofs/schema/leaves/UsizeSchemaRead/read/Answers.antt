@@ -9,4 +9,4 @@ returns-in_err-bytes g c = let d = c.in_err-bytes.ensures.err in read_refused _ 
 pub returns : goal.returns
 returns g c =
     let small : AreSmall c.in_ok-bytes.bytes = search rules in
-    record { ok = number_puts w64 (lit< tt) false _ _ _ _ c.in_ok-bytes.ensures.ok small c.from_le_bytes.ensures; refused = tt; place = tt; same = tt }
+    record { ok = number_puts w64 (lit< tt) false _ _ _ _ c.in_ok-bytes.ensures.ok small c.from_le_bytes.ensures; refused = tt; same = tt }

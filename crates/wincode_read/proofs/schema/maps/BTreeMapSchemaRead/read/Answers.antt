@@ -17,7 +17,6 @@ returns g c =
       ok = gathered_gives (sees K.model V.model) (Made (IsMapOf g.K.Dst.Ord.cmp) (map (sees K.model V.model))) (bincode preallocation_limit)
           (pair_size K.reading.meta V.reading.meta) (pair_read K.reading V.reading) _ _ h.0 _ h.1 (c.in_ok-get_list_of.field-0.entries, h.2, refl);
       refused = tt;
-      place = tt;
       same = tt;
     }
 
@@ -27,4 +26,4 @@ returns-in_err-get_list_of g c =
     let V = g.V.SchemaRead in
     let o = rw (c.of_pair-size.ensures, c.type_meta.ensures, c.type_meta-2.ensures) at c.in_err-get_list_of.ensures in
     read_refused _ _ _ _ _ _ c.from_residual.ensures refl (gathered_refused (sees K.model V.model) (Made (IsMapOf g.K.Dst.Ord.cmp) (map (sees K.model V.model)))
-    (bincode preallocation_limit) (pair_size K.reading.meta V.reading.meta) (pair_read K.reading V.reading) 1 _ _ _ (o.refused, o.place))
+    (bincode preallocation_limit) (pair_size K.reading.meta V.reading.meta) (pair_read K.reading V.reading) 1 _ _ _ o.refused)

@@ -12,4 +12,4 @@ returns-in_err-get_list g c =
     let K = g.K.SchemaRead in
     let o = c.in_err-get_list.ensures in
     read_refused _ _ _ _ _ _ c.from_residual.ensures refl (gathered_refused K.model (Made (IsSetOf g.K.Dst.Ord.cmp) (map K.model))
-    (bincode preallocation_limit) (item_size K.reading.meta) K.reading 1 _ _ _ (o.refused, o.place))
+    (bincode preallocation_limit) (item_size K.reading.meta) K.reading 1 _ _ _ o.refused)

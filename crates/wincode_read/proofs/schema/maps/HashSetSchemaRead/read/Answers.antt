@@ -13,4 +13,4 @@ returns-in_err-get_list g c =
     let o = c.in_err-get_list.ensures in
     read_refused _ _ _ _ _ _ c.from_residual.ensures refl (gathered_refused K.model
     (Made (IsHashSetOf g.K.Dst.PartialEq.eq) (hash_set_sees g.K.Dst.PartialEq.eq K.model)) (bincode preallocation_limit) (item_size K.reading.meta)
-    K.reading 1 _ _ _ (o.refused, o.place))
+    K.reading 1 _ _ _ o.refused)

@@ -7,11 +7,11 @@ use Rattle.wincode_read.proofs.schema.strings.c_strings.get_c_string.Goals as go
 pub returns-in_err-bytes : goal.returns-in_err-bytes
 returns-in_err-bytes g c =
     let o = c.in_err-bytes.ensures in
-    get_refused c_string_read _ _ _ c.from_residual.ensures (bytes_refused _ (o.refused, o.place))
+    get_refused c_string_read _ _ _ c.from_residual.ensures (bytes_refused _ o.refused)
 
 pub returns-in-Ok-Err : goal.returns-in-Ok-Err
 returns-in-Ok-Err g c =
     let xs = c.in_ok-bytes.bytes.items in
     let e = rw c.in-Ok-Err.field-0-is at c.in-Ok-Err.ensures.err in
     let u = bytes_nul xs c.in_ok-bytes.ensures.ok _ (refl, no_text xs _ e.1 e.2) in
-    record { ok = tt; refused = u.0; place = u.1 }
+    record { ok = tt; refused = u }

@@ -18,4 +18,4 @@ pub returns : goal.returns
 returns g c =
     let small : c.args.src.now < 256 = search rules in
     let is = c.to_le_bytes.ensures ∙ byte_encoding c.args.src.now small in
-    record { ok = number_wrote w8 true c.args.src.now is c.in_ok-write.ensures.ok; value = small; refused = tt; place = tt }
+    record { ok = number_wrote w8 true c.args.src.now is c.in_ok-write.ensures.ok; value = small; refused = tt }

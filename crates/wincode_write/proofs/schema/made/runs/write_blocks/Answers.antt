@@ -32,4 +32,4 @@ pub returns : goal.returns
 returns g c =
     let none : length c.loop-rest.rest.now ≡ 0 = search rules in
     let all = walk_all g.met.W.Writer.writer_laws (made_write_laws g.T.ToParts.sound g.T.ToParts.parts g.A.SchemaWrite.write_laws) c.loop-rest.invariant none in
-    record { ok = all.0; value = all.1; refused = tt; place = tt }
+    record { ok = all.0; value = all.1; refused = tt }

@@ -28,9 +28,9 @@ returns-in_err-write_items g c =
     let cut : c.loop-rest.rest.now ≡ run ++ more = search rules in
     let o = c.in_err-write_items.ensures in
     let u = walk_run_refused g.met.W.Writer.writer_laws laws run more c.loop-rest.invariant.0 cut
-    (parts_refused A.writing A.model T.parts _ run c.put_parts.ensures.parts o.refused) in
+    (parts_refused A.writing A.model T.parts _ run c.put_parts.ensures.parts o.refused.0) in
     let p = walk_run_halted g.met.W.Writer.writer_laws laws run more c.loop-rest.invariant.0 cut
-    (parts_halted A.writing A.model T.parts _ run c.put_parts.ensures.parts o.place) in
+    (parts_halted A.writing A.model T.parts _ run c.put_parts.ensures.parts o.refused.1) in
     write_refused _ _ _ _ _ c.from_residual.ensures u p
 
 pub loop-rest-preserved : goal.loop-rest-preserved
@@ -52,4 +52,4 @@ pub returns : goal.returns
 returns g c =
     let none : length c.loop-rest.rest.now ≡ 0 = search rules in
     let all = walk_all g.met.W.Writer.writer_laws (made_write_laws g.T.ToParts.sound g.T.ToParts.parts g.A.SchemaWrite.write_laws) c.loop-rest.invariant.0 none in
-    record { ok = all.0; value = all.1; refused = tt; place = tt }
+    record { ok = all.0; value = all.1; refused = tt }

@@ -18,9 +18,7 @@ returns-in_default g c =
     rw c.into.ensures (record {
       ok = tt;
       value = tt;
-      refused = unfit_unwritten form c.args.src.now writer laws _ _ tt (λ can. over);
-      place =
-          nothing_stopped writer _ _ _ refl (inr (over, refl, refl));
+      refused = (unfit_unwritten form c.args.src.now writer laws _ _ tt (λ can. over), nothing_stopped writer _ _ _ refl (inr (over, refl, refl)));
     })
 
 pub returns-in_err-make_room : goal.returns-in_err-make_room

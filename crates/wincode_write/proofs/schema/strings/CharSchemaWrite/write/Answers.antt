@@ -23,5 +23,4 @@ returns g c =
       value =
           search rules;
       refused = tt;
-      place = tt;
     }

@@ -25,9 +25,9 @@ returns-in_err-write_pair g c =
     let laws = pair_write_laws g.K.SchemaWrite.write_laws g.V.SchemaWrite.write_laws in
     let o = c.in_err-write_pair.ensures in
     let u = walk_item_refused g.met.W.Writer.writer_laws laws {e = (c.in-Some-2.key.now, c.in-Some-2.value.now)} c.loop-key.invariant c.in-Some-2.ensures.steps
-    o.refused in
+    o.refused.0 in
     let p = walk_item_halted g.met.W.Writer.writer_laws laws {e = (c.in-Some-2.key.now, c.in-Some-2.value.now)} c.loop-key.invariant c.in-Some-2.ensures.steps
-    o.place in
+    o.refused.1 in
     write_refused _ _ _ _ _ c.from_residual.ensures u p
 
 pub returns : goal.returns

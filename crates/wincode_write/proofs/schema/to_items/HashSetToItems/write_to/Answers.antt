@@ -10,6 +10,6 @@ loop-key-preserved g c =
 pub returns-in_err-write_item : goal.returns-in_err-write_item
 returns-in_err-write_item g c =
     let o = c.in_err-write_item.ensures in
-    let u = walk_item_refused g.met.W.Writer.writer_laws g.K.SchemaWrite.write_laws c.loop-key.invariant c.in-Some.ensures.steps o.refused in
-    let p = walk_item_halted g.met.W.Writer.writer_laws g.K.SchemaWrite.write_laws c.loop-key.invariant c.in-Some.ensures.steps o.place in
+    let u = walk_item_refused g.met.W.Writer.writer_laws g.K.SchemaWrite.write_laws c.loop-key.invariant c.in-Some.ensures.steps o.refused.0 in
+    let p = walk_item_halted g.met.W.Writer.writer_laws g.K.SchemaWrite.write_laws c.loop-key.invariant c.in-Some.ensures.steps o.refused.1 in
     write_refused _ _ _ _ _ c.from_residual.ensures u p

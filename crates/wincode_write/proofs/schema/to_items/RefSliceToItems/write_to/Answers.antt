@@ -19,8 +19,8 @@ returns-in_err-write_items g c =
     let more = c.split_at.result.1.now in
     let cut : c.loop-rest.rest.now ≡ run ++ more = search rules in
     let o = c.in_err-write_items.ensures in
-    let u = walk_run_refused laws T.write_laws run more c.loop-rest.invariant.0 cut o.refused in
-    let p = walk_run_halted laws T.write_laws run more c.loop-rest.invariant.0 cut o.place in
+    let u = walk_run_refused laws T.write_laws run more c.loop-rest.invariant.0 cut o.refused.0 in
+    let p = walk_run_halted laws T.write_laws run more c.loop-rest.invariant.0 cut o.refused.1 in
     write_refused _ _ _ _ _ c.from_residual.ensures u p
 
 pub loop-rest-preserved-then-count-eq0 : goal.loop-rest-preserved-then-count-eq0
@@ -52,4 +52,4 @@ returns g c =
     let T = g.T.SchemaWrite in
     let none : length c.loop-rest.rest.now ≡ 0 = search rules in
     let all = walk_all g.met.W.Writer.writer_laws T.write_laws c.loop-rest.invariant.0 none in
-    record { ok = all.0; value = all.1; refused = tt; place = tt }
+    record { ok = all.0; value = all.1; refused = tt }

@@ -7,8 +7,8 @@ returns-in_err-write_to g c =
     let laws = g.met.W.Writer.writer_laws in
     let l = g.T.SchemaWrite.write_laws in
     let o = c.in_err-write_to.ensures in
-    write_refused _ _ _ _ _ c.from_residual.ensures (runs_refused_first laws l _ _ _ c.as_slices.ensures.items o.refused)
-    (runs_halted_first laws l _ _ _ c.as_slices.ensures.items o.place)
+    write_refused _ _ _ _ _ c.from_residual.ensures (runs_refused_first laws l _ _ _ c.as_slices.ensures.items o.refused.0)
+    (runs_halted_first laws l _ _ _ c.as_slices.ensures.items o.refused.1)
 
 pub returns : goal.returns
 returns g c =

@@ -6,8 +6,8 @@ pub returns-in_err-write : goal.returns-in_err-write
 returns-in_err-write g c = let l = g.A.SchemaWrite.write_laws in let m = g.B.SchemaWrite.write_laws in let laws = g.met.W.Writer.writer_laws in
     let w = g.B.SchemaWrite.model c.args.src.now.1 in
     let o = c.in_err-write.ensures in
-    write_refused _ _ _ _ _ c.from_residual.ensures (pair_unwritten_first l m w o.refused)
-    (pair_stopped_first g.A.SchemaWrite.writing g.B.SchemaWrite.writing w o.place)
+    write_refused _ _ _ _ _ c.from_residual.ensures (pair_unwritten_first l m w o.refused.0)
+    (pair_stopped_first g.A.SchemaWrite.writing g.B.SchemaWrite.writing w o.refused.1)
 
 pub returns : goal.returns
 returns g c = let l = g.A.SchemaWrite.write_laws in let m = g.B.SchemaWrite.write_laws in let laws = g.met.W.Writer.writer_laws in

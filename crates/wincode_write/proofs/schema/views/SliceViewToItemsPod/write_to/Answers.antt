@@ -28,7 +28,6 @@ returns-then-len-eq0 g c =
           c.args.self.now.n b.result.now c.see_bytes.ensures b.ensures.size g.met.W.Writer.writer_laws none refl;
       value = each_value law true (form_prealloc g.T.ZeroCopy.size) c.args.self.now.n b.result.now c.see_bytes.ensures b.ensures.size;
       refused = tt;
-      place = tt;
     })
 
 pub returns : goal.returns
@@ -39,5 +38,4 @@ returns g c =
       ok = forms_wrote law true (form_prealloc g.T.ZeroCopy.size) c.args.self.now.n b.result.now c.see_bytes.ensures b.ensures.size c.in_ok-write.ensures.ok;
       value = each_value law true (form_prealloc g.T.ZeroCopy.size) c.args.self.now.n b.result.now c.see_bytes.ensures b.ensures.size;
       refused = tt;
-      place = tt;
     })

@@ -18,6 +18,5 @@ returns g c =
       ok = rw (to_z-of_z w16 c.from_le_bytes.result fits)
           (signed_puts w16 refl (lit< tt) true _ _ _ _ c.in_ok-bytes.ensures.ok small c.from_le_bytes.ensures);
       refused = tt;
-      place = tt;
       same = tt;
     }

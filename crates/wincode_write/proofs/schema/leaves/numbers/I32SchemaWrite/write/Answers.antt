@@ -21,4 +21,4 @@ pub returns : goal.returns
 returns g c =
     let fits : FitsSigned w32 c.args.src.now = search rules in
     let is : c.to_le_bytes.result ≡ to_le_bytes w32 (cast_unsigned w32 c.args.src.now) = simp to_z-of_z at c.to_le_bytes.ensures in
-    record { ok = signed_wrote w32 true c.args.src.now is c.in_ok-write.ensures.ok; value = fits; refused = tt; place = tt }
+    record { ok = signed_wrote w32 true c.args.src.now is c.in_ok-write.ensures.ok; value = fits; refused = tt }

@@ -24,4 +24,4 @@ returns g c =
     let fits : FitsSigned w8 c.args.src.now = search rules in
     let is : c.to_le_bytes.result ≡ to_le_bytes w8 (cast_unsigned w8 c.args.src.now) = (simp to_z-of_z at c.to_le_bytes.ensures) ∙ byte_encoding
     (cast_unsigned w8 c.args.src.now) (unsigned_below w8 refl c.args.src.now fits) in
-    record { ok = signed_wrote w8 true c.args.src.now is c.in_ok-write.ensures.ok; value = fits; refused = tt; place = tt }
+    record { ok = signed_wrote w8 true c.args.src.now is c.in_ok-write.ensures.ok; value = fits; refused = tt }

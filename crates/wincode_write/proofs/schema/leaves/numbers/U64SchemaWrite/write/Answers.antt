@@ -17,4 +17,4 @@ returns-in_err-write g c =
 pub returns : goal.returns
 returns g c =
     let is = c.to_le_bytes.ensures in
-    record { ok = number_wrote w64 true c.args.src.now is c.in_ok-write.ensures.ok; value = omega arith; refused = tt; place = tt }
+    record { ok = number_wrote w64 true c.args.src.now is c.in_ok-write.ensures.ok; value = omega arith; refused = tt }
