@@ -1,6 +1,5 @@
 //! What any schema that reads what it writes answers.
 use crate::asking::Asked;
-use crate::listing::{all_at_once, many_items};
 use std::alloc::Global;
 use std::test::Fail;
 use testkit_schemas::asked::AskedReader;
@@ -98,7 +97,5 @@ where
         Asked::Room(size) => within::<T>(alloc, bytes, size),
         Asked::Size => size_of::<T>(alloc, bytes),
         Asked::Meta => announced::<T>(alloc),
-        Asked::Items(n) => many_items::<T>(alloc, bytes, n),
-        Asked::AtOnce(_) => all_at_once::<T>(alloc, bytes),
     }
 }

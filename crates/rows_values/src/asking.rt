@@ -8,14 +8,14 @@ pub enum Asked {
     Room(usize),
     Size,
     Meta,
-    Items(usize),
-    AtOnce(usize),
 }
 
 /// What is asked.
 #[derive(Clone, Copy)]
 pub enum Call {
     Schema(Asked),
+    Items(usize),
+    AtOnce(usize),
     Calls,
     Shown,
     Tag(Option<usize>),
@@ -45,8 +45,8 @@ impl Call {
     fn of_number(text: &str, number: usize) -> Option<Call> {
         match text {
             "room" => Some(Call::Schema(Asked::Room(number))),
-            "items" => Some(Call::Schema(Asked::Items(number))),
-            "at once" => Some(Call::Schema(Asked::AtOnce(number))),
+            "items" => Some(Call::Items(number)),
+            "at once" => Some(Call::AtOnce(number)),
             "tag room" => Some(Call::Tag(Some(number))),
             "length of" => Some(Call::LengthOf(number)),
             _ => None,

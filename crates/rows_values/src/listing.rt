@@ -1,4 +1,5 @@
-//! Lists by any schema: items that are added to one, and a list that is read and written at once and item by item.
+//! Lists: items that are added to one, and a list that is read and written at once and item by item. Only the schemas of
+//! the rows are asked, since each takes the compiler as long as many of the others.
 use crate::answering::value_of;
 use std::alloc::Global;
 use std::test::Fail;
@@ -15,7 +16,7 @@ fn text_of_items<T: SchemaWrite>(alloc: Global, list: &[T::Src]) -> Result<Strin
 }
 
 /// A list of the first value of the bytes, to which so many are added, and what then is left.
-pub fn many_items<'a, T: RoundTrip<Lifetime<'a>>>(
+fn many_items<'a, T: RoundTrip<Lifetime<'a>>>(
     alloc: Global,
     bytes: &'a [u8],
     n: usize,
@@ -69,7 +70,7 @@ where
 
 /// Whether a list is read at once and item by item, and what was read the one way is written the other way as
 /// the text that it was read from.
-pub fn all_at_once<'a, T: RoundTrip<Lifetime<'a>>>(
+fn all_at_once<'a, T: RoundTrip<Lifetime<'a>>>(
     alloc: Global,
     text: &'a [u8],
 ) -> Result<String, Fail>
@@ -82,5 +83,35 @@ where
         Ok(format!(in alloc; "ok {}", text.len())?)
     } else {
         Ok(format!(in alloc; "unlike")?)
+    }
+}
+
+/// What `many_items` answers of the schema of the name.
+pub fn items(alloc: Global, name: &str, bytes: &[u8], n: usize) -> Result<String, Fail> {
+    match name {
+        "u8" => many_items::<u8>(alloc, bytes, n),
+        "u16" => many_items::<u16>(alloc, bytes, n),
+        "u64" => many_items::<u64>(alloc, bytes, n),
+        "bool" => many_items::<bool>(alloc, bytes, n),
+        _ => Err(Fail::from("a type")),
+    }
+}
+
+/// What `all_at_once` answers of the schema of the name.
+pub fn at_once(alloc: Global, name: &str, text: &[u8]) -> Result<String, Fail> {
+    match name {
+        "u8" => all_at_once::<u8>(alloc, text),
+        "u16" => all_at_once::<u16>(alloc, text),
+        "u32" => all_at_once::<u32>(alloc, text),
+        "u64" => all_at_once::<u64>(alloc, text),
+        "u128" => all_at_once::<u128>(alloc, text),
+        "usize" => all_at_once::<usize>(alloc, text),
+        "i8" => all_at_once::<i8>(alloc, text),
+        "i16" => all_at_once::<i16>(alloc, text),
+        "i32" => all_at_once::<i32>(alloc, text),
+        "i64" => all_at_once::<i64>(alloc, text),
+        "i128" => all_at_once::<i128>(alloc, text),
+        "isize" => all_at_once::<isize>(alloc, text),
+        _ => Err(Fail::from("a type")),
     }
 }

@@ -32,7 +32,7 @@ mod schemas;
 mod showing;
 mod tagging;
 
-use asking::{Asked, Call, Row};
+use asking::{Call, Row};
 use listing::spread_list;
 use std::alloc::Global;
 use std::io::{BufRead, BufReader};
@@ -43,12 +43,14 @@ use testkit_schemas::rows::bytes_of;
 fn answer(alloc: Global, row: &Row<'_>) -> Result<String, Fail> {
     let digits = bytes_of(alloc, row.digits)?;
     let bytes = match row.call {
-        Call::Schema(Asked::AtOnce(n)) => spread_list(alloc, n, digits.as_slice())?,
+        Call::AtOnce(n) => spread_list(alloc, n, digits.as_slice())?,
         _ => digits,
     };
     let input = bytes.as_slice();
     match row.call {
         Call::Schema(asked) => schemas::answer(alloc, asked, row.name, input),
+        Call::Items(n) => listing::items(alloc, row.name, input, n),
+        Call::AtOnce(_) => listing::at_once(alloc, row.name, input),
         Call::Calls => schemas::calls::answer(alloc, row.name, input),
         Call::Shown => showing::shown(alloc, row.name, input),
         Call::Tag(room) => tagging::tag(alloc, row.name, input, room),

@@ -51,8 +51,8 @@ fn lists_keep_all<'a, U: Drop, T: SchemaWrite<Src = U> + SchemaRead<Lifetime<'a>
     Ok(all == [true; 7])
 }
 
-/// How many numbers a collection of each kind has.
-const MANY: [usize; 2] = [2_000, 100_000];
+/// How many numbers a collection of each kind has: the second is past what two bytes count.
+const MANY: [usize; 2] = [2_000, 66_000];
 
 #[test]
 fn lists_of_many_numbers(rt: HostRuntime) -> Result<(), Fail> {

@@ -119,9 +119,10 @@ fn values_with_few_bytes_behind(rt: HostRuntime) -> Result<(), Fail> {
     values_in_inputs_of(&rt, 32, 5_000)
 }
 
+/// About as many as a buffer of 8192 bytes holds.
 #[test]
 fn values_with_many_bytes_behind(rt: HostRuntime) -> Result<(), Fail> {
-    values_in_inputs_of(&rt, 5_000, 10_001)
+    values_in_inputs_of(&rt, 8_000, 8_401)
 }
 
 /// Whether it ended as `Input`, by this failure.
@@ -228,10 +229,10 @@ fn relay_errors_print(rt: HostRuntime) -> Result<(), Fail> {
 }
 
 #[test]
-fn a_list_of_some_mebibytes(rt: HostRuntime) -> Result<(), Fail> {
+fn a_list_of_more_than_a_mebibyte(rt: HostRuntime) -> Result<(), Fail> {
     let alloc = rt.alloc();
     let mut input = Vec::from_slice(alloc, 1u64.to_le_bytes().as_slice())?;
-    for number in [400_000u64].into_iter().chain(0..400_000) {
+    for number in [140_000u64].into_iter().chain(0..140_000) {
         input.extend_from_slice(number.to_le_bytes().as_slice())?;
     }
     let mut output = Vec::new(alloc);
@@ -241,11 +242,11 @@ fn a_list_of_some_mebibytes(rt: HostRuntime) -> Result<(), Fail> {
 }
 
 #[test]
-fn twenty_mebibytes_behind_a_value(rt: HostRuntime) -> Result<(), Fail> {
+fn five_mebibytes_behind_a_value(rt: HostRuntime) -> Result<(), Fail> {
     let alloc = rt.alloc();
     let mut input = Vec::from_slice(alloc, NESTED.as_slice())?;
     let behind = vec![in alloc; 255u8; 1_048_576]?;
-    for _ in 0..20 {
+    for _ in 0..5 {
         input.extend_from_slice(behind.as_slice())?;
     }
     assert!(rt; is_due(&relayed(alloc, input.as_slice()), Some(NESTED.as_slice())));
