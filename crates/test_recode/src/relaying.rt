@@ -119,10 +119,9 @@ fn values_with_few_bytes_behind(rt: HostRuntime) -> Result<(), Fail> {
     values_in_inputs_of(&rt, 32, 5_000)
 }
 
-/// About as many as a buffer of 8192 bytes holds.
 #[test]
 fn values_with_many_bytes_behind(rt: HostRuntime) -> Result<(), Fail> {
-    values_in_inputs_of(&rt, 8_000, 8_401)
+    values_in_inputs_of(&rt, 5_000, 10_001)
 }
 
 /// Whether it ended as `Input`, by this failure.

@@ -9,11 +9,7 @@ use wincode_describe::{
     print_source_lines,
 };
 
-/// The sizes of pieces: of a byte, so that one ends at each place, of a few, and of all bytes.
 const SIZES: [usize; 5] = [1, 2, 3, 7, 8192];
-
-/// Those of bytes that are changed, of which each front is put together above.
-const ENDS: [usize; 2] = [1, 8192];
 
 /// A type, and a value of it, behind which a byte stands.
 type Row = (&'static str, &'static [u8]);
@@ -92,16 +88,11 @@ fn is_printed(
     Ok(is_said && output.as_slice() == lines.as_bytes())
 }
 
-/// The first of these sizes of pieces in which the bytes are explained or checked otherwise than in a slice, if there is one.
-fn first_unlike(
-    alloc: Global,
-    described: &Described,
-    bytes: &[u8],
-    sizes: &[usize],
-) -> Result<Option<usize>, Fail> {
+/// The first size of pieces in which these bytes are explained or checked otherwise than in a slice, if there is one.
+fn first_unlike(alloc: Global, described: &Described, bytes: &[u8]) -> Result<Option<usize>, Fail> {
     let (_, lines) = explained_lines(alloc, described, bytes)?;
     let (is_ok, line) = checked_line(alloc, described, bytes)?;
-    for &size in sizes {
+    for size in SIZES {
         let pieces = (described, bytes, size);
         let alike = [
             is_explained(alloc, pieces, (is_ok, lines.as_str()))?,
@@ -119,7 +110,7 @@ fn first_unlike(
 fn unlike_front(alloc: Global, (text, bytes): Row) -> Result<Option<(usize, usize)>, Fail> {
     let described = Described::parse(alloc, text)?;
     for n in 0..=bytes.len() {
-        if let Some(size) = first_unlike(alloc, &described, &bytes[..n], &SIZES)? {
+        if let Some(size) = first_unlike(alloc, &described, &bytes[..n])? {
             return Ok(Some((n, size)));
         }
     }
@@ -141,7 +132,7 @@ fn unlike_change(alloc: Global, (text, bytes): Row) -> Result<Option<(usize, usi
     for place in 0..bytes.len() {
         for change in [1u8, 127, 255] {
             let row = changed(alloc, bytes, place, change)?;
-            if let Some(size) = first_unlike(alloc, &described, row.as_slice(), &ENDS)? {
+            if let Some(size) = first_unlike(alloc, &described, row.as_slice())? {
                 return Ok(Some((place, size)));
             }
         }
